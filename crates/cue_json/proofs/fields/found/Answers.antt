@@ -1,0 +1,8 @@
+-- The map's look-up finds what the object's members have at the key.
+use Rattle.std.proofs.Common.{option_map, ap, ◌∙◌}
+use Rattle.serde_json.specs.View.{view}
+use Rattle.serde_json.proofs.Views.{view_of_ref, view-lookup}
+use Rattle.cue_json.proofs.fields.found.Goals as goal
+
+pub returns : goal.returns
+returns c = view_of_ref c.get.result ∙ ap (option_map view) c.get.ensures.value ∙ view-lookup c.args.field.now c.args.object.now.entries

@@ -1,0 +1,118 @@
+//! One field of an object: a text, a number, a flag, a list or an object.
+
+ghost use Rattle.std.specs.Prelude.{◌≡◌, option_map};
+ghost use Rattle.serde_json.specs.Find.{get_member};
+ghost use Rattle.serde_json.specs.View.{view, items_view, members_view};
+ghost use Rattle.cue_json.specs.Fields.{Gives, text_at, whole_at, signed_at, flag_at, list_at, object_at, has_key};
+
+use crate::fault::FieldFault;
+use serde_json::Value;
+use std::alloc::Global;
+
+/// An object: its members in byte order of their keys.
+pub type Map = serde_json::Map<String, Value>;
+
+/// The value at the key.
+fn found<'a>(object: &'a Map, field: &str) -> Option<&'a Value>
+    ensures { option_map (λ v. view v.now) result ≡ get_member field.now (members_view object.now.entries) }
+{
+    object.get(field)
+}
+
+/// Whether the key is there, for a field that may be left out. A `null` counts as there.
+pub fn has(object: &Map, field: &str) -> bool
+    ensures { result ≡ has_key field.now (members_view object.now.entries) }
+{
+    found(object, field).is_some()
+}
+
+/// The field's text: `Missing` where the key is absent, `WrongKind` where the value is no text.
+pub fn text<'a>(alloc: Global, object: &'a Map, field: &str) -> Result<&'a str, FieldFault>
+    ensures { Gives (λ t. t.now) result (text_at field.now (members_view object.now.entries)) }
+{
+    let Some(value) = found(object, field) else {
+        return Err(FieldFault::missing(alloc, field));
+    };
+    match value.as_str() {
+        Some(text) => Ok(text),
+        None => Err(FieldFault::wrong_kind(alloc, field)),
+    }
+}
+
+/// The field's whole number: `WrongKind` where the value is no whole number of 64 bits, or lies below
+/// `least` or above `most`.
+pub fn whole(
+    alloc: Global,
+    object: &Map,
+    field: &str,
+    least: u64,
+    most: u64,
+) -> Result<u64, FieldFault>
+    ensures { Gives (λ n. n) result (whole_at field.now least most (members_view object.now.entries)) }
+{
+    let Some(value) = found(object, field) else {
+        return Err(FieldFault::missing(alloc, field));
+    };
+    match value.as_u64() {
+        Some(number) if least <= number && number <= most => Ok(number),
+        _ => Err(FieldFault::wrong_kind(alloc, field)),
+    }
+}
+
+/// The same with a sign.
+pub fn signed(
+    alloc: Global,
+    object: &Map,
+    field: &str,
+    least: i64,
+    most: i64,
+) -> Result<i64, FieldFault>
+    ensures { Gives (λ z. z) result (signed_at field.now least most (members_view object.now.entries)) }
+{
+    let Some(value) = found(object, field) else {
+        return Err(FieldFault::missing(alloc, field));
+    };
+    match value.as_i64() {
+        Some(number) if least <= number && number <= most => Ok(number),
+        _ => Err(FieldFault::wrong_kind(alloc, field)),
+    }
+}
+
+/// The field's `true` or `false`.
+pub fn flag(alloc: Global, object: &Map, field: &str) -> Result<bool, FieldFault>
+    ensures { Gives (λ b. b) result (flag_at field.now (members_view object.now.entries)) }
+{
+    let Some(value) = found(object, field) else {
+        return Err(FieldFault::missing(alloc, field));
+    };
+    match value.as_bool() {
+        Some(flag) => Ok(flag),
+        None => Err(FieldFault::wrong_kind(alloc, field)),
+    }
+}
+
+/// The items of the field's list, in order.
+pub fn list<'a>(alloc: Global, object: &'a Map, field: &str) -> Result<&'a [Value], FieldFault>
+    ensures { Gives (λ xs. items_view xs.now) result (list_at field.now (members_view object.now.entries)) }
+{
+    let Some(value) = found(object, field) else {
+        return Err(FieldFault::missing(alloc, field));
+    };
+    match value.as_array() {
+        Some(items) => Ok(items.as_slice()),
+        None => Err(FieldFault::wrong_kind(alloc, field)),
+    }
+}
+
+/// The object that the field is.
+pub fn object<'a>(alloc: Global, object: &'a Map, field: &str) -> Result<&'a Map, FieldFault>
+    ensures { Gives (λ m. members_view m.now.entries) result (object_at field.now (members_view object.now.entries)) }
+{
+    let Some(value) = found(object, field) else {
+        return Err(FieldFault::missing(alloc, field));
+    };
+    match value.as_object() {
+        Some(inner) => Ok(inner),
+        None => Err(FieldFault::wrong_kind(alloc, field)),
+    }
+}

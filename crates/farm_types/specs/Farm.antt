@@ -1,0 +1,69 @@
+-- The farm: plain lists, each in the order of its numbers.
+use Rattle.std.specs.Prelude.{ℕ, ◌==◌, ◌&&◌, ◌+◌, ◌*◌, Bool, false, List, [], ◌∷◌, Option, None, Some, slice_get, slice_set, find, bytes_eq, if◌then◌else◌}
+use Rattle.farm_types.specs.declared.rows.ShowRow.{ShowRow}
+use Rattle.farm_types.specs.declared.rows.AllocRow.{AllocRow}
+use Rattle.farm_types.specs.declared.rows.SubRow.{SubRow}
+use Rattle.farm_types.specs.declared.rows.HostRow.{HostRow}
+use Rattle.farm_types.specs.declared.rows.JobRow.{JobRow}
+use Rattle.farm_types.specs.declared.rows.LayerRow.{LayerRow}
+use Rattle.farm_types.specs.declared.slot_row.SlotRow.{SlotRow}
+use Rattle.farm_types.specs.declared.depend.DependRow.{DependRow}
+use Rattle.farm_types.specs.declared.depend.MetRow.{MetRow}
+
+-- Shows, allocations and hosts are numbered by their places. Subscriptions, jobs, layers, depends and met groups carry their numbers.
+-- A slot is numbered by its place, and the list ends with the last slot that was ever used: a slot past it is free, at version 0.
+-- An entry sets `marked`, which only the empty farm lacks.
+pub record Farm : Type 0 where
+  pub shows : List ShowRow
+  pub allocs : List AllocRow
+  pub subs : List SubRow
+  pub hosts : List HostRow
+  pub jobs : List JobRow
+  pub layers : List LayerRow
+  pub slots : List SlotRow
+  pub depends : List DependRow
+  pub met : List MetRow
+  pub next_job : ℕ
+  pub next_depend : ℕ
+  pub next_finish : ℕ
+  pub moment : ℕ
+  pub marked : Bool
+
+-- the last version of a slot, at which it stays
+abbrev pub last_version : ℕ
+last_version = 16777215
+
+-- what a test says of a thing, and false where there is none
+abbrev pub for_some : {X : Type 0} → Option X → (X → Bool) → Bool
+for_some None test = false
+for_some (Some x) test = test x
+
+-- the list with the item at that place changed
+abbrev pub changed_by : {X : Type 0} → List X → ℕ → (X → X) → Option X → List X
+changed_by xs place change None = xs
+changed_by xs place change (Some x) = slice_set xs place (change x)
+
+abbrev pub changed_at : {X : Type 0} → List X → ℕ → (X → X) → List X
+changed_at xs place change = changed_by xs place change (slice_get xs place)
+
+-- the subscription, the job, and the layer at that place of a job, of that number
+abbrev pub sub_at : Farm → ℕ → Option SubRow
+sub_at f sub = find (λ s. s.sub == sub) f.subs
+
+abbrev pub job_at : Farm → ℕ → Option JobRow
+job_at f job = find (λ j. j.job == job) f.jobs
+
+abbrev pub layer_at : Farm → ℕ → ℕ → Option LayerRow
+layer_at f job place = find (λ l. l.job == job && l.place == place) f.layers
+
+-- the number of a show's subscription to an allocation
+abbrev pub sub_of : ℕ → ℕ → ℕ
+sub_of show alloc = 16 * show + alloc
+
+-- the number of the first host of that name, counted from a place
+abbrev pub host_from : ℕ → List ℕ → List HostRow → Option ℕ
+host_from place name [] = None
+host_from place name (h ∷ hs) = if bytes_eq h.name name then Some place else host_from (place + 1) name hs
+
+abbrev pub host_named : Farm → List ℕ → Option ℕ
+host_named f name = host_from 0 name f.hosts

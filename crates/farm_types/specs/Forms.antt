@@ -1,0 +1,18 @@
+-- The forms of names.
+use Rattle.std.specs.Prelude.{ℕ, ◌==◌, ◌&&◌, ◌||◌, List, length, Bool, nat_le}
+use Rattle.std.specs.List.{list_all}
+
+abbrev pub is_between : ℕ → ℕ → ℕ → Bool
+is_between least most b = nat_le least b && nat_le b most
+
+-- a letter or a digit of ASCII
+abbrev pub is_letter_or_digit : ℕ → Bool
+is_letter_or_digit b = is_between 48 57 b || is_between 65 90 b || is_between 97 122 b
+
+-- a letter, a digit, `_`, `.` or `-`
+abbrev pub is_name_byte : ℕ → Bool
+is_name_byte b = is_letter_or_digit b || b == 95 || b == 46 || b == 45
+
+-- 1 to 64 bytes of a name
+abbrev pub is_name_text : List ℕ → Bool
+is_name_text text = is_between 1 64 (length text) && list_all is_name_byte text

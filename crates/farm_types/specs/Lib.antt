@@ -1,0 +1,14 @@
+pub mod Booking
+pub mod Demo
+pub mod Depends
+pub mod Dispatch
+pub mod Farm
+pub mod Forms
+pub mod Names
+pub mod Reply
+pub mod Request
+pub mod Run
+pub mod Step
+pub mod Sums
+pub mod Transcript
+pub mod Verdict

@@ -1,0 +1,122 @@
+-- Runs of entries: when a run is legal, and what makes it safe.
+use Rattle.std.specs.Prelude.{ℕ, ◌≡◌, ◌≤◌, ◌<◌, ◌==◌, ◌&&◌, List, [], ◌∷◌, ◌++◌, length, Bool, true, false, Option, None, Some, slice_get, if◌then◌else◌}
+use Rattle.std.specs.List.{list_any}
+use Rattle.farm_types.specs.declared.attempt.DoneItem.{DoneItem}
+use Rattle.farm_types.specs.declared.attempt.Attempt.{Attempt}
+use Rattle.farm_types.specs.declared.attempt.ProcRow.{ProcRow}
+use Rattle.farm_types.specs.declared.entry.Entry.{Entry}
+use Rattle.farm_types.specs.declared.entry.Act.{Act}
+use Rattle.farm_types.specs.declared.entry.Act.TheVariants.{Heard, Book}
+use Rattle.farm_types.specs.declared.entry.HeardAct.{HeardAct}
+use Rattle.farm_types.specs.declared.rows.HostRow.{HostRow}
+use Rattle.farm_types.specs.declared.rows.SubRow.{SubRow}
+use Rattle.farm_types.specs.declared.slot_row.FrameRow.{FrameRow}
+use Rattle.farm_types.specs.declared.slot_row.SlotRow.{SlotRow}
+use Rattle.farm_types.specs.declared.states.FrameState.{FrameState}
+use Rattle.farm_types.specs.declared.states.FrameState.TheVariants as frame_state
+use Rattle.farm_types.specs.Farm.{Farm, changed_at, sub_at, host_named}
+use Rattle.farm_types.specs.Sums.{used_cores, used_memory, booked_in}
+use Rattle.farm_types.specs.Depends.{is_open}
+use Rattle.farm_types.specs.Step.{refusal_of, HasCondition, after, at_moment, moment_of, heard_row, is_live, end_attempt}
+
+-- ---- legal
+
+-- the farm after all entries, in order
+abbrev pub run_of : Farm → List Entry → Farm
+run_of f [] = f
+run_of f (e ∷ es) = run_of (after f e) es
+
+-- the farm doesn't refuse the entry, and a booking may be recorded
+pub record IsLegalStep (f : Farm) (e : Entry) : Type 0 where
+  pub accepted : refusal_of f e ≡ None
+  pub condition : HasCondition f e.act
+
+abbrev pub IsLegal : Farm → List Entry → Type 0
+IsLegal f [] = Unit {0}
+IsLegal f (e ∷ es) = IsLegalStep f e × IsLegal (after f e) es
+
+-- ---- safe
+
+-- a slot's frame and its live attempt: exactly a running frame has one, of the slot's version and number
+abbrev pub IsAttemptOf : ℕ → ℕ → FrameState → Option ProcRow → Type 0
+IsAttemptOf place version frame_state.Running None = ⊥
+IsAttemptOf place version frame_state.Running (Some p) = (p.slot ≡ place) × (p.version ≡ version)
+IsAttemptOf place version state None = Unit {0}
+IsAttemptOf place version state (Some p) = ⊥
+
+abbrev pub HasItsAttempt : ℕ → ℕ → Option FrameRow → Option ProcRow → Type 0
+HasItsAttempt place version None None = Unit {0}
+HasItsAttempt place version None (Some p) = ⊥
+HasItsAttempt place version (Some frame) proc = IsAttemptOf place version frame.state proc
+
+-- No host is used past its cores or memory, and exactly the running frames have a live attempt, of their version.
+pub record IsSound (f : Farm) : Type 0 where
+  pub cores : (n : ℕ) (h : HostRow) → slice_get f.hosts n ≡ Some h → used_cores f n ≤ h.cores
+  pub memory : (n : ℕ) (h : HostRow) → slice_get f.hosts n ≡ Some h → used_memory f n ≤ h.memory
+  pub attempts : (i : ℕ) (s : SlotRow) → slice_get f.slots i ≡ Some s → HasItsAttempt i s.version s.frame s.proc
+
+-- each live attempt is on a host that is there
+abbrev pub OnHostOf : ℕ → Option ProcRow → Type 0
+OnHostOf hosts None = Unit {0}
+OnHostOf hosts (Some p) = p.host < hosts
+
+abbrev pub HasItsHosts : Farm → Type 0
+HasItsHosts f = (i : ℕ) (s : SlotRow) → slice_get f.slots i ≡ Some s → OnHostOf (length f.hosts) s.proc
+
+-- the subscription's booked cores are within its burst
+abbrev pub IsWithinBurst : Farm → ℕ → Type 0
+IsWithinBurst f sub = (s : SubRow) → sub_at f sub ≡ Some s → booked_in f sub ≤ s.burst
+
+-- a booking finds the frame open, and afterwards its subscription is within its burst
+pub record BooksSafely (old new : Farm) (slot : ℕ) : Type 0 where
+  pub unblocked : is_open old slot ≡ true
+  pub burst : (s : SlotRow) (p : ProcRow) → slice_get new.slots slot ≡ Some s → s.proc ≡ Some p → IsWithinBurst new p.sub
+
+abbrev pub ActsSafely : Farm → Farm → Act → Type 0
+ActsSafely old new (Book slot host) = BooksSafely old new slot
+ActsSafely old new act = Unit {0}
+
+-- ---- completions
+
+-- the attempts that completions change, in order
+abbrev pub counted_in : Farm → ℕ → ℕ → List DoneItem → List Attempt
+counted_in f host boot [] = []
+counted_in f host boot (d ∷ ds) =
+    if is_live f host boot d.attempt.slot d.attempt.version
+    then d.attempt ∷ counted_in (end_attempt f host boot d) host boot ds
+    else counted_in f host boot ds
+
+abbrev pub counted_of : Farm → HeardAct → ℕ → Option ℕ → List Attempt
+counted_of f act moment None = []
+counted_of f act moment (Some host) = counted_in (record f { hosts = changed_at f.hosts host (heard_row act.seq moment) }) host act.boot act.done
+
+abbrev pub counted_by : Farm → ℕ → Act → List Attempt
+counted_by f moment (Heard act) = counted_of f act moment (host_named f act.host)
+counted_by f moment act = []
+
+-- the attempts that the completions of a run change, in order
+abbrev pub counted : Farm → List Entry → List Attempt
+counted f [] = []
+counted f (e ∷ es) = counted_by (at_moment f (moment_of f e.moment)) (moment_of f e.moment) e.act ++ counted (after f e) es
+
+abbrev pub is_same : Attempt → Attempt → Bool
+is_same a b = a.slot == b.slot && a.version == b.version
+
+-- no attempt stands twice in the list
+abbrev pub AllDiffer : List Attempt → Type 0
+AllDiffer [] = Unit {0}
+AllDiffer (a ∷ later) = (list_any (is_same a) later ≡ false) × AllDiffer later
+
+-- ---- a whole run
+
+-- each farm of the run is sound, and each booking safe
+abbrev pub EachStepSafe : Farm → List Entry → Type 0
+EachStepSafe f [] = IsSound f
+EachStepSafe f (e ∷ es) = IsSound f × ActsSafely (at_moment f (moment_of f e.moment)) (after f e) e.act × EachStepSafe (after f e) es
+
+-- A run is safe where each of its farms is sound, each booking finds its frame open and stays within the burst, and each completion
+-- that changes the farm is of an attempt that no other completion of the run changes. That such a completion is of an attempt live just
+-- before is what `end_attempt` says.
+pub record IsSafe (f : Farm) (es : List Entry) : Type 0 where
+  pub steps : EachStepSafe f es
+  pub once : AllDiffer (counted f es)

@@ -1,0 +1,110 @@
+-- What is answered to lines: the entries that a line makes, its reply, and the bytes of a whole session.
+use Rattle.std.specs.Prelude.{ℕ, List, [], ◌∷◌, ◌++◌, map, take, length, codes, nat_lt, Option, None, Some, Result, Ok, Err, if◌then◌else◌}
+use Rattle.serde_json.specs.Data.{Data}
+use Rattle.serde_json.specs.Written.{compact_text}
+use Rattle.farm_types.specs.declared.entry.Entry.{Entry}
+use Rattle.farm_types.specs.declared.entry.Act.TheVariants.{Heard}
+use Rattle.farm_types.specs.declared.refusal.Refusal.{Refusal}
+use Rattle.farm_types.specs.declared.report.Report.{Report}
+use Rattle.farm_types.specs.Farm.{Farm, host_named}
+use Rattle.farm_types.specs.Step.{refusal_of, after}
+use Rattle.farm_types.specs.Run.{run_of}
+use Rattle.farm_types.specs.Dispatch.{round_for}
+use Rattle.farm_types.specs.Request.{request_of}
+use Rattle.farm_types.specs.Reply.{no_memory, bad_line, refusal_data, report_reply}
+
+-- What the outside did while a line was answered: nothing; memory was wanting before anything was recorded; memory was wanting after so
+-- many bookings of the round; or it was wanting for the reply's text, after the whole round or after so many bookings.
+pub data Mark : Type 0 where
+  Plain : Mark
+  Memory : Mark
+  Cut : ℕ → Mark
+  LatePlain : Mark
+  LateCut : ℕ → Mark
+
+-- what a line makes: the entries recorded, in order, and the reply's text
+pub record Answered : Type 0 where
+  pub entries : List Entry
+  pub reply : List ℕ
+
+abbrev pub only_reply : Data → Answered
+only_reply reply = record { entries = []; reply = compact_text reply }
+
+abbrev pub heard_entry : Report → ℕ → Entry
+heard_entry report moment = record { moment = moment; act = Heard (record { host = report.host; boot = report.boot; seq = report.seq; done = report.done }) }
+
+-- the entry of a report, the bookings after it, and the reply over the farm that they leave
+abbrev pub with_round : Farm → ℕ → Report → Entry → List Entry → List ℕ → Answered
+with_round f host report heard round cut =
+    record { entries = heard ∷ round; reply = compact_text (report_reply (run_of (after f heard) round) host report cut) }
+
+abbrev pub late : List Entry → Answered
+late entries = record { entries = entries; reply = compact_text no_memory }
+
+abbrev pub marked_answer : Farm → ℕ → Report → Entry → List Entry → Mark → Answered
+marked_answer f host report heard round Plain = with_round f host report heard round []
+marked_answer f host report heard round Memory = only_reply no_memory
+marked_answer f host report heard round (Cut k) = with_round f host report heard (take k round) (codes "memory")
+marked_answer f host report heard round LatePlain = late (heard ∷ round)
+marked_answer f host report heard round (LateCut k) = late (heard ∷ take k round)
+
+-- a report that the farm accepts is of a host that is there
+abbrev pub accepted_answer : Farm → Report → ℕ → Mark → Option ℕ → Answered
+accepted_answer f report moment mark None = only_reply no_memory
+accepted_answer f report moment mark (Some host) =
+    marked_answer f host report (heard_entry report moment) (round_for (after f (heard_entry report moment)) host moment) mark
+
+abbrev pub report_answer : Farm → Report → ℕ → Mark → Option Refusal → Answered
+report_answer f report moment mark (Some why) = only_reply (refusal_data why)
+report_answer f report moment mark None = accepted_answer f report moment mark (host_named f report.host)
+
+-- a line that isn't a request, and one that is
+abbrev pub request_answer : Farm → ℕ → Mark → Result Report (List ℕ) → Answered
+request_answer f moment mark (Err field) = only_reply (bad_line [])
+request_answer f moment mark (Ok report) = report_answer f report moment mark (refusal_of f (heard_entry report moment))
+
+abbrev pub unless_memory : Mark → Answered → Answered
+unless_memory Memory answered = only_reply no_memory
+unless_memory mark answered = answered
+
+-- a line has at most so many bytes
+abbrev pub line_limit : ℕ
+line_limit = 1048576
+
+-- what a line makes of the farm at a moment, by what the outside did
+unfoldable pub answer_to : Farm → List ℕ → ℕ → Mark → Answered
+answer_to f line moment mark =
+    if nat_lt line_limit (length line) then only_reply (bad_line [])
+    else unless_memory mark (request_answer f moment mark (request_of line))
+
+-- one line with the clock's reading and its mark
+pub record Turn : Type 0 where
+  pub line : List ℕ
+  pub moment : ℕ
+  pub mark : Mark
+
+abbrev pub answer_at : Farm → Turn → Answered
+answer_at f t = answer_to f t.line t.moment t.mark
+
+abbrev pub farm_next : Farm → Turn → Farm
+farm_next f t = run_of f (answer_at f t).entries
+
+abbrev pub farm_after : Farm → List Turn → Farm
+farm_after f [] = f
+farm_after f (t ∷ ts) = farm_after (farm_next f t) ts
+
+-- the entries recorded, in order
+abbrev pub entries_in : Farm → List Turn → List Entry
+entries_in f [] = []
+entries_in f (t ∷ ts) = (answer_at f t).entries ++ entries_in (farm_next f t) ts
+
+-- the replies, each with its newline
+abbrev pub transcript : Farm → List Turn → List ℕ
+transcript f [] = []
+transcript f (t ∷ ts) = (answer_at f t).reply ++ 10 ∷ transcript (farm_next f t) ts
+
+abbrev pub lines_in : List Turn → List (List ℕ)
+lines_in ts = map (λ t. t.line) ts
+
+abbrev pub moments_in : List Turn → List ℕ
+moments_in ts = map (λ t. t.moment) ts

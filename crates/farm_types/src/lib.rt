@@ -1,0 +1,34 @@
+//! The words of the farm: numbers, names, rows, entries and refusals, and in `specs/` the farm's rules.
+#![tactic(auto)]
+
+mod attempt;
+mod depend;
+mod dispatch;
+mod entry;
+mod items;
+mod launch;
+mod names;
+mod numbers;
+mod refusal;
+mod report;
+mod rows;
+mod slot_row;
+mod states;
+mod text;
+mod verdict;
+
+pub use attempt::{Attempt, DoneItem, Exit, ProcRow};
+pub use depend::{DependEnd, DependKind, DependRow, MetRow};
+pub use dispatch::{Candidate, Rank};
+pub use entry::{Act, Entry, HeardAct};
+pub use items::Items;
+pub use launch::Launch;
+pub use names::is_name;
+pub use numbers::{AllocNo, Cores, DependNo, HostNo, JobNo, Kb, ShowNo, Slot, SubNo, Version};
+pub use refusal::Refusal;
+pub use report::Report;
+pub use rows::{AllocRow, HostRow, JobRow, LayerRow, ShowRow, SubRow};
+pub use slot_row::{FrameRow, SlotRow};
+pub use states::{FrameState, HostState, JobState, LockState};
+pub use text::Text;
+pub use verdict::Verdict;

@@ -1,0 +1,15 @@
+//! A host's report.
+
+use crate::attempt::{Attempt, DoneItem};
+use crate::items::Items;
+use crate::text::Text;
+
+/// What a host tells: the attempts that it runs and those that are done, in the order of its lists.
+#[derive(Debug, Drop)]
+pub struct Report {
+    pub host: Text,
+    pub boot: u32,
+    pub seq: u64,
+    pub running: Items<Attempt>,
+    pub done: Items<DoneItem>,
+}
