@@ -20,7 +20,7 @@ impl Model for FieldName {
 }
 
 impl FieldName {
-    ghost use Rattle.std.specs.Prelude.{◌≡◌, IfOk};
+    ghost use Rattle.std.specs.Prelude.{◌≡◌, IfOk, string_bytes};
 
     /// A copy of the name.
     pub fn copy_of(alloc: Global, name: &str) -> Result<FieldName, AllocError>
@@ -35,6 +35,13 @@ impl FieldName {
         ensures { result.now ≡ self.now }
     {
         self.string.as_str()
+    }
+
+    pub fn into_string(self) -> String
+        ensures { string_bytes result ≡ self }
+    {
+        let FieldName { string } = self;
+        string
     }
 }
 

@@ -73,7 +73,7 @@ pub fn signed(
         return Err(FieldFault::missing(alloc, field));
     };
     match value.as_i64() {
-        Some(number) if least <= number && number <= most => Ok(number),
+        Some(signed) if least <= signed && signed <= most => Ok(signed),
         _ => Err(FieldFault::wrong_kind(alloc, field)),
     }
 }

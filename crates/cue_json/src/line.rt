@@ -44,5 +44,9 @@ fn object_within(value: Value) -> Option<Map>
 fn fault_of(error: &Error) -> LineFault
     ensures { (result ≡ LineFault.NoMemory) ↔ IsMemory error.now }
 {
-    if error.is_memory() { LineFault::NoMemory } else { LineFault::NotAnObject }
+    if error.is_memory() {
+        LineFault::NoMemory
+    } else {
+        LineFault::NotAnObject
+    }
 }

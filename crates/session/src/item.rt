@@ -1,0 +1,113 @@
+//! The items of a report's lists, each read from an object.
+
+ghost use Rattle.std.specs.Prelude.{◌≡◌, Result, ⊤};
+ghost use Rattle.serde_json.specs.Data.{Members};
+ghost use Rattle.serde_json.specs.View.{items_view, members_view, view};
+ghost use Rattle.cue_json.specs.Fields.{Fault, Gives};
+ghost use Rattle.farm_types.specs.Request.{attempt_at, done_at, item_at, items_at, list_of, optional_whole_at};
+
+use cue_json::{FieldFault, Map};
+use farm_types::{Attempt, DoneItem, Exit, Items, Slot, Version};
+use serde_json::Value;
+use std::alloc::Global;
+
+/// What an item of a list is read as.
+pub trait Item: Drop {
+    ghost reads: { Members → Result Self Fault };
+
+    /// The item that the object is, or its first field at fault.
+    fn read(alloc: Global, object: &Map) -> Result<Self, FieldFault>
+    where
+        Self: Sized,
+        ensures { Gives (λ item. item) result (reads (members_view object.now.entries)) };
+}
+
+impl Item for Attempt {
+    ghost reads = { attempt_at };
+
+    #[tactic(auto, unfolding(farm_types::specs::Request::attempt_at))]
+    fn read(alloc: Global, object: &Map) -> Result<Attempt, FieldFault> {
+        let slot = cue_json::whole(alloc, object, "slot", 0, 65535)?;
+        let version = cue_json::whole(alloc, object, "version", 0, 16777215)?;
+        cue_json::no_others(alloc, object, &["slot", "version"])?;
+        Ok(Attempt {
+            slot: Slot(slot as u32),
+            version: Version(version as u32),
+        })
+    }
+}
+
+impl Item for DoneItem {
+    ghost reads = { done_at };
+
+    #[tactic(auto, unfolding(farm_types::specs::Request::done_at))]
+    fn read(alloc: Global, object: &Map) -> Result<DoneItem, FieldFault> {
+        let slot = cue_json::whole(alloc, object, "slot", 0, 65535)?;
+        let version = cue_json::whole(alloc, object, "version", 0, 16777215)?;
+        let status = cue_json::whole(alloc, object, "status", 0, 0)?;
+        let signal = cue_json::whole(alloc, object, "signal", 0, 0)?;
+        optional_whole(alloc, object, "free", 0, 1000000)?;
+        cue_json::no_others(
+            alloc,
+            object,
+            &["free", "signal", "slot", "status", "version"],
+        )?;
+        Ok(DoneItem {
+            attempt: Attempt {
+                slot: Slot(slot as u32),
+                version: Version(version as u32),
+            },
+            exit: Exit {
+                status: status as u32,
+                signal: signal as u32,
+            },
+        })
+    }
+}
+
+// A number that may be left out, and isn't used.
+fn optional_whole(
+    alloc: Global,
+    object: &Map,
+    field: &str,
+    least: u64,
+    most: u64,
+) -> Result<(), FieldFault>
+    ensures { Gives (λ none. none) result (optional_whole_at field.now least most (members_view object.now.entries)) }
+{
+    if cue_json::has(object, field) {
+        cue_json::whole(alloc, object, field, least, most)?;
+    }
+    Ok(())
+}
+
+/// The list of that field, item by item.
+pub fn list<T: Item>(alloc: Global, object: &Map, field: &str) -> Result<Items<T>, FieldFault>
+    ensures { Gives (λ items. items) result (list_of field.now T.reads (members_view object.now.entries)) }
+{
+    match cue_json::list(alloc, object, field) {
+        Ok(values) => read_items(alloc, field, values),
+        Err(fault) => Err(fault),
+    }
+}
+
+// The items of the list of that field.
+fn read_items<T: Item>(alloc: Global, field: &str, values: &[Value]) -> Result<Items<T>, FieldFault>
+    ensures { Gives (λ items. items) result (items_at field.now T.reads (items_view values.now)) }
+{
+    let mut found = Items::new(alloc);
+    for value in values {
+        found.push(read_item(alloc, field, value)?)?;
+    }
+    Ok(found)
+}
+
+// One item, which is an object.
+fn read_item<T: Item>(alloc: Global, field: &str, value: &Value) -> Result<T, FieldFault>
+    ensures { Gives (λ item. item) result (item_at field.now T.reads (view value.now)) }
+{
+    match cue_json::object_item(alloc, value, field) {
+        Ok(object) => T::read(alloc, object),
+        Err(fault) => Err(fault),
+    }
+}

@@ -1,0 +1,11 @@
+//! A session: lines in, replies out.
+#![tactic(auto)]
+
+mod fault;
+mod item;
+mod read;
+mod reply;
+
+pub use fault::ReadFault;
+pub use read::read_report;
+pub use reply::{Reply, refusal_line, report_line};
