@@ -2,6 +2,7 @@ pub mod Booking
 pub mod Demo
 pub mod Depends
 pub mod Dispatch
+pub mod Examples
 pub mod Farm
 pub mod Forms
 pub mod Names

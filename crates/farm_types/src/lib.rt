@@ -5,6 +5,7 @@ mod attempt;
 mod depend;
 mod dispatch;
 mod entry;
+mod examples;
 mod items;
 mod launch;
 mod names;
@@ -21,6 +22,10 @@ pub use attempt::{Attempt, DoneItem, Exit, ProcRow};
 pub use depend::{DependEnd, DependKind, DependRow, MetRow};
 pub use dispatch::{Candidate, Rank};
 pub use entry::{Act, Entry, HeardAct};
+pub use examples::{
+    burst_stops_at_four, old_completions_count_nothing, stale_reports_are_refused,
+    sums_follow_attempts,
+};
 pub use items::Items;
 pub use launch::Launch;
 pub use names::is_name;

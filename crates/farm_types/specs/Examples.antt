@@ -1,0 +1,67 @@
+-- Worked examples over the farm of the demonstration.
+use Rattle.std.specs.Prelude.{ℕ, List, [], ◌∷◌, codes, map}
+use Rattle.farm_types.specs.declared.attempt.Attempt.{Attempt}
+use Rattle.farm_types.specs.declared.attempt.DoneItem.{DoneItem}
+use Rattle.farm_types.specs.declared.launch.Launch.{Launch}
+use Rattle.farm_types.specs.declared.report.Report.{Report}
+use Rattle.farm_types.specs.declared.slot_row.SlotRow.{SlotRow}
+use Rattle.farm_types.specs.Farm.{Farm}
+use Rattle.farm_types.specs.Demo.{demo_farm}
+use Rattle.farm_types.specs.Dispatch.{round_for}
+use Rattle.farm_types.specs.Step.{after}
+use Rattle.farm_types.specs.Run.{run_of}
+use Rattle.farm_types.specs.Reply.{launches_of}
+use Rattle.farm_types.specs.Transcript.{heard_entry}
+
+-- a report of the demonstration's host
+abbrev pub report : ℕ → List Attempt → List DoneItem → Report
+report seq running done = record { host = codes "h1"; boot = 1; seq = seq; running = running; done = done }
+
+-- the farm after a report and its round
+abbrev pub after_report : Farm → Report → Farm
+after_report f r = run_of (after f (heard_entry r 0)) (round_for (after f (heard_entry r 0)) 0 0)
+
+-- the farm's first three reports: the first finds ten frames waiting; in the second and the third the first frame's attempt is done
+abbrev pub first : Report
+first = report 1 [] []
+
+abbrev pub attempt : ℕ → ℕ → Attempt
+attempt slot version = record { slot = slot; version = version }
+
+abbrev pub done : ℕ → ℕ → ℕ → DoneItem
+done slot version status = record { attempt = attempt slot version; exit = record { status = status; signal = 0 } }
+
+abbrev pub second : Report
+second = report 2 (attempt 1 1 ∷ attempt 2 1 ∷ attempt 3 1 ∷ []) (done 0 1 0 ∷ [])
+
+abbrev pub third : Report
+third = report 3 (attempt 1 1 ∷ attempt 2 1 ∷ attempt 3 1 ∷ attempt 4 1 ∷ []) (done 0 1 0 ∷ [])
+
+-- the farm before each of them, and after the last
+abbrev pub farm_one : Farm
+farm_one = demo_farm 0
+
+abbrev pub farm_two : Farm
+farm_two = after_report farm_one first
+
+abbrev pub farm_three : Farm
+farm_three = after_report farm_two second
+
+abbrev pub farm_four : Farm
+farm_four = after_report farm_three third
+
+-- the slots that the reply to a report launches
+abbrev pub launched_by : Farm → Report → List ℕ
+launched_by f r = map (λ (l : Launch). l.attempt.slot) (launches_of (after_report f r) 0 r)
+
+-- versions by slot
+abbrev pub versions_in : Farm → List ℕ
+versions_in f = map (λ (s : SlotRow). s.version) f.slots
+
+-- A frame's first attempt exits with status 286, and the same report's round books its second. Then a report says once more that the first
+-- is done.
+abbrev pub requeued : Report
+requeued = report 2 (attempt 1 1 ∷ attempt 2 1 ∷ attempt 3 1 ∷ []) (done 0 1 286 ∷ [])
+
+abbrev pub late_again : Report
+late_again = report 3 (attempt 0 2 ∷ attempt 1 1 ∷ attempt 2 1 ∷ attempt 3 1 ∷ []) (done 0 1 0 ∷ [])

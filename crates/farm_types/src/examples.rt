@@ -1,0 +1,39 @@
+//! Worked examples of the rules over the farm of the demonstration, proved by computing them. The public functions here do nothing.
+
+ghost use Rattle.std.specs.Prelude.{◌≡◌, ◌∷◌, [], codes, Some};
+ghost use Rattle.farm_types.specs.declared.refusal.Refusal.TheVariants.{Unknown, WrongBoot, Stale};
+ghost use Rattle.farm_types.specs.Examples.{attempt, done, first, second, third, farm_one, farm_two, farm_three, farm_four, launched_by, versions_in, after_report, requeued, late_again};
+ghost use Rattle.farm_types.specs.Run.{counted};
+ghost use Rattle.farm_types.specs.Step.{refusal_of, after};
+ghost use Rattle.farm_types.specs.Sums.{used_on, booked_in};
+ghost use Rattle.farm_types.specs.Transcript.{heard_entry};
+
+/// The host has room for eight frames; the burst of 400 stops the first round at four. A completion makes room for one more, and the same
+/// completion once more makes none.
+pub fn burst_stops_at_four()
+    ensures first { launched_by farm_one first ≡ 0 ∷ 1 ∷ 2 ∷ 3 ∷ [] }
+    ensures second { launched_by farm_two second ≡ 4 ∷ [] }
+    ensures third { launched_by farm_three third ≡ [] }
+{}
+
+/// A report that comes again is stale, whatever it says is done. One of a host or a boot that isn't there is refused too.
+pub fn stale_reports_are_refused()
+    ensures again { refusal_of farm_two (heard_entry first 0) ≡ Some (Stale 1) }
+    ensures older { refusal_of farm_three (heard_entry (record first { done = done 1 1 0 ∷ [] }) 0) ≡ Some (Stale 2) }
+    ensures unknown { refusal_of farm_one (heard_entry (record first { host = codes "h9" }) 0) ≡ Some (Unknown (codes "h9")) }
+    ensures wrong_boot { refusal_of farm_two (heard_entry (record second { boot = 2 }) 0) ≡ Some (WrongBoot 1) }
+{}
+
+/// What is used and booked follows the attempts: four of 100 hundredths and 3,355,443 KB each.
+pub fn sums_follow_attempts()
+    ensures used { used_on farm_two 0 ≡ (400, 13421772) }
+    ensures booked { booked_in farm_two 0 ≡ 400 }
+    ensures as_many { booked_in farm_four 0 ≡ 400 }
+{}
+
+/// A completion counts only for the attempt that is live: while a frame's second attempt runs, the first one's completion counts nothing.
+pub fn old_completions_count_nothing()
+    ensures requeued { versions_in (after_report farm_two requeued) ≡ 2 ∷ 1 ∷ 1 ∷ 1 ∷ 0 ∷ 0 ∷ 0 ∷ 0 ∷ 0 ∷ 0 ∷ [] }
+    ensures counted_once { counted farm_two (heard_entry requeued 0 ∷ []) ≡ attempt 0 1 ∷ [] }
+    ensures counted_no_more { counted (after_report farm_two requeued) (heard_entry late_again 0 ∷ []) ≡ [] }
+{}
