@@ -1,13 +1,12 @@
 -- No reply has a float.
-use Rattle.std.proofs.Common.{◌≡◌, ℕ, List, [], ◌∷◌, map, false, refl, Bool, true, ◌||◌}
-use Rattle.serde_json.specs.Data.{Data}
+use Rattle.std.proofs.Common.{◌≡◌, ℕ, List, [], ◌∷◌, map, false, refl}
 use Rattle.serde_json.specs.View.{items_of}
 use Rattle.serde_json.specs.Written.{has_float, items_have_float}
 use Rattle.farm_types.specs.declared.attempt.Attempt.{Attempt}
 use Rattle.farm_types.specs.declared.launch.Launch.{Launch}
 use Rattle.farm_types.specs.declared.refusal.Refusal.{Refusal}
 use Rattle.farm_types.specs.declared.refusal.Refusal.TheVariants.{Unknown, WrongBoot, Stale}
-use Rattle.farm_types.specs.Reply.{attempt_data, attempts_data, launch_data, launches_data, report_data, refusal_data}
+use Rattle.farm_types.specs.Reply.{attempt_data, launch_data, report_data, refusal_data}
 
 attempt_has_no_float : (a : Attempt) → has_float (attempt_data a) ≡ false
 unfolding attempt_data

@@ -3,9 +3,11 @@
 
 mod fault;
 mod item;
+mod laws;
 mod read;
 mod reply;
 
 pub use fault::ReadFault;
+pub use laws::sessions_are_legal;
 pub use read::read_report;
 pub use reply::{Reply, refusal_line, report_line};

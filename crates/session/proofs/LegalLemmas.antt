@@ -1,0 +1,95 @@
+-- The entries that lines make are a legal run.
+use Rattle.std.proofs.Common.{◌≡◌, ℕ, ◌-◌, ◌&&◌, Bool, true, false, cond, List, [], ◌∷◌, ◌++◌, take, refl, sym, Option, None, Some, Result, Ok, Err, zero, suc, length}
+use Rattle.std.specs.Prelude.{nat_lt}
+use Rattle.std.proofs.Common.{true≢false}
+use Rattle.farm_types.specs.declared.dispatch.Candidate.{Candidate}
+use Rattle.farm_types.specs.declared.entry.Entry.{Entry}
+use Rattle.farm_types.specs.declared.refusal.Refusal.{Refusal}
+use Rattle.farm_types.specs.declared.report.Report.{Report}
+use Rattle.farm_types.specs.Farm.{Farm, host_named}
+use Rattle.farm_types.specs.Booking.{may_book, may_record, tags_match}
+use Rattle.farm_types.specs.Step.{refusal_of, after}
+use Rattle.farm_types.specs.Run.{run_of, IsLegal, IsLegalStep}
+use Rattle.farm_types.specs.Dispatch.{book_entry, round_from, round_for, bookings_each, plan_for}
+use Rattle.farm_types.specs.Request.{request_of}
+use Rattle.farm_types.specs.Transcript.{Mark, Plain, Memory, Cut, LatePlain, LateCut, Answered, Turn, heard_entry, marked_answer, accepted_answer, report_answer, request_answer, unless_memory, answer_to, answer_at, farm_next, entries_in, line_limit, only_reply}
+use Rattle.farm_types.specs.Reply.{bad_line}
+
+-- both tests are true where both together are
+both_of : (a b : Bool) → (a && b) ≡ true → (a ≡ true) × (b ≡ true)
+both_of true b h = (refl, h)
+both_of false b h = absurd (true≢false (sym h))
+
+-- two legal runs, one after the other
+pub legal_append : (f : Farm) (xs ys : List Entry) → IsLegal f xs → IsLegal (run_of f xs) ys → IsLegal f (xs ++ ys)
+legal_append f [] ys l m = m
+legal_append f (x ∷ xs) ys l m = (l.0, legal_append (after f x) xs ys l.1 m)
+
+-- the front of a legal run
+pub legal_take : (f : Farm) (k : ℕ) (xs : List Entry) → IsLegal f xs → IsLegal f (take k xs)
+legal_take f zero xs l = tt
+legal_take f (suc k) [] l = tt
+legal_take f (suc k) (x ∷ xs) l = (l.0, legal_take (after f x) k xs l.1)
+
+-- a candidate that may be booked makes a legal step
+book_legal : (f : Farm) (c : Candidate) (moment : ℕ) → may_book f c.slot c.host ≡ true → IsLegalStep f (book_entry c moment)
+book_legal f c moment h = record { accepted = refl; condition = (both_of (may_record f c.slot c.host) (tags_match f c.slot c.host) h).0 }
+
+-- the bookings of a round
+pub legal_round : (left : ℕ) (f : Farm) (moment : ℕ) (cs : List Candidate) → IsLegal f (round_from left f moment cs)
+legal_round left f moment [] = tt
+legal_round left f moment (c ∷ cs) =
+    by (nat_lt 0 left && may_book f c.slot c.host) refl (legal_round (left - 1) (after f (book_entry c moment)) moment cs) (legal_round left f moment cs)
+  where
+    by : (b : Bool) → b ≡ (nat_lt 0 left && may_book f c.slot c.host) → IsLegal (after f (book_entry c moment)) (round_from (left - 1) (after f (book_entry c moment)) moment cs) → IsLegal f (round_from left f moment cs)
+        → IsLegal f (cond b (book_entry c moment ∷ round_from (left - 1) (after f (book_entry c moment)) moment cs) (round_from left f moment cs))
+    by true e booked passed = (book_legal f c moment (both_of (nat_lt 0 left) (may_book f c.slot c.host) (sym e)).1, booked)
+    by false e booked passed = passed
+
+-- a report that the farm accepts, and its round
+heard_legal : (f : Farm) (report : Report) (moment : ℕ) → refusal_of f (heard_entry report moment) ≡ None → (es : List Entry)
+    → IsLegal (after f (heard_entry report moment)) es → IsLegal f (heard_entry report moment ∷ es)
+heard_legal f report moment h es l = (record { accepted = h; condition = tt }, l)
+
+marked_legal : (f : Farm) (host : ℕ) (report : Report) (moment : ℕ) (mark : Mark) → refusal_of f (heard_entry report moment) ≡ None
+    → IsLegal f (marked_answer f host report (heard_entry report moment) (round_for (after f (heard_entry report moment)) host moment) mark).entries
+marked_legal f host report moment Plain h = heard_legal f report moment h _ (legal_round bookings_each (after f (heard_entry report moment)) moment (plan_for (after f (heard_entry report moment)) host))
+marked_legal f host report moment Memory h = tt
+marked_legal f host report moment (Cut k) h = heard_legal f report moment h _ (legal_take (after f (heard_entry report moment)) k _ (legal_round bookings_each (after f (heard_entry report moment)) moment (plan_for (after f (heard_entry report moment)) host)))
+marked_legal f host report moment LatePlain h = heard_legal f report moment h _ (legal_round bookings_each (after f (heard_entry report moment)) moment (plan_for (after f (heard_entry report moment)) host))
+marked_legal f host report moment (LateCut k) h = heard_legal f report moment h _ (legal_take (after f (heard_entry report moment)) k _ (legal_round bookings_each (after f (heard_entry report moment)) moment (plan_for (after f (heard_entry report moment)) host)))
+
+accepted_legal : (f : Farm) (report : Report) (moment : ℕ) (mark : Mark) (host : Option ℕ) → refusal_of f (heard_entry report moment) ≡ None
+    → IsLegal f (accepted_answer f report moment mark host).entries
+accepted_legal f report moment mark None h = tt
+accepted_legal f report moment mark (Some host) h = marked_legal f host report moment mark h
+
+report_legal : (f : Farm) (report : Report) (moment : ℕ) (mark : Mark) (why : Option Refusal) → refusal_of f (heard_entry report moment) ≡ why
+    → IsLegal f (report_answer f report moment mark why).entries
+report_legal f report moment mark (Some why) h = tt
+report_legal f report moment mark None h = accepted_legal f report moment mark (host_named f report.host) h
+
+request_legal : (f : Farm) (moment : ℕ) (mark : Mark) (read : Result Report (List ℕ)) → IsLegal f (request_answer f moment mark read).entries
+request_legal f moment mark (Err field) = tt
+request_legal f moment mark (Ok report) = report_legal f report moment mark (refusal_of f (heard_entry report moment)) refl
+
+unless_legal : (f : Farm) (mark : Mark) (answered : Answered) → IsLegal f answered.entries → IsLegal f (unless_memory mark answered).entries
+unless_legal f Memory answered l = tt
+unless_legal f Plain answered l = l
+unless_legal f (Cut k) answered l = l
+unless_legal f LatePlain answered l = l
+unless_legal f (LateCut k) answered l = l
+
+-- what one line makes
+answer_legal : (f : Farm) (line : List ℕ) (moment : ℕ) (mark : Mark) → IsLegal f (answer_to f line moment mark).entries
+unfolding answer_to
+answer_legal f line moment mark = by (nat_lt line_limit (length line))
+  where
+    by : (b : Bool) → IsLegal f (cond b (only_reply (bad_line [])) (unless_memory mark (request_answer f moment mark (request_of line)))).entries
+    by true = tt
+    by false = unless_legal f mark (request_answer f moment mark (request_of line)) (request_legal f moment mark (request_of line))
+
+-- what all lines make
+pub turns_legal : (f : Farm) (ts : List Turn) → IsLegal f (entries_in f ts)
+turns_legal f [] = tt
+turns_legal f (t ∷ ts) = legal_append f (answer_at f t).entries (entries_in (farm_next f t) ts) (answer_legal f t.line t.moment t.mark) (turns_legal (farm_next f t) ts)
