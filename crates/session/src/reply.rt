@@ -24,6 +24,7 @@ pub enum Reply {
 
 impl Reply {
     /// The line's bytes, its newline too.
+    #[tactic(auto, using(crate::proofs::ReplyLemmas::bad_line_text, crate::proofs::ReplyLemmas::no_memory_text))]
     pub fn bytes(&self) -> &[u8]
         ensures { result.now ≡ shown self.now }
     {
