@@ -1,5 +1,6 @@
 -- Worked examples over the farm of the demonstration.
 use Rattle.std.specs.Prelude.{ℕ, List, [], ◌∷◌, codes, map}
+use Rattle.serde_json.specs.Written.{compact_text}
 use Rattle.farm_types.specs.declared.attempt.Attempt.{Attempt}
 use Rattle.farm_types.specs.declared.attempt.DoneItem.{DoneItem}
 use Rattle.farm_types.specs.declared.launch.Launch.{Launch}
@@ -10,7 +11,7 @@ use Rattle.farm_types.specs.Demo.{demo_farm}
 use Rattle.farm_types.specs.Dispatch.{round_for}
 use Rattle.farm_types.specs.Step.{after}
 use Rattle.farm_types.specs.Run.{run_of}
-use Rattle.farm_types.specs.Reply.{launches_of}
+use Rattle.farm_types.specs.Reply.{launches_of, report_reply}
 use Rattle.farm_types.specs.Transcript.{heard_entry}
 
 -- a report of the demonstration's host
@@ -65,3 +66,7 @@ requeued = report 2 (attempt 1 1 ∷ attempt 2 1 ∷ attempt 3 1 ∷ []) (done 0
 
 abbrev pub late_again : Report
 late_again = report 3 (attempt 0 2 ∷ attempt 1 1 ∷ attempt 2 1 ∷ attempt 3 1 ∷ []) (done 0 1 0 ∷ [])
+
+-- the text of the reply to a report, where nothing of the outside fails
+abbrev pub reply_text : Farm → Report → List ℕ
+reply_text f r = compact_text (report_reply (after_report f r) 0 r [])

@@ -2,7 +2,7 @@
 
 ghost use Rattle.std.specs.Prelude.{◌≡◌, ◌∷◌, [], codes, Some};
 ghost use Rattle.farm_types.specs.declared.refusal.Refusal.TheVariants.{Unknown, WrongBoot, Stale};
-ghost use Rattle.farm_types.specs.Examples.{attempt, done, first, second, third, farm_one, farm_two, farm_three, farm_four, launched_by, versions_in, after_report, requeued, late_again};
+ghost use Rattle.farm_types.specs.Examples.{attempt, done, first, second, third, farm_one, farm_two, farm_three, farm_four, launched_by, versions_in, after_report, requeued, late_again, reply_text};
 ghost use Rattle.farm_types.specs.Run.{counted};
 ghost use Rattle.farm_types.specs.Step.{refusal_of, after};
 ghost use Rattle.farm_types.specs.Sums.{used_on, booked_in};
@@ -36,4 +36,10 @@ pub fn old_completions_count_nothing()
     ensures requeued { versions_in (after_report farm_two requeued) ≡ 2 ∷ 1 ∷ 1 ∷ 1 ∷ 0 ∷ 0 ∷ 0 ∷ 0 ∷ 0 ∷ 0 ∷ [] }
     ensures counted_once { counted farm_two (heard_entry requeued 0 ∷ []) ≡ attempt 0 1 ∷ [] }
     ensures counted_no_more { counted (after_report farm_two requeued) (heard_entry late_again 0 ∷ []) ≡ [] }
+{}
+
+/// What is written for the first and the third of these reports.
+pub fn texts_of_the_demonstration()
+    ensures first { reply_text farm_one first ≡ codes "{\"acks\":[],\"boot\":1,\"cut\":\"\",\"kills\":[],\"launches\":[{\"command\":\"echo 1\",\"cores\":100,\"frame\":\"0001-render\",\"job\":\"demo-job\",\"layer\":\"render\",\"memory\":3355443,\"slot\":0,\"version\":1},{\"command\":\"echo 2\",\"cores\":100,\"frame\":\"0002-render\",\"job\":\"demo-job\",\"layer\":\"render\",\"memory\":3355443,\"slot\":1,\"version\":1},{\"command\":\"echo 3\",\"cores\":100,\"frame\":\"0003-render\",\"job\":\"demo-job\",\"layer\":\"render\",\"memory\":3355443,\"slot\":2,\"version\":1},{\"command\":\"echo 4\",\"cores\":100,\"frame\":\"0004-render\",\"job\":\"demo-job\",\"layer\":\"render\",\"memory\":3355443,\"slot\":3,\"version\":1}],\"ok\":true,\"seq\":1}" }
+    ensures third { reply_text farm_three third ≡ codes "{\"acks\":[{\"slot\":0,\"version\":1}],\"boot\":1,\"cut\":\"\",\"kills\":[],\"launches\":[],\"ok\":true,\"seq\":3}" }
 {}

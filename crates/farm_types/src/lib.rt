@@ -24,7 +24,7 @@ pub use dispatch::{Candidate, Rank};
 pub use entry::{Act, Entry, HeardAct};
 pub use examples::{
     burst_stops_at_four, old_completions_count_nothing, stale_reports_are_refused,
-    sums_follow_attempts,
+    sums_follow_attempts, texts_of_the_demonstration,
 };
 pub use items::Items;
 pub use launch::Launch;
