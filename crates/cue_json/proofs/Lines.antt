@@ -1,13 +1,12 @@
 -- What a read of the bytes says of the object in them.
-use Rattle.std.proofs.Common.{◌≡◌, ℕ, List, Bool, true, false, Option, Some, None, option_map, ok_or, option_and_then, cond, ◌↔◌, IsUtf8, sym, refl, ap, ◌∙◌}
+use Rattle.std.proofs.Common.{◌≡◌, ℕ, List, Bool, true, false, Option, Some, None, option_map, ok_or, option_and_then, cond, IsUtf8, sym, refl}
 use Rattle.std.proofs.lemmas.Str.{IsUtf8-from_is_utf8, is_utf8-from_IsUtf8}
 use Rattle.std.specs.Str.{is_utf8}
 use Rattle.serde_json.specs.Data.{Data, Members}
 use Rattle.serde_json.specs.Find.{as_object}
 use Rattle.serde_json.specs.Read.{read}
 use Rattle.cue_json.specs.Lines.{object_in, IsObjectIn}
-use Rattle.cue_json.specs.declared.line.LineFault.{LineFault}
-use Rattle.cue_json.specs.declared.line.LineFault.TheVariants.{NotAnObject, NoMemory}
+use Rattle.cue_json.specs.declared.line.LineFault.TheVariants.{NotAnObject}
 
 pub object_in-read : (line : List ℕ) (d : Data) → IsUtf8 line → read line ≡ Some d → as_object d ≡ object_in line
 unfolding object_in

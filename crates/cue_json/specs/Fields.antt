@@ -1,7 +1,7 @@
 -- What an object's field reads as, with the fault that stands in its place.
 use Rattle.std.specs.Prelude.{◌≡◌, ℕ, ℤ, Bool, List, [], ◌∷◌, ⊤, Option, Some, None, option_and_then, is_some, Result, Ok, Err, nat_le, int_le, bytes_eq, ◌&&◌, if◌then◌else◌}
 use Rattle.std.specs.List.{list_any}
-use Rattle.serde_json.specs.Data.{Num, Data, Items, Members, no_members, member}
+use Rattle.serde_json.specs.Data.{Data, Items, Members, no_members, member}
 use Rattle.serde_json.specs.Find.{get_member, as_str, as_number, as_u64, as_i64, as_bool, as_array, as_object}
 use Rattle.cue_json.specs.declared.fault.FieldFault.{FieldFault}
 use Rattle.cue_json.specs.declared.fault.FieldFault.TheVariants as faults

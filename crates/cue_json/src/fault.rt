@@ -31,12 +31,14 @@ impl FieldName {
         })
     }
 
+    /// The name's bytes.
     pub fn as_str(&self) -> &str
         ensures { result.now ≡ self.now }
     {
         self.string.as_str()
     }
 
+    /// The name, with no copy.
     pub fn into_string(self) -> String
         ensures { string_bytes result ≡ self }
     {
@@ -59,6 +61,7 @@ pub enum FieldFault {
 }
 
 impl FieldFault {
+    /// That the object has no such key.
     pub fn missing(alloc: Global, field: &str) -> FieldFault
         ensures { Names result (Missing field.now) }
     {
@@ -68,6 +71,7 @@ impl FieldFault {
         }
     }
 
+    /// That the value is of another kind or outside its range.
     pub fn wrong_kind(alloc: Global, field: &str) -> FieldFault
         ensures { Names result (WrongKind field.now) }
     {
@@ -77,6 +81,7 @@ impl FieldFault {
         }
     }
 
+    /// That the key is not expected.
     pub fn unknown(alloc: Global, field: &str) -> FieldFault
         ensures { Names result (Unknown field.now) }
     {

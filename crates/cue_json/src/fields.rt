@@ -1,6 +1,7 @@
-//! One field of an object: a text, a number, a flag, a list or an object.
+//! One field of an object: a text, a number, a flag, a list or an object. The name in a fault is all that
+//! takes memory, so each error, want of memory too, comes only in place of a fault.
 
-ghost use Rattle.std.specs.Prelude.{◌≡◌, option_map};
+ghost use Rattle.std.specs.Prelude.{◌≡◌, option_map, OnErr, IsErr};
 ghost use Rattle.serde_json.specs.Find.{get_member};
 ghost use Rattle.serde_json.specs.View.{view, items_view, members_view};
 ghost use Rattle.cue_json.specs.Fields.{Gives, text_at, whole_at, signed_at, flag_at, list_at, object_at, has_key};
@@ -28,7 +29,8 @@ pub fn has(object: &Map, field: &str) -> bool
 
 /// The field's text: `Missing` where the key is absent, `WrongKind` where the value is no text.
 pub fn text<'a>(alloc: Global, object: &'a Map, field: &str) -> Result<&'a str, FieldFault>
-    ensures { Gives (λ t. t.now) result (text_at field.now (members_view object.now.entries)) }
+    ensures gives { Gives (λ t. t.now) result (text_at field.now (members_view object.now.entries)) }
+    ensures only { OnErr result (IsErr (text_at field.now (members_view object.now.entries))) }
 {
     let Some(value) = found(object, field) else {
         return Err(FieldFault::missing(alloc, field));
@@ -48,7 +50,8 @@ pub fn whole(
     least: u64,
     most: u64,
 ) -> Result<u64, FieldFault>
-    ensures { Gives (λ n. n) result (whole_at field.now least most (members_view object.now.entries)) }
+    ensures gives { Gives (λ n. n) result (whole_at field.now least most (members_view object.now.entries)) }
+    ensures only { OnErr result (IsErr (whole_at field.now least most (members_view object.now.entries))) }
 {
     let Some(value) = found(object, field) else {
         return Err(FieldFault::missing(alloc, field));
@@ -67,7 +70,8 @@ pub fn signed(
     least: i64,
     most: i64,
 ) -> Result<i64, FieldFault>
-    ensures { Gives (λ z. z) result (signed_at field.now least most (members_view object.now.entries)) }
+    ensures gives { Gives (λ z. z) result (signed_at field.now least most (members_view object.now.entries)) }
+    ensures only { OnErr result (IsErr (signed_at field.now least most (members_view object.now.entries))) }
 {
     let Some(value) = found(object, field) else {
         return Err(FieldFault::missing(alloc, field));
@@ -78,9 +82,10 @@ pub fn signed(
     }
 }
 
-/// The field's `true` or `false`.
+/// The field's `true` or `false`; `WrongKind` for `null` and for every other value.
 pub fn flag(alloc: Global, object: &Map, field: &str) -> Result<bool, FieldFault>
-    ensures { Gives (λ b. b) result (flag_at field.now (members_view object.now.entries)) }
+    ensures gives { Gives (λ b. b) result (flag_at field.now (members_view object.now.entries)) }
+    ensures only { OnErr result (IsErr (flag_at field.now (members_view object.now.entries))) }
 {
     let Some(value) = found(object, field) else {
         return Err(FieldFault::missing(alloc, field));
@@ -91,9 +96,10 @@ pub fn flag(alloc: Global, object: &Map, field: &str) -> Result<bool, FieldFault
     }
 }
 
-/// The items of the field's list, in order.
+/// The items of the field's list, in order: `WrongKind` where the value is no list.
 pub fn list<'a>(alloc: Global, object: &'a Map, field: &str) -> Result<&'a [Value], FieldFault>
-    ensures { Gives (λ xs. items_view xs.now) result (list_at field.now (members_view object.now.entries)) }
+    ensures gives { Gives (λ xs. items_view xs.now) result (list_at field.now (members_view object.now.entries)) }
+    ensures only { OnErr result (IsErr (list_at field.now (members_view object.now.entries))) }
 {
     let Some(value) = found(object, field) else {
         return Err(FieldFault::missing(alloc, field));
@@ -104,9 +110,10 @@ pub fn list<'a>(alloc: Global, object: &'a Map, field: &str) -> Result<&'a [Valu
     }
 }
 
-/// The object that the field is.
+/// The object that the field is: `WrongKind` where the value is no object.
 pub fn object<'a>(alloc: Global, object: &'a Map, field: &str) -> Result<&'a Map, FieldFault>
-    ensures { Gives (λ m. members_view m.now.entries) result (object_at field.now (members_view object.now.entries)) }
+    ensures gives { Gives (λ m. members_view m.now.entries) result (object_at field.now (members_view object.now.entries)) }
+    ensures only { OnErr result (IsErr (object_at field.now (members_view object.now.entries))) }
 {
     let Some(value) = found(object, field) else {
         return Err(FieldFault::missing(alloc, field));

@@ -13,8 +13,9 @@ use std::alloc::Global;
 /// Why a line gave no object.
 #[derive(Clone, Copy, Debug, PartialEq, Eq, Drop)]
 pub enum LineFault {
-    /// The bytes are not UTF-8, no JSON, no object, or something follows the object.
+    /// The bytes are not UTF-8, or no JSON, or no object, nest past 127, or go on after the object.
     NotAnObject,
+    /// The value could not be held.
     NoMemory,
 }
 
@@ -28,6 +29,7 @@ pub fn object_of(alloc: Global, line: &[u8]) -> Result<Map, LineFault>
     }
 }
 
+/// The members of a value that is an object.
 fn object_within(value: Value) -> Option<Map>
     ensures { option_map (λ m. members_view m.entries) result ≡ as_object (view value) }
 {
@@ -41,6 +43,7 @@ fn object_within(value: Value) -> Option<Map>
     }
 }
 
+/// What the reader's error says of the line.
 fn fault_of(error: &Error) -> LineFault
     ensures { (result ≡ LineFault.NoMemory) ↔ IsMemory error.now }
 {

@@ -1,2 +1,3 @@
+pub mod LaunchLemmas
 pub mod LegalLemmas
 pub mod ReplyLemmas

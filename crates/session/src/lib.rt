@@ -3,6 +3,7 @@
 
 mod fault;
 mod item;
+mod launches;
 mod laws;
 mod read;
 mod reply;

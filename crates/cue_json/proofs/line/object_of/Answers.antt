@@ -1,5 +1,5 @@
 -- The object of the value that was read, or the fault that the error stands for.
-use Rattle.std.proofs.Common.{◌≡◌, List, ℕ, Result, Ok, Err, BTreeMap, String, Global, ◌∙◌, ◌↔◌, subst, sym, IsUtf8, None}
+use Rattle.std.proofs.Common.{◌≡◌, List, ℕ, Err, BTreeMap, String, Global, ◌∙◌, ◌↔◌, IsUtf8, None}
 use Rattle.serde_json.specs.Data.{Members}
 use Rattle.serde_json.specs.Errors.{IsMemory}
 use Rattle.serde_json.specs.Read.{read}

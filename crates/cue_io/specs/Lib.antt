@@ -1,0 +1,10 @@
+pub mod Faults
+pub mod Input
+pub mod Output
+pub mod Readings
+pub mod Lines
+pub mod Reader
+pub mod Window
+pub mod Steps
+pub mod History
+pub mod Memory

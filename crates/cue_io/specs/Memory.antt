@@ -1,0 +1,51 @@
+-- Sources and sinks in memory, with a list of the calls that are to fail, by their number from 1.
+use Rattle.std.specs.Prelude.{ℕ, ◌-◌, Bool, ◌==◌, ◌&&◌, nat_lt, min, List, [], length, if◌then◌else◌}
+use Rattle.std.specs.List.{list_any}
+use Rattle.cue_io.specs.Faults.{counted}
+
+-- the calls that are to fail, and the calls and the faults so far
+pub record Plan : Type 0 where
+  pub fails : List ℕ
+  pub calls : ℕ
+  pub faults : ℕ
+
+-- no call so far
+abbrev pub new_plan : List ℕ → Plan
+new_plan fails = record { fails = fails; calls = 0; faults = 0 }
+
+-- whether the next call is to fail
+abbrev pub is_to_fail : Plan → Bool
+is_to_fail plan = list_any (λ call. call == counted plan.calls) plan.fails
+
+-- one more fault
+abbrev pub with_fault : Plan → Plan
+with_fault plan = record plan { faults = counted plan.faults }
+
+-- one more call, which fails where it is to
+abbrev pub after_call : Plan → Plan
+after_call plan = record plan { calls = counted plan.calls; faults = if is_to_fail plan then counted plan.faults else plan.faults }
+
+-- a source: the bytes left, the most that a read gives, and its calls
+pub record Supply : Type 0 where
+  pub left : List ℕ
+  pub most : ℕ
+  pub plan : Plan
+
+-- how many bytes a read gives into a room of this size
+abbrev pub read_count : Supply → ℕ → ℕ
+read_count supply room = min supply.most (min room (length supply.left))
+
+-- a sink: the bytes written, the most that a write takes, its whole room, and its calls
+pub record Store : Type 0 where
+  pub written : List ℕ
+  pub most : ℕ
+  pub room : ℕ
+  pub plan : Plan
+
+-- how many bytes of a piece of this length a write takes
+abbrev pub write_count : Store → ℕ → ℕ
+write_count store piece = min store.most (min piece (store.room - length store.written))
+
+-- whether nothing was taken of a piece that isn't empty
+abbrev pub takes_none : ℕ → ℕ → Bool
+takes_none count piece = count == 0 && nat_lt 0 piece

@@ -1,0 +1,89 @@
+//! A sink in memory.
+ghost use Rattle.std.specs.Prelude.{◌≡◌, ℕ, ◌<◌, ◌≤◌, ◌++◌, [], ◌&&◌, true, false, Some, length, take, if◌then◌else◌, nat_eq, nat_lt, IfOk, OnErr};
+ghost use Rattle.cue_io.specs.Faults.{HasRisen};
+ghost use Rattle.cue_io.specs.Output.{Adds};
+ghost use Rattle.cue_io.specs.Memory.{Store, after_call, is_to_fail, new_plan, takes_none, with_fault, write_count};
+
+use std::alloc::{AllocError, Global};
+use std::marker::Model;
+
+use crate::fault_plan::FaultPlan;
+use crate::sink::{Sink, SinkFault};
+
+/// A sink that keeps what is written in memory, and fails at the listed calls.
+#[derive(Drop)]
+pub struct MemorySink {
+    bytes: Vec<u8>,
+    most: usize,
+    room: usize,
+    plan: FaultPlan,
+}
+
+impl Model for MemorySink {
+    ghost use Rattle.std.specs.Prelude.{◌≤◌, vec_len, vec_capacity};
+    ghost use Rattle.cue_io.specs.Memory.{Store};
+
+    ghost Value = { Store };
+
+    ghost view = { λ s. record { written = s.bytes.items; most = s.most; room = s.room; plan = s.plan } };
+
+    ghost invariant = { λ s. (vec_len s.bytes ≤ s.room) × (s.room ≤ vec_capacity s.bytes) };
+}
+
+impl MemorySink {
+    /// A sink with room for so many bytes, all taken here. A write takes at most `most` bytes. The calls in `fails` fail, by
+    /// their number from 1.
+    pub fn make(alloc: Global, most: usize, room: usize, fails: &[u64]) -> Result<MemorySink, AllocError>
+        ensures { IfOk result (λ s. s ≡ record { written = []; most = most; room = room; plan = new_plan fails.now }) }
+    {
+        Ok(MemorySink {
+            bytes: Vec::with_capacity(alloc, room)?,
+            most,
+            room,
+            plan: FaultPlan::make(alloc, fails)?,
+        })
+    }
+
+    /// What was written.
+    pub fn written(&self) -> &[u8]
+        ensures { result.now ≡ self.now.written }
+    {
+        &self.bytes
+    }
+
+    /// How many calls failed, or took nothing of a piece that wasn't empty.
+    pub fn faults(&self) -> u64
+        ensures { result ≡ self.now.plan.faults }
+    {
+        self.plan.faults()
+    }
+}
+
+impl Sink for MemorySink {
+    ghost written = { λ s. Some s.written };
+
+    ghost faults = { λ s. s.plan.faults };
+
+    fn write(&mut self, piece: &[u8]) -> Result<usize, SinkFault>
+        ensures count { IfOk result (λ n. n ≤ length piece.now) }
+        ensures adds { IfOk result (λ n. Adds (Some self.old.written) (Some self.new.written) (take n piece.now)) }
+        ensures none_taken { IfOk result (λ n. n ≡ 0 → 0 < length piece.now → HasRisen self.old.plan.faults self.new.plan.faults) }
+        ensures kept { OnErr result (Some self.new.written ≡ Some self.old.written) }
+        ensures cause { OnErr result (HasRisen self.old.plan.faults self.new.plan.faults) }
+        ensures rises { self.old.plan.faults ≤ self.new.plan.faults }
+
+        // exactly what a call does
+        ensures failed { is_to_fail self.old.plan ≡ true → (result ≡ Err SinkFault.Failed) × (self.new ≡ record self.old { plan = after_call self.old.plan }) }
+        ensures took { is_to_fail self.old.plan ≡ false → let n = write_count self.old (length piece.now) in (result ≡ Ok n) × (self.new ≡ record self.old { written = self.old.written ++ take n piece.now; plan = if takes_none n (length piece.now) then with_fault (after_call self.old.plan) else after_call self.old.plan }) }
+    {
+        if self.plan.call() {
+            return Err(SinkFault::Failed);
+        }
+        let count = self.most.min(piece.len().min(self.room - self.bytes.len()));
+        self.bytes.extend_from_slice(&piece[..count]).unwrap();
+        if count == 0 && !piece.is_empty() {
+            self.plan.fault();
+        }
+        Ok(count)
+    }
+}

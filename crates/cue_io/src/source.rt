@@ -1,0 +1,27 @@
+//! Where bytes come from.
+ghost use Rattle.std.specs.Prelude.{◌≡◌, ℕ, ◌<◌, ◌≤◌, List, Option, length, take, IfOk, OnErr};
+ghost use Rattle.cue_io.specs.Faults.{HasRisen};
+ghost use Rattle.cue_io.specs.Input.{Takes, IsAtEnd};
+
+/// Why a read gave nothing.
+#[derive(Clone, Copy, Debug, PartialEq, Eq)]
+pub enum SourceFault {
+    Failed,
+}
+
+/// A source of bytes. It tells what it has `left` where it can, and counts its faults.
+pub trait Source {
+    ghost left: { Self → Option (List ℕ) };
+
+    ghost faults: { Self → ℕ };
+
+    /// Puts bytes at the front of `into` and says how many. None of them, where there is room, is the end of the input.
+    /// The call is Failed only where the count of faults rises in it, and then nothing is taken.
+    fn read(&mut self, into: &mut [u8]) -> Result<usize, SourceFault>
+        ensures count { IfOk result (λ n. n ≤ length into.new) }
+        ensures takes { IfOk result (λ n. Takes (left self.old) (left self.new) (take n into.new)) }
+        ensures end { IfOk result (λ n. n ≡ 0 → 0 < length into.new → IsAtEnd (left self.new)) }
+        ensures kept { OnErr result (left self.new ≡ left self.old) }
+        ensures cause { OnErr result (HasRisen (faults self.old) (faults self.new)) }
+        ensures rises { faults self.old ≤ faults self.new };
+}

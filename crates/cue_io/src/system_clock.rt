@@ -1,0 +1,61 @@
+//! The machine's clock.
+ghost use Rattle.std.specs.Prelude.{◌≡◌, ◌≤◌, [], ◌∷◌, None, IfOk};
+ghost use Rattle.cue_io.specs.Readings.{Shows};
+
+use std::alloc::{AllocError, Global};
+use std::marker::Model;
+use std::rt;
+use std::time::{SystemTime, UNIX_EPOCH};
+
+use crate::clock::Clock;
+
+/// The machine's clock, in seconds since 1970. It never goes back: where the machine's time does, or can't be read, the
+/// last reading stays, at first 0. It is seen as its last reading.
+#[derive(Drop)]
+pub struct SystemClock<R> {
+    rt: R,
+    last: u64,
+}
+
+impl<R> Model for SystemClock<R> {
+    ghost use Rattle.std.specs.Prelude.{ℕ};
+
+    ghost Value = { ℕ };
+
+    ghost view = { λ clock. clock.last };
+}
+
+impl<R> SystemClock<R> {
+    /// A clock that has shown nothing yet.
+    pub fn make(rt: R) -> SystemClock<R>
+        ensures { result ≡ 0 }
+    {
+        SystemClock { rt, last: 0 }
+    }
+}
+
+impl<R: rt::Clock + Clone + Drop> Clock for SystemClock<R> {
+    ghost readings = { λ _. None };
+
+    fn now(&mut self) -> u64
+        ensures shows { Shows None None (result ∷ []) }
+        ensures last { self.new ≡ result }
+        ensures never_back { self.old ≤ result }
+    {
+        if let Ok(time) = SystemTime::now(&self.rt) {
+            if let Ok(since) = time.duration_since(UNIX_EPOCH) {
+                self.last = self.last.max(since.as_secs());
+            }
+        }
+        self.last
+    }
+
+    fn fork(&self, _alloc: Global) -> Result<SystemClock<R>, AllocError>
+        ensures { IfOk result (λ clock. clock ≡ self.now) }
+    {
+        Ok(SystemClock {
+            rt: self.rt.clone()?,
+            last: self.last,
+        })
+    }
+}

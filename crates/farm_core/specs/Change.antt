@@ -1,0 +1,96 @@
+-- Changes that were prepared: what each does to the farm, and what it needs of it.
+use Rattle.std.specs.Prelude.{ℕ, ◌≡◌, ◌<◌, ◌≤◌, Bool, true, false, List, length, map, Option, None, Some, Result, Ok, Err}
+use Rattle.farm_types.specs.declared.entry.Entry.{Entry}
+use Rattle.farm_types.specs.declared.entry.Act.{Act}
+use Rattle.farm_types.specs.declared.entry.Act.TheVariants as act
+use Rattle.farm_types.specs.declared.attempt.ProcRow.{ProcRow}
+use Rattle.farm_types.specs.Farm.{Farm, changed_at, host_named}
+use Rattle.farm_types.specs.Booking.{may_record}
+use Rattle.farm_types.specs.Step.{refusal_of, reopened_row, heard_row, booked_row, end_all, new_proc, at_moment, after}
+use Rattle.farm_core.specs.declared.change.Change.{Change}
+use Rattle.farm_core.specs.declared.change.Effect.{Effect}
+use Rattle.farm_core.specs.declared.change.Effect.TheVariants as effect
+use Rattle.farm_core.specs.declared.change.Answer.{Answer}
+use Rattle.farm_core.specs.declared.change.Answer.TheVariants as answer
+use Rattle.farm_core.specs.declared.fault.PrepareFault.{PrepareFault}
+use Rattle.farm_core.specs.declared.fault.PrepareFault.TheVariants.{Refused, NoMemory}
+
+-- ---- what a change does
+
+abbrev pub after_effect : Farm → ℕ → Effect → Farm
+after_effect f moment effect.Opened = record f { hosts = map (reopened_row moment) f.hosts }
+after_effect f moment (effect.Heard host boot seq done) = end_all (record f { hosts = changed_at f.hosts host (heard_row seq moment) }) host boot done
+after_effect f moment (effect.Book slot p) = record f { slots = changed_at f.slots slot (booked_row p) }
+
+-- the farm after the change
+abbrev pub after_change : Farm → Change → Farm
+after_change f change = after_effect (at_moment f change.moment) change.moment change.effect
+
+-- ---- what a change needs of the farm
+
+-- the slot's frame may be booked on the attempt's host, and the attempt is the one that the farm makes there at its moment
+pub record IsBooking (f : Farm) (slot : ℕ) (p : ProcRow) : Type 0 where
+  pub allowed : may_record f slot p.host ≡ true
+  pub made : new_proc f slot p.host p.since ≡ Some p
+
+abbrev pub Fits : Farm → Effect → Type 0
+Fits f effect.Opened = Unit {0}
+Fits f (effect.Heard host boot seq done) = host < length f.hosts
+Fits f (effect.Book slot p) = IsBooking f slot p
+
+-- the farm isn't past the change's moment, and the change fits it
+pub record IsReady (f : Farm) (change : Change) : Type 0 where
+  pub ahead : f.moment ≤ change.moment
+  pub fits : Fits f change.effect
+
+-- whether room was reserved for the change
+abbrev pub is_reserved : Change → Bool
+is_reserved change = change.reserved
+
+-- the same change, with its room reserved
+abbrev pub reserved_of : Change → Change
+reserved_of change = record change { reserved = true }
+
+-- ---- answers
+
+abbrev pub answer_to : Act → Answer
+answer_to act.Opened = answer.Opened
+answer_to (act.Heard heard) = answer.Heard
+answer_to (act.Book slot host) = answer.Booked
+
+abbrev pub answer_by : Effect → Answer
+answer_by effect.Opened = answer.Opened
+answer_by (effect.Heard host boot seq done) = answer.Heard
+answer_by (effect.Book slot p) = answer.Booked
+
+-- what the farm answers to the change
+abbrev pub answer_of : Change → Answer
+answer_of change = answer_by change.effect
+
+-- ---- preparing
+
+-- the host is there
+abbrev pub IsThere : Farm → Option ℕ → Type 0
+IsThere f None = ⊥
+IsThere f (Some host) = host < length f.hosts
+
+-- the host that was heard is there
+abbrev pub HasHeard : Farm → Act → Type 0
+HasHeard f (act.Heard heard) = IsThere f (host_named f heard.host)
+HasHeard f act = Unit {0}
+
+-- The farm doesn't refuse the entry. The change fits the farm, makes the farm that the entry makes, and has the entry's answer.
+-- Its room isn't reserved yet.
+pub record Makes (f : Farm) (e : Entry) (change : Change) : Type 0 where
+  pub accepted : refusal_of f e ≡ None
+  pub heard : HasHeard f e.act
+  pub ready : IsReady f change
+  pub unreserved : is_reserved change ≡ false
+  pub farm : after_change f change ≡ after f e
+  pub answer : answer_of change ≡ answer_to e.act
+
+-- a change that makes the entry, or exactly the farm's refusal; want of memory needs no cause
+abbrev pub Prepares : Farm → Entry → Result Change PrepareFault → Type 0
+Prepares f e (Ok change) = Makes f e change
+Prepares f e (Err (Refused why)) = refusal_of f e ≡ Some why
+Prepares f e (Err NoMemory) = Unit {0}

@@ -1,0 +1,3 @@
+pub mod Consistent
+pub mod Change
+pub mod Reads

@@ -1,0 +1,180 @@
+//! When a frame may be booked on a host.
+
+ghost use Rattle.std.specs.Prelude.{◌≡◌, ◌<◌, ◌++◌, ◌∷◌, [], length, true, option_copied, bytes_eq, IfSome};
+ghost use Rattle.std.specs.List.{list_any};
+ghost use Rattle.farm_types.specs.Farm.{sub_at, sub_of};
+ghost use Rattle.farm_types.specs.Depends.{is_open};
+ghost use Rattle.farm_types.specs.Booking.{is_ready, in_facility, takes_frames, has_room, within_burst, may_place, may_record, may_book, tags_match, share_tag, tags_of};
+
+use farm_types::{
+    AllocNo, AllocRow, FrameRow, FrameState, HostNo, HostRow, HostState, JobRow, JobState,
+    LayerRow, LockState, ShowNo, Slot, SlotRow, SubRow, Text, Version,
+};
+
+use crate::farm::Farm;
+
+/// The last version of a slot, at which it stays.
+const LAST_VERSION: u32 = 16_777_215;
+
+impl Farm {
+    /// Whether a booking of the slot's frame on the host may be recorded.
+    pub fn may_record(&self, slot: Slot, host: HostNo) -> bool
+        ensures { result ≡ may_record self.now slot host }
+    {
+        let Some(row) = self.slot(slot) else {
+            return false;
+        };
+        let Some(frame) = &row.frame else {
+            return false;
+        };
+        let Some(job) = self.job(frame.job) else {
+            return false;
+        };
+        let Some(layer) = self.layer(frame.job, frame.layer) else {
+            return false;
+        };
+        let Some(h) = self.host(host) else {
+            return false;
+        };
+        self.may_place(slot, host, row.version, frame, job, layer, h)
+    }
+
+    /// Whether the slot's frame may be booked on the host.
+    pub fn may_book(&self, slot: Slot, host: HostNo) -> bool
+        ensures { result ≡ may_book self.now slot host }
+    {
+        self.may_record(slot, host) && self.tags_match(slot, host)
+    }
+
+    // The subscription of the show to the allocation.
+    pub(crate) fn sub_of(&self, show: ShowNo, alloc: AllocNo) -> Option<&SubRow>
+        ensures value { option_copied result ≡ sub_at self.now (sub_of show alloc) }
+        ensures number { IfSome result (λ s. s.now.sub ≡ sub_of show alloc) }
+    {
+        let number = 16 * u32::from(show.0) + u32::from(alloc.0);
+        self.subs.iter().find(|s| u32::from(s.sub.0) == number)
+    }
+
+    // Whether the frame of that job and layer may be booked on the host.
+    fn may_place(
+        &self,
+        slot: Slot,
+        host: HostNo,
+        version: Version,
+        frame: &FrameRow,
+        job: &JobRow,
+        layer: &LayerRow,
+        h: &HostRow,
+    ) -> bool
+        requires { host < length self.now.hosts }
+        ensures { result ≡ may_place self.now slot host version frame.now job.now layer.now h.now }
+    {
+        is_ready(version, frame, job)
+            && self.is_open(slot)
+            && self.in_facility(h.alloc, &job.facility)
+            && takes_frames(h)
+            && self.has_room(host, h, layer)
+            && self.within_burst(job.show, h.alloc, layer)
+    }
+
+    // Whether the frame in the slot waits for no other. The farm has no depends yet.
+    fn is_open(&self, slot: Slot) -> bool
+        ensures { result ≡ is_open self.now slot }
+    {
+        let _moment = self.moment;
+        let _slot = slot;
+        true
+    }
+
+    // Whether the facility is that of the allocation.
+    fn in_facility(&self, alloc: AllocNo, facility: &Text) -> bool
+        ensures { result ≡ in_facility self.now alloc facility.now }
+    {
+        match self.allocation(alloc) {
+            None => false,
+            Some(a) => a.facility.is(facility.as_str()),
+        }
+    }
+
+    // Whether there is room on the host for the layer's amounts.
+    fn has_room(&self, host: HostNo, h: &HostRow, layer: &LayerRow) -> bool
+        requires { host < length self.now.hosts }
+        ensures { result ≡ has_room self.now host h.now layer.now }
+    {
+        let (cores, memory) = self.used(host);
+        u64::from(cores.0) + u64::from(layer.cores.0) <= u64::from(h.cores.0)
+            && u128::from(memory.0) + u128::from(layer.memory.0) <= u128::from(h.memory.0)
+    }
+
+    // Whether the booked cores with the layer's are within the burst of the show's subscription.
+    fn within_burst(&self, show: ShowNo, alloc: AllocNo, layer: &LayerRow) -> bool
+        ensures { result ≡ within_burst self.now (sub_of show alloc) layer.now }
+    {
+        match self.sub_of(show, alloc) {
+            None => false,
+            Some(s) => {
+                u64::from(self.booked(s.sub).0) + u64::from(layer.cores.0) <= u64::from(s.burst.0)
+            }
+        }
+    }
+
+    // Whether the tags of the slot's layer and those of the host share a word.
+    fn tags_match(&self, slot: Slot, host: HostNo) -> bool
+        ensures { result ≡ tags_match self.now slot host }
+    {
+        let Some(row) = self.slot(slot) else {
+            return false;
+        };
+        let Some(frame) = row.frame else {
+            return false;
+        };
+        let Some(layer) = self.layer(frame.job, frame.layer) else {
+            return false;
+        };
+        let Some(h) = self.host(host) else {
+            return false;
+        };
+        let Some(a) = self.allocation(h.alloc) else {
+            return false;
+        };
+        share_tag(layer, h, a)
+    }
+}
+
+// Whether the frame waits below the last version, and its job is pending and not paused.
+fn is_ready(version: Version, frame: &FrameRow, job: &JobRow) -> bool
+    ensures { result ≡ is_ready version frame.now job.now }
+{
+    matches!(frame.state, FrameState::Waiting)
+        && version.0 < LAST_VERSION
+        && matches!(job.state, JobState::Pending)
+        && !job.paused
+}
+
+// Whether the host is up and open.
+fn takes_frames(h: &HostRow) -> bool
+    ensures { result ≡ takes_frames h.now }
+{
+    matches!(h.state, HostState::Up) && matches!(h.lock, LockState::Unlocked)
+}
+
+// Whether the layer and the host have a tag in common. A host's tags are its own and its allocation's.
+fn share_tag(layer: &LayerRow, h: &HostRow, a: &AllocRow) -> bool
+    ensures { result ≡ share_tag layer.now.tags (tags_of h.now a.now) }
+{
+    layer.tags.as_slice().iter().any(|tag| has_tag(tag, h, a))
+}
+
+// Whether the host has the tag.
+fn has_tag(tag: &Text, h: &HostRow, a: &AllocRow) -> bool
+    ensures { result ≡ list_any (λ y. bytes_eq tag.now y) (tags_of h.now a.now) }
+{
+    is_among(tag, h.tags.as_slice()) || tag.is(a.tag.as_str())
+}
+
+// Whether the tag is one of these.
+fn is_among(tag: &Text, tags: &[Text]) -> bool
+    ensures { result ≡ list_any (λ y. bytes_eq tag.now y) tags.now }
+{
+    tags.iter().any(|y| tag.is(y.as_str()))
+}

@@ -1,0 +1,156 @@
+//! The farm: its rows as plain lists, and the calls that read one of them.
+
+ghost use Rattle.std.specs.Prelude.{◌≡◌, ◌<◌, length, slice_get, option_copied, IfSome, true, string_bytes};
+ghost use Rattle.farm_types.specs.Farm.{host_named, job_at, layer_at, sub_at};
+ghost use Rattle.farm_types.specs.Depends.{is_open};
+ghost use Rattle.farm_types.specs.Step.{is_live};
+ghost use Rattle.farm_core.specs.Reads.{live_at};
+
+use std::marker::Model;
+
+use farm_types::{
+    AllocNo, AllocRow, Attempt, HostNo, HostRow, JobNo, JobRow, LayerRow, ProcRow, ShowNo, ShowRow,
+    Slot, SlotRow, SubNo, SubRow,
+};
+
+/// The farm's rows, each list in the order of its numbers, and its counters. `slots` ends with the last slot that
+/// was ever used.
+#[derive(Debug, Drop)]
+pub struct Farm {
+    pub(crate) shows: Vec<ShowRow>,
+    pub(crate) allocs: Vec<AllocRow>,
+    pub(crate) subs: Vec<SubRow>,
+    pub(crate) hosts: Vec<HostRow>,
+    pub(crate) jobs: Vec<JobRow>,
+    pub(crate) layers: Vec<LayerRow>,
+    pub(crate) slots: Vec<SlotRow>,
+    pub(crate) next_job: u64,
+    pub(crate) next_depend: u64,
+    pub(crate) next_finish: u64,
+    pub(crate) moment: u64,
+    pub(crate) marked: bool,
+}
+
+impl Model for Farm {
+    ghost use Rattle.std.specs.Prelude.{[]};
+    ghost use Rattle.farm_types.specs.Farm as types;
+    ghost use Rattle.farm_core.specs.Consistent.{IsConsistent};
+
+    ghost Value = { types.Farm };
+
+    ghost view = { λ a.
+        record {
+          shows = a.shows.items;
+          allocs = a.allocs.items;
+          subs = a.subs.items;
+          hosts = a.hosts.items;
+          jobs = a.jobs.items;
+          layers = a.layers.items;
+          slots = a.slots.items;
+          depends = [];
+          met = [];
+          next_job = a.next_job;
+          next_depend = a.next_depend;
+          next_finish = a.next_finish;
+          moment = a.moment;
+          marked = a.marked;
+        }
+    };
+
+    ghost invariant = { λ a.
+        let f : types.Farm =
+            record {
+              shows = a.shows.items;
+              allocs = a.allocs.items;
+              subs = a.subs.items;
+              hosts = a.hosts.items;
+              jobs = a.jobs.items;
+              layers = a.layers.items;
+              slots = a.slots.items;
+              depends = [];
+              met = [];
+              next_job = a.next_job;
+              next_depend = a.next_depend;
+              next_finish = a.next_finish;
+              moment = a.moment;
+              marked = a.marked;
+            }
+        in
+        IsConsistent f
+    };
+}
+
+impl Farm {
+    /// The moment (seconds) that the farm is at.
+    pub fn moment(&self) -> u64
+        ensures { result ≡ self.now.moment }
+    {
+        self.moment
+    }
+
+    /// The slots, each at its number, up to the last that was ever used.
+    pub fn slots(&self) -> &[SlotRow]
+        ensures { result.now ≡ self.now.slots }
+    {
+        self.slots.as_slice()
+    }
+
+    /// The show of that number.
+    pub fn show(&self, show: ShowNo) -> Option<&ShowRow>
+        ensures { option_copied result ≡ slice_get self.now.shows show }
+    {
+        self.shows.get(usize::from(show.0))
+    }
+
+    /// The allocation of that number.
+    pub fn allocation(&self, alloc: AllocNo) -> Option<&AllocRow>
+        ensures { option_copied result ≡ slice_get self.now.allocs alloc }
+    {
+        self.allocs.get(usize::from(alloc.0))
+    }
+
+    /// The host of that number.
+    pub fn host(&self, host: HostNo) -> Option<&HostRow>
+        ensures { option_copied result ≡ slice_get self.now.hosts host }
+    {
+        self.hosts.get(usize::from(host.0))
+    }
+
+    /// The subscription of that number.
+    pub fn sub(&self, sub: SubNo) -> Option<&SubRow>
+        ensures { option_copied result ≡ sub_at self.now sub }
+    {
+        self.subs.iter().find(|s| s.sub == sub)
+    }
+
+    /// The job of that number.
+    pub fn job(&self, job: JobNo) -> Option<&JobRow>
+        ensures { option_copied result ≡ job_at self.now job }
+    {
+        self.jobs.iter().find(|j| j.job == job)
+    }
+
+    /// The layer at that place (from 0) of a job.
+    pub fn layer(&self, job: JobNo, place: u32) -> Option<&LayerRow>
+        ensures { option_copied result ≡ layer_at self.now job place }
+    {
+        self.layers.iter().find(|l| l.job == job && l.place == place)
+    }
+
+    /// What stands in a slot, none past the last that was ever used.
+    pub(crate) fn slot(&self, slot: Slot) -> Option<SlotRow>
+        ensures { result ≡ slice_get self.now.slots slot }
+    {
+        self.slots.get(slot.0 as usize).copied()
+    }
+
+    /// The live attempt of a slot.
+    pub fn live(&self, slot: Slot) -> Option<ProcRow>
+        ensures { result ≡ live_at self.now slot }
+    {
+        match self.slot(slot) {
+            None => None,
+            Some(row) => row.proc,
+        }
+    }
+}
