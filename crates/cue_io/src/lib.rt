@@ -15,6 +15,8 @@ mod output_sink;
 mod sink;
 mod source;
 mod system_clock;
+#[cfg(test)]
+mod tests;
 mod window;
 
 pub use clock::Clock;

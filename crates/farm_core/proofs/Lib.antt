@@ -1,8 +1,10 @@
 pub mod Booked
 pub mod CanBook
 pub mod Changed
+pub mod Count
 pub mod DemoFarm
 pub mod Ended
 pub mod Hosts
+pub mod Keeps
 pub mod Lists
 pub mod Within

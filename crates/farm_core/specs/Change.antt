@@ -4,6 +4,7 @@ use Rattle.farm_types.specs.declared.entry.Entry.{Entry}
 use Rattle.farm_types.specs.declared.entry.Act.{Act}
 use Rattle.farm_types.specs.declared.entry.Act.TheVariants as act
 use Rattle.farm_types.specs.declared.attempt.ProcRow.{ProcRow}
+use Rattle.farm_types.specs.declared.refusal.Refusal.TheVariants.{Unknown}
 use Rattle.farm_types.specs.Farm.{Farm, changed_at, host_named}
 use Rattle.farm_types.specs.Booking.{may_record}
 use Rattle.farm_types.specs.Step.{refusal_of, reopened_row, heard_row, booked_row, end_all, new_proc, at_moment, after}
@@ -94,3 +95,8 @@ abbrev pub Prepares : Farm → Entry → Result Change PrepareFault → Type 0
 Prepares f e (Ok change) = Makes f e change
 Prepares f e (Err (Refused why)) = refusal_of f e ≡ Some why
 Prepares f e (Err NoMemory) = Unit {0}
+
+-- a refusal that nothing of that name is there, or want of memory
+abbrev pub IsUnknown : List ℕ → PrepareFault → Type 0
+IsUnknown name (Refused why) = why ≡ Unknown name
+IsUnknown name NoMemory = Unit {0}

@@ -1,3 +1,4 @@
 pub mod LaunchLemmas
 pub mod LegalLemmas
 pub mod ReplyLemmas
+pub mod RoundLemmas

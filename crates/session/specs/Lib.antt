@@ -1,3 +1,4 @@
+pub mod Answers
 pub mod Launches
 pub mod Reads
 pub mod Replies

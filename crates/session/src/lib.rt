@@ -7,6 +7,7 @@ mod launches;
 mod laws;
 mod read;
 mod reply;
+mod round;
 
 pub use fault::ReadFault;
 pub use laws::sessions_are_legal;

@@ -1,0 +1,13 @@
+use Rattle.std.proofs.Common.{sym, subst}
+use Rattle.std.specs.List.{slice_set}
+use Rattle.farm_types.specs.Farm.{Farm}
+use Rattle.farm_types.specs.Step.{booked_row}
+use Rattle.farm_core.specs.Consistent.{IsConsistent}
+use Rattle.farm_core.proofs.Keeps.{set_booked_consistent}
+use Rattle.farm_core.proofs.farm.Farm.book.Goals as goal
+
+pub invariant_of-self : goal.invariant_of-self
+invariant_of-self c =
+    let ok = subst IsConsistent c.self.view_is c.self.invariant in
+    let new = set_booked_consistent c.args.self.now c.args.slot c.args.proc c.in-Some.row c.requires (sym c.in-Some.ensures) ok in
+    rw (c.set_row.ensures, c.booked_row-booked.ensures) (subst (λ (f : Farm). IsConsistent (record f { slots = slice_set f.slots c.args.slot (booked_row c.args.proc c.in-Some.row) })) (sym c.self.view_is) new)

@@ -1,0 +1,82 @@
+//! What becomes of a frame whose attempt completed.
+
+ghost use Rattle.std.specs.Prelude.{◌≡◌};
+ghost use Rattle.farm_types.specs.Farm.{job_at};
+ghost use Rattle.farm_types.specs.Step.{judged, verdict_for, ended_row};
+ghost use Rattle.farm_types.specs.Verdict.{verdict_of};
+
+use farm_types::{Exit, FrameRow, FrameState, SlotRow, Verdict};
+
+use crate::farm::Farm;
+
+/// The status of a process that asks for another try, which counts as no retry.
+const TRY_AGAIN: u32 = 286;
+
+/// The status of a process that failed and asks for no other try.
+const GIVEN_UP: u32 = 256;
+
+impl Farm {
+    // The slot without its attempt, its frame judged by the exit.
+    pub(crate) fn ended_row(&self, exit: Exit, row: &SlotRow) -> SlotRow
+        ensures { result ≡ ended_row self.now exit row.now }
+    {
+        let frame = match &row.frame {
+            None => None,
+            Some(frame) => Some(judged(frame, self.verdict_for(exit, frame))),
+        };
+        SlotRow {
+            version: row.version,
+            frame,
+            proc: None,
+        }
+    }
+
+    // The verdict by the job's greatest number of retries and whether it eats its failures.
+    fn verdict_for(&self, exit: Exit, frame: &FrameRow) -> Verdict
+        ensures { result ≡ verdict_for exit frame.now (job_at self.now frame.now.job) }
+    {
+        match self.job(frame.job) {
+            None => verdict(exit, frame.retries, 0, false),
+            Some(job) => verdict(exit, frame.retries, job.max_retries, job.auto_eat),
+        }
+    }
+}
+
+// The first case that applies: a clean exit succeeds, a process that asks for another try waits again, a job that
+// eats its failures eats the frame, one that gave up is dead, and so is a frame without a retry left.
+fn verdict(exit: Exit, retries: u32, most: u32, auto_eat: bool) -> Verdict
+    ensures { result ≡ verdict_of exit retries most auto_eat }
+{
+    if exit.status == 0 && exit.signal == 0 {
+        Verdict::Succeeded
+    } else if exit.status == TRY_AGAIN {
+        Verdict::Waiting { retries }
+    } else if auto_eat {
+        Verdict::Eaten
+    } else if exit.status == GIVEN_UP {
+        Verdict::Dead
+    } else if most <= retries {
+        Verdict::Dead
+    } else {
+        Verdict::Waiting {
+            retries: retries + 1,
+        }
+    }
+}
+
+// The frame as the verdict leaves it.
+fn judged(frame: &FrameRow, verdict: Verdict) -> FrameRow
+    ensures { result ≡ judged frame.now verdict }
+{
+    let mut judged = *frame;
+    match verdict {
+        Verdict::Succeeded => judged.state = FrameState::Succeeded,
+        Verdict::Waiting { retries } => {
+            judged.state = FrameState::Waiting;
+            judged.retries = retries;
+        }
+        Verdict::Eaten => judged.state = FrameState::Eaten,
+        Verdict::Dead => judged.state = FrameState::Dead,
+    }
+    judged
+}
