@@ -7,4 +7,8 @@ pub mod Ended
 pub mod Hosts
 pub mod Keeps
 pub mod Lists
+pub mod Once
+pub mod Ranks
+pub mod SafeRuns
+pub mod Spent
 pub mod Within

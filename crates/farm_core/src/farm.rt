@@ -1,15 +1,13 @@
 //! The farm: its rows as plain lists, and the calls that read one of them.
 
-ghost use Rattle.std.specs.Prelude.{◌≡◌, ◌<◌, length, slice_get, option_copied, IfSome, true, string_bytes};
-ghost use Rattle.farm_types.specs.Farm.{host_named, job_at, layer_at, sub_at};
-ghost use Rattle.farm_types.specs.Depends.{is_open};
-ghost use Rattle.farm_types.specs.Step.{is_live};
+ghost use Rattle.std.specs.Prelude.{◌≡◌, ◌≤◌, length, slice_get, option_copied};
+ghost use Rattle.farm_types.specs.Farm.{job_at, layer_at, sub_at};
 ghost use Rattle.farm_core.specs.Reads.{live_at};
 
 use std::marker::Model;
 
 use farm_types::{
-    AllocNo, AllocRow, Attempt, HostNo, HostRow, JobNo, JobRow, LayerRow, ProcRow, ShowNo, ShowRow,
+    AllocNo, AllocRow, HostNo, HostRow, JobNo, JobRow, LayerRow, ProcRow, ShowNo, ShowRow,
     Slot, SlotRow, SubNo, SubRow,
 };
 
@@ -90,7 +88,8 @@ impl Farm {
 
     /// The slots, each at its number, up to the last that was ever used.
     pub fn slots(&self) -> &[SlotRow]
-        ensures { result.now ≡ self.now.slots }
+        ensures value { result.now ≡ self.now.slots }
+        ensures count { length result.now ≤ 65536 }
     {
         self.slots.as_slice()
     }

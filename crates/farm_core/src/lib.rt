@@ -7,8 +7,11 @@ mod change;
 mod demo;
 mod farm;
 mod fault;
+mod law;
 mod look;
+mod planning;
 mod prepare;
+mod rank;
 mod sums;
 mod verdict;
 
@@ -16,3 +19,5 @@ pub use change::{Answer, Change};
 pub use demo::demo_farm;
 pub use farm::Farm;
 pub use fault::PrepareFault;
+pub use law::legal_runs_are_safe;
+pub use planning::plan;

@@ -1,3 +1,4 @@
+pub mod AnswerLemmas
 pub mod LaunchLemmas
 pub mod LegalLemmas
 pub mod ReplyLemmas

@@ -2,3 +2,4 @@ pub mod Answers
 pub mod Launches
 pub mod Reads
 pub mod Replies
+pub mod Sessions

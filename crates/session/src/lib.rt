@@ -1,6 +1,7 @@
 //! A session: lines in, replies out.
 #![tactic(auto)]
 
+mod answer;
 mod fault;
 mod item;
 mod launches;
@@ -8,7 +9,10 @@ mod laws;
 mod read;
 mod reply;
 mod round;
+mod turn;
+mod turned;
 
+pub use answer::answer_line;
 pub use fault::ReadFault;
 pub use laws::sessions_are_legal;
 pub use read::read_report;

@@ -6,8 +6,8 @@ ghost use Rattle.farm_types.specs.Dispatch.{book_entry, round_from, bookings_eac
 ghost use Rattle.farm_types.specs.Step.{after};
 ghost use Rattle.session.specs.Answers.{IsRound, IsPartOf, IsOffered, cut_text};
 
-use farm_core::{Farm, PrepareFault};
-use farm_types::{Act, Candidate, Entry};
+use farm_core::{Farm, PrepareFault, plan};
+use farm_types::{Act, Candidate, Entry, HostNo};
 use std::alloc::{AllocError, Global};
 
 // How many bookings follow a report at most.
@@ -29,6 +29,16 @@ impl Cut {
             Cut::Whole => "",
             Cut::Memory => "memory",
         }
+    }
+}
+
+/// Books the frames that the plan for the host offers, in turn, each where it still may be booked.
+pub fn round(alloc: Global, farm: &mut Farm, host: HostNo, moment: u64) -> Cut
+    ensures { IsRound farm.old host moment result farm.new }
+{
+    match plan(alloc, farm, host) {
+        Ok(candidates) => book_in_turn(alloc, farm, moment, candidates.as_slice()),
+        Err(_) => Cut::Memory,
     }
 }
 

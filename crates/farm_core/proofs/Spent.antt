@@ -1,0 +1,142 @@
+-- Attempts that are spent: of a version below their slot's, or of the slot's while it has no live attempt.
+use Rattle.std.proofs.Common.{◌≡◌, ◌≢◌, ℕ, ◌+◌, ◌<◌, ◌≤◌, Bool, true, false, cond, eqb, ◌&&◌, List, [], ◌∷◌, Option, Some, None, refl, sym, ap, subst, ◌∙◌, arith, ◌⊎◌, inl, inr, option_map}
+use Rattle.std.specs.List.{slice_get}
+use Rattle.std.proofs.lemmas.Option.{none-some, same_Some}
+use Rattle.std.proofs.lemmas.Bool.{false≢true, eqb-true}
+use Rattle.farm_types.specs.declared.attempt.Attempt.{Attempt}
+use Rattle.farm_types.specs.declared.attempt.DoneItem.{DoneItem}
+use Rattle.farm_types.specs.declared.attempt.Exit.{Exit}
+use Rattle.farm_types.specs.declared.attempt.ProcRow.{ProcRow}
+use Rattle.farm_types.specs.declared.slot_row.SlotRow.{SlotRow}
+use Rattle.farm_types.specs.declared.slot_row.FrameRow.{FrameRow}
+use Rattle.farm_types.specs.declared.states.FrameState.{FrameState}
+use Rattle.farm_types.specs.declared.states.FrameState.TheVariants.{Waiting, Setup, Running, Succeeded, Depend, Dead, Eaten}
+use Rattle.farm_types.specs.Farm.{Farm, changed_at}
+use Rattle.farm_types.specs.Run.{IsSound, HasItsAttempt, IsAttemptOf, is_same}
+use Rattle.farm_types.specs.Step.{is_attempt, is_live, ended_row, end_attempt, end_all, booked_row}
+use Rattle.farm_core.proofs.Lists.{and_both, for_some_true}
+use Rattle.farm_core.proofs.Changed.{changed_at_each}
+
+abbrev pub IsSpentAt : Attempt → SlotRow → Type 0
+IsSpentAt a s = (a.version < s.version) ⊎ ((a.version ≡ s.version) × (s.proc ≡ None))
+
+abbrev pub IsSpent : Farm → Attempt → Type 0
+IsSpent f a = (s : SlotRow) → slice_get f.slots a.slot ≡ Some s → IsSpentAt a s
+
+-- ---- a live attempt has its slot's version
+
+live_state : (place version : ℕ) (state : FrameState) (p : ProcRow) → IsAttemptOf place version state (Some p) → p.version ≡ version
+live_state place version Waiting p h = absurd h
+live_state place version Setup p h = absurd h
+live_state place version Running p h = h.1
+live_state place version Succeeded p h = absurd h
+live_state place version Depend p h = absurd h
+live_state place version Dead p h = absurd h
+live_state place version Eaten p h = absurd h
+
+live_frame : (place version : ℕ) (frame : Option FrameRow) (p : ProcRow) → HasItsAttempt place version frame (Some p) → p.version ≡ version
+live_frame place version None p h = absurd h
+live_frame place version (Some frame) p h = live_state place version frame.state p h
+
+live_version : (place : ℕ) (s : SlotRow) (p : ProcRow) → s.proc ≡ Some p → HasItsAttempt place s.version s.frame s.proc → p.version ≡ s.version
+live_version place s p e h = live_frame place s.version s.frame p (subst (λ (o : Option ProcRow). HasItsAttempt place s.version s.frame o) e h)
+
+-- the slot and the record of an attempt that is live
+record LiveIn (f : Farm) (a : Attempt) : Type 0 where
+  slot : SlotRow
+  live : ProcRow
+  slot_is : slice_get f.slots a.slot ≡ Some slot
+  live_is : slot.proc ≡ Some live
+  version : a.version ≡ slot.version
+
+live_in : (f : Farm) (host boot : ℕ) (a : Attempt) → IsSound f → is_live f host boot a.slot a.version ≡ true → LiveIn f a
+live_in f host boot a ok h =
+    let s = for_some_true (slice_get f.slots a.slot) _ h in
+    let p = for_some_true s.0.proc _ s.2 in
+    let both = and_both (eqb p.0.version a.version && eqb p.0.host host) (eqb p.0.boot boot) p.2 in
+    let first = and_both (eqb p.0.version a.version) (eqb p.0.host host) both.0 in
+    record {
+      slot = s.0;
+      live = p.0;
+      slot_is = s.1;
+      live_is = p.1;
+      version = sym (eqb-true p.0.version a.version first.0) ∙ live_version a.slot s.0 p.0 p.1 (ok.attempts a.slot s.0 s.1);
+    }
+
+spent_or_live : (a : Attempt) (s : SlotRow) (p : ProcRow) → s.proc ≡ Some p → a.version ≡ s.version → IsSpentAt a s → ⊥
+spent_or_live a s p e v (inl below) = omega arith
+spent_or_live a s p e v (inr h) = none-some p (sym h.1 ∙ e)
+
+not_live_by : (f : Farm) (host boot : ℕ) (a : Attempt) (b : Bool) → IsSound f → IsSpent f a → is_live f host boot a.slot a.version ≡ b → b ≡ false
+not_live_by f host boot a true ok spent e =
+    let l = live_in f host boot a ok e in
+    absurd (spent_or_live a l.slot l.live l.live_is l.version (spent l.slot l.slot_is))
+not_live_by f host boot a false ok spent e = refl
+
+-- a spent attempt is never live
+pub spent_not_live : (f : Farm) (host boot : ℕ) (a : Attempt) → IsSound f → IsSpent f a → is_live f host boot a.slot a.version ≡ false
+spent_not_live f host boot a ok spent = not_live_by f host boot a (is_live f host boot a.slot a.version) ok spent refl
+
+-- ---- spent stays spent
+
+spent_changed : (ss : List SlotRow) (i : ℕ) (change : SlotRow → SlotRow) (a : Attempt) → ((s : SlotRow) → slice_get ss i ≡ Some s → IsSpentAt a s → IsSpentAt a (change s)) → ((s : SlotRow) → slice_get ss a.slot ≡ Some s → IsSpentAt a s) → (s : SlotRow) → slice_get (changed_at ss i change) a.slot ≡ Some s → IsSpentAt a s
+spent_changed ss i change a step had s at =
+    changed_at_each (λ k y. a.slot ≡ k → IsSpentAt a y) ss i change
+      (λ x here e. step x here (had x (subst (λ (n : ℕ). slice_get ss n ≡ Some x) (sym e) here)))
+      (λ k x apart there e. had x (subst (λ (n : ℕ). slice_get ss n ≡ Some x) (sym e) there))
+      a.slot s at refl
+
+ended_stays : (f : Farm) (exit : Exit) (a : Attempt) (s : SlotRow) → IsSpentAt a s → IsSpentAt a (ended_row f exit s)
+ended_stays f exit a s (inl below) = inl below
+ended_stays f exit a s (inr h) = inr (h.0, refl)
+
+spent_ended : (f : Farm) (slot : ℕ) (exit : Exit) (a : Attempt) → IsSpent f a → IsSpent (record f { slots = changed_at f.slots slot (ended_row f exit) }) a
+spent_ended f slot exit a spent = spent_changed f.slots slot (ended_row f exit) a (λ s at h. ended_stays f exit a s h) spent
+
+spent_by : (b : Bool) (f g : Farm) (a : Attempt) → IsSpent f a → IsSpent g a → IsSpent (cond b f g) a
+spent_by true f g a x y = x
+spent_by false f g a x y = y
+
+pub spent_end : (f : Farm) (host boot : ℕ) (d : DoneItem) (a : Attempt) → IsSpent f a → IsSpent (end_attempt f host boot d) a
+spent_end f host boot d a spent = spent_by (is_live f host boot d.attempt.slot d.attempt.version) _ f a (spent_ended f d.attempt.slot d.exit a spent) spent
+
+pub spent_end_all : (f : Farm) (host boot : ℕ) (ds : List DoneItem) (a : Attempt) → IsSpent f a → IsSpent (end_all f host boot ds) a
+spent_end_all f host boot [] a spent = spent
+spent_end_all f host boot (d ∷ ds) a spent = spent_end_all (end_attempt f host boot d) host boot ds a (spent_end f host boot d a spent)
+
+booked_stays : (p : ProcRow) (a : Attempt) (s : SlotRow) → s.version < p.version → IsSpentAt a s → IsSpentAt a (booked_row p s)
+booked_stays p a s above (inl below) = inl (omega arith)
+booked_stays p a s above (inr h) = inl (omega (arith, h.0))
+
+-- a booking raises its slot's version
+pub spent_booked : (f : Farm) (slot : ℕ) (p : ProcRow) (a : Attempt) → ((s : SlotRow) → slice_get f.slots slot ≡ Some s → s.version < p.version) → IsSpent f a → IsSpent (record f { slots = changed_at f.slots slot (booked_row p) }) a
+spent_booked f slot p a above spent = spent_changed f.slots slot (booked_row p) a (λ s at h. booked_stays p a s (above s at) h) spent
+
+-- ---- what counts is spent
+
+live_ends : (f : Farm) (d : DoneItem) → LiveIn f d.attempt → IsSpent (record f { slots = changed_at f.slots d.attempt.slot (ended_row f d.exit) }) d.attempt
+live_ends f d l s at =
+    changed_at_each (λ k y. d.attempt.slot ≡ k → IsSpentAt d.attempt y) f.slots d.attempt.slot (ended_row f d.exit)
+      (λ x here e. inr (l.version ∙ ap (λ (r : SlotRow). r.version) (same_Some l.slot x (sym l.slot_is ∙ here)), refl))
+      (λ k x apart there e. absurd (apart (sym e)))
+      d.attempt.slot s at refl
+
+-- a completion that counts leaves its attempt spent
+pub counted_spent : (f : Farm) (host boot : ℕ) (d : DoneItem) → IsSound f → is_live f host boot d.attempt.slot d.attempt.version ≡ true → IsSpent (end_attempt f host boot d) d.attempt
+counted_spent f host boot d ok h =
+    subst (λ (b : Bool). IsSpent (cond b (record f { slots = changed_at f.slots d.attempt.slot (ended_row f d.exit) }) f) d.attempt) (sym h) (live_ends f d (live_in f host boot d.attempt ok h))
+
+same_slot : (a b : Attempt) → is_same a b ≡ true → (a.slot ≡ b.slot) × (a.version ≡ b.version)
+same_slot a b h =
+    let both = and_both (eqb a.slot b.slot) (eqb a.version b.version) h in
+    (eqb-true a.slot b.slot both.0, eqb-true a.version b.version both.1)
+
+at_version : (a b : Attempt) (s : SlotRow) → a.version ≡ b.version → IsSpentAt a s → IsSpentAt b s
+at_version a b s e (inl below) = inl (omega arith)
+at_version a b s e (inr h) = inr (sym e ∙ h.0, h.1)
+
+-- an attempt of the same slot and version is spent with it
+pub spent_same : (f : Farm) (a b : Attempt) → is_same a b ≡ true → IsSpent f a → IsSpent f b
+spent_same f a b h spent s at =
+    let same = same_slot a b h in
+    at_version a b s same.1 (spent s (subst (λ (n : ℕ). slice_get f.slots n ≡ Some s) (sym same.0) at))
