@@ -3,3 +3,4 @@ pub mod LaunchLemmas
 pub mod LegalLemmas
 pub mod ReplyLemmas
 pub mod RoundLemmas
+pub mod TurnLemmas

@@ -4,6 +4,7 @@ ghost use Rattle.std.specs.Prelude.{◌≡◌, ◌≤◌, ℕ, List};
 ghost use Rattle.cue_io.specs.Faults.{HasRisen};
 ghost use Rattle.cue_io.specs.Input.{Takes};
 ghost use Rattle.cue_io.specs.Output.{Adds};
+ghost use Rattle.cue_io.specs.Reader.{IsPending};
 ghost use Rattle.farm_types.specs.Transcript.{line_limit};
 ghost use Rattle.cue_io.specs.Readings.{Shows};
 ghost use Rattle.session.specs.Sessions.{IsStep, Sends};
@@ -25,7 +26,8 @@ pub fn turn<S: Source, W: Sink, C: Clock>(
     sink: &mut W,
     clock: &mut C,
 ) -> Turned
-    requires { reader.old.limit ≡ line_limit }
+    requires limit { reader.old.limit ≡ line_limit }
+    requires pending { (pending : List ℕ) × IsPending reader.old pending }
     ensures step { (took wrote seen : List ℕ) × Takes (S.left source.old) (S.left source.new) took × Adds (W.written sink.old) (W.written sink.new) wrote
         × Shows (C.readings clock.old) (C.readings clock.new) seen × IsStep result reader.old reader.new (S.left source.new) farm.old farm.new took wrote seen }
     ensures read { result ≡ Turned.Read → HasRisen (S.faults source.old) (S.faults source.new) }
