@@ -3,4 +3,5 @@ pub mod LaunchLemmas
 pub mod LegalLemmas
 pub mod ReplyLemmas
 pub mod RoundLemmas
+pub mod SessionLemmas
 pub mod TurnLemmas

@@ -69,6 +69,11 @@ pub record HasAnswered (first : Farm) (turns : List Turn) (farm : Farm) (wrote s
   pub replies : wrote ≡ transcript first turns
   pub moments : seen ≡ moments_in turns
 
+-- these turns were answered, and their lines are those that the reader gave of the bytes taken
+pub record HasServed (first : Farm) (turns : List Turn) (taken wrote seen : List ℕ) (farm : Farm) (reader : Held) (left : Option (List ℕ)) : Type 0 where
+  pub answered : HasAnswered first turns farm wrote seen
+  pub given : HasGiven line_limit taken (lines_in turns) reader left
+
 -- the lines are the first of the bytes taken, cut at their newlines
 abbrev pub AreFirstLines : List ℕ → List (List ℕ) → Type 0
 AreFirstLines taken lines = (rest : List (List ℕ)) × (lines_of taken ≡ lines ++ rest)

@@ -9,6 +9,7 @@ mod laws;
 mod read;
 mod reply;
 mod round;
+mod serve;
 mod turn;
 mod turned;
 
