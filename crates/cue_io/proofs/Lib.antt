@@ -1,3 +1,4 @@
 pub mod RangeLemmas
 pub mod NewlineLemmas
 pub mod StepLemmas
+pub mod AnswerLemmas

@@ -1,15 +1,10 @@
--- The steps of a call, and what the call then answers.
-use Rattle.std.proofs.Common.{◌≡◌, ℕ, ◌+◌, ◌-◌, ◌<◌, ◌≤◌, Bool, true, false, ◌||◌, ◌==◌, nat_lt, List, [], ◌∷◌, ◌++◌, length, take, drop, if◌then◌else◌, Option, Ok, Err, inl, inr, refl, sym, ap, ◌∙◌, subst, arith, append_assoc, append-nil, length-append, length-drop, length-take, true≢false, eqb-true}
-use Rattle.std.proofs.lemmas.List.{take-append-drop, nil_from_length}
-use Rattle.std.proofs.Math.Seq.{take-append_seam}
+-- The steps of a call.
+use Rattle.std.proofs.Common.{◌≡◌, ℕ, ◌+◌, ◌<◌, ◌≤◌, Bool, true, false, ◌||◌, nat_lt, List, [], ◌++◌, length, if◌then◌else◌, refl, sym, ap, ◌∙◌, subst, arith, append_assoc, append-nil, length-append, true≢false}
 use Rattle.std.proofs.lemmas.List.Folds.{list_any-append}
-use Rattle.std.proofs.lemmas.Bool.{eqb-false, ltb-true, ltb-false}
-use Rattle.cue_io.specs.declared.line.Found.{Found}
-use Rattle.cue_io.specs.declared.line.Found.TheVariants.{Bytes, TooLong, End}
-use Rattle.cue_io.specs.declared.line.LineFault.TheVariants.{Read, Spent}
+use Rattle.std.proofs.lemmas.Bool.{ltb-true, ltb-false}
 use Rattle.cue_io.specs.Lines.{has_newline, is_newline}
-use Rattle.cue_io.specs.Reader.{Held, IsPending, ArePassed, AreOfLongLine, Goes, Leaves, IsUncut, AtEnd, byte_limit, ends_left}
-use Rattle.cue_io.specs.Steps.{Fetches, GoesOn, IsFirstNewline, IsSound, after_last, after_line, filled, found_at, found_last, is_long, passed_over, shown_as}
+use Rattle.cue_io.specs.Reader.{Held, IsPending, ArePassed, byte_limit}
+use Rattle.cue_io.specs.Steps.{GoesOn, filled, is_long, passed_over}
 
 -- two lists without a newline, one after the other
 pub none_joined : (first second : List ℕ) → has_newline first ≡ false → has_newline second ≡ false → has_newline (first ++ second) ≡ false
@@ -17,25 +12,25 @@ none_joined first second none_first none_second =
     list_any-append is_newline first second ∙ ap (λ b. b || has_newline second) none_first ∙ none_second
 
 -- the bytes let go and those held are of one line
-pending_in_line : (passing : Bool) (limit : ℕ) (passed bytes : List ℕ) → ArePassed passing limit passed → has_newline bytes ≡ false
-  → has_newline (passed ++ bytes) ≡ false
+pub pending_in_line : (passing : Bool) (limit : ℕ) (passed bytes : List ℕ) → ArePassed passing limit passed → has_newline bytes ≡ false
+    → has_newline (passed ++ bytes) ≡ false
 pending_in_line false limit passed bytes are none = none_joined passed bytes (ap has_newline are) none
 pending_in_line true limit passed bytes are none = none_joined passed bytes are.in_line none
 
 -- a line that is too long, with the bytes that were let go
-pending_long : (passing : Bool) (limit : ℕ) (passed bytes : List ℕ) (count : ℕ) → length bytes ≡ count → ArePassed passing limit passed
-  → (passing || nat_lt limit count) ≡ true → limit < length (passed ++ bytes)
+pub pending_long : (passing : Bool) (limit : ℕ) (passed bytes : List ℕ) (count : ℕ) → length bytes ≡ count → ArePassed passing limit passed
+    → (passing || nat_lt limit count) ≡ true → limit < length (passed ++ bytes)
 pending_long false limit passed bytes count is are long = omega (arith, ltb-true limit count long, length-append passed bytes)
 pending_long true limit passed bytes count is are long = omega (arith, are.long, length-append passed bytes)
 
 -- of a line that isn't too long no byte was let go
-none_passed : (passing : Bool) (limit : ℕ) (passed : List ℕ) (count : ℕ) → ArePassed passing limit passed
-  → (passing || nat_lt limit count) ≡ false → passed ≡ []
+pub none_passed : (passing : Bool) (limit : ℕ) (passed : List ℕ) (count : ℕ) → ArePassed passing limit passed
+    → (passing || nat_lt limit count) ≡ false → passed ≡ []
 none_passed false limit passed count are short = are
 none_passed true limit passed count are short = absurd (true≢false short)
 
 -- a line that isn't too long
-within_limit : (passing : Bool) (limit count : ℕ) → (passing || nat_lt limit count) ≡ false → count ≤ limit
+pub within_limit : (passing : Bool) (limit count : ℕ) → (passing || nat_lt limit count) ≡ false → count ≤ limit
 within_limit false limit count short = ltb-false limit count short
 within_limit true limit count short = absurd (true≢false short)
 
@@ -53,8 +48,8 @@ GoesOn-start reader going within = record {
 
 -- the reader let go what it holds, if the line is too long
 passed_by : (long : Bool) (old mid : Held) (took : List ℕ) → is_long mid (length mid.bytes) ≡ long → GoesOn old took mid
-  → has_newline mid.bytes ≡ false
-  → GoesOn old took (if long then record mid { passing = true; bytes = []; line = [] } else mid)
+    → has_newline mid.bytes ≡ false
+    → GoesOn old took (if long then record mid { passing = true; bytes = []; line = [] } else mid)
 passed_by false old mid took is goes none = goes
 passed_by true old mid took is goes none = record {
   limit_is = goes.limit_is;
@@ -78,7 +73,7 @@ GoesOn-passed old mid took goes none = passed_by (is_long mid (length mid.bytes)
 
 -- the reader took more
 pub GoesOn-filled : (old mid : Held) (took fresh : List ℕ) → GoesOn old took mid → mid.taken + length fresh ≤ byte_limit
-  → GoesOn old (took ++ fresh) (filled mid fresh)
+    → GoesOn old (took ++ fresh) (filled mid fresh)
 GoesOn-filled old mid took fresh goes within = record {
   limit_is = goes.limit_is;
   was_going = goes.was_going;
@@ -90,272 +85,8 @@ GoesOn-filled old mid took fresh goes within = record {
     passed = at.passed;
     are_passed = at.are_passed;
     pending_is =
-      sym (append_assoc before took fresh)
-      ∙ ap (λ bytes. bytes ++ fresh) at.pending_is
-      ∙ append_assoc at.passed mid.bytes fresh;
+        sym (append_assoc before took fresh)
+        ∙ ap (λ bytes. bytes ++ fresh) at.pending_is
+        ∙ append_assoc at.passed mid.bytes fresh;
   };
 }
-
--- the source of a reader can still end
-still : (ended : Bool) → ended ≡ false → ends_left ended ≡ 1
-still false is = refl
-still true is = absurd (true≢false is)
-
--- the line up to the first newline, by whether it is too long
-leaves_line : (long : Bool) (old mid : Held) (took : List ℕ) (at : ℕ) (before : List ℕ) → is_long mid at ≡ long
-  → GoesOn old took mid → at < length mid.bytes → IsFirstNewline mid.bytes at → IsPending old before
-  → Leaves old before took (shown_as (Ok (if long then TooLong else Bytes)) (take at mid.bytes)) (after_line mid at)
-leaves_line false old mid took at before is goes inside first is_pending =
-    let pending = goes.pending before is_pending in
-    let none = none_passed mid.passing mid.limit pending.passed at pending.are_passed is in
-    let short = within_limit mid.passing mid.limit at is in
-    record {
-      rest = drop (at + 1) mid.bytes;
-      is_pending = record { passed = []; are_passed = refl; pending_is = refl };
-      cuts = (
-        inl (record {
-          cut =
-            pending.pending_is
-            ∙ ap (λ passed. passed ++ mid.bytes) none
-            ∙ sym (take-append-drop at mid.bytes)
-            ∙ ap (λ rest. take at mid.bytes ++ rest) first.here;
-          in_line = first.before;
-          going = goes.going;
-        }),
-        omega (arith, length-take at mid.bytes, short, goes.limit_is),
-      );
-    }
-leaves_line true old mid took at before is goes inside first is_pending =
-    let pending = goes.pending before is_pending in
-    let count : length (take at mid.bytes) ≡ at = omega (arith, length-take at mid.bytes) in
-    let long = pending_long mid.passing mid.limit pending.passed (take at mid.bytes) at count pending.are_passed is in
-    record {
-      rest = drop (at + 1) mid.bytes;
-      is_pending = record { passed = []; are_passed = refl; pending_is = refl };
-      cuts = (
-        pending.passed ++ take at mid.bytes,
-        inl (record {
-          cut =
-            pending.pending_is
-            ∙ ap (λ bytes. pending.passed ++ bytes) (sym (take-append-drop at mid.bytes) ∙ ap (λ rest. take at mid.bytes ++ rest) first.here)
-            ∙ sym (append_assoc pending.passed (take at mid.bytes) (10 ∷ drop (at + 1) mid.bytes));
-          in_line = pending_in_line mid.passing mid.limit pending.passed (take at mid.bytes) pending.are_passed first.before;
-          going = goes.going;
-        }),
-        subst (λ (limit : ℕ). limit < length (pending.passed ++ take at mid.bytes)) goes.limit_is long,
-      );
-    }
-
--- the line up to the first newline
-pub Goes-line : (old mid : Held) (took : List ℕ) (at : ℕ) → GoesOn old took mid → at < length mid.bytes → IsFirstNewline mid.bytes at
-  → Goes old took (shown_as (Ok (found_at mid at)) (after_line mid at).line) (after_line mid at)
-Goes-line old mid took at goes inside first = record {
-  limit_is = goes.limit_is;
-  taken_is = goes.taken_is;
-  within = goes.within;
-  unspent = λ ended. absurd (true≢false (sym ended ∙ goes.going));
-  at_end = λ ended. absurd (true≢false (sym ended ∙ goes.was_going));
-  fewer = λ given. omega (arith, goes.no_more, length-drop (at + 1) mid.bytes, still mid.ended goes.going, still old.ended goes.was_going);
-  leaves = λ before is_pending. leaves_line (is_long mid at) old mid took at before refl goes inside first is_pending;
-}
-
--- what is held at the end of the source, by whether it is too long and whether it is nothing
-leaves_last : (long none : Bool) (old mid : Held) (took before : List ℕ) → is_long mid (length mid.bytes) ≡ long
-  → (length mid.bytes == 0) ≡ none → GoesOn old took mid → has_newline mid.bytes ≡ false → IsPending old before
-  → Leaves old before took (shown_as (Ok (if long then TooLong else (if none then End else Bytes))) mid.bytes) (after_last mid)
-leaves_last true none old mid took before is none_is goes in_line is_pending =
-    let pending = goes.pending before is_pending in
-    let long = pending_long mid.passing mid.limit pending.passed mid.bytes (length mid.bytes) refl pending.are_passed is in
-    record {
-      rest = [];
-      is_pending = record { passed = []; are_passed = refl; pending_is = refl };
-      cuts = (
-        pending.passed ++ mid.bytes,
-        inr (record {
-          cut = pending.pending_is;
-          in_line = pending_in_line mid.passing mid.limit pending.passed mid.bytes pending.are_passed in_line;
-          some = omega (arith, long);
-          none_left = refl;
-          ended = refl;
-        }),
-        subst (λ (limit : ℕ). limit < length (pending.passed ++ mid.bytes)) goes.limit_is long,
-      );
-    }
-leaves_last false true old mid took before is none_is goes in_line is_pending =
-    let pending = goes.pending before is_pending in
-    let none = none_passed mid.passing mid.limit pending.passed (length mid.bytes) pending.are_passed is in
-    record {
-      rest = [];
-      is_pending = record { passed = []; are_passed = refl; pending_is = refl };
-      cuts = record {
-        none = pending.pending_is ∙ ap (λ passed. passed ++ mid.bytes) none ∙ nil_from_length mid.bytes (eqb-true (length mid.bytes) 0 none_is);
-        none_left = refl;
-        ended = refl;
-      };
-    }
-leaves_last false false old mid took before is none_is goes in_line is_pending =
-    let pending = goes.pending before is_pending in
-    let none = none_passed mid.passing mid.limit pending.passed (length mid.bytes) pending.are_passed is in
-    let short = within_limit mid.passing mid.limit (length mid.bytes) is in
-    record {
-      rest = [];
-      is_pending = record { passed = []; are_passed = refl; pending_is = refl };
-      cuts = (
-        inr (record {
-          cut = pending.pending_is ∙ ap (λ passed. passed ++ mid.bytes) none;
-          in_line = in_line;
-          some = let is_some = eqb-false (length mid.bytes) 0 none_is in omega arith;
-          none_left = refl;
-          ended = refl;
-        }),
-        subst (λ (limit : ℕ). length mid.bytes ≤ limit) goes.limit_is short,
-      );
-    }
-
--- what is held at the end of the source
-pub Goes-last : (old mid : Held) (took : List ℕ) → GoesOn old took mid → has_newline mid.bytes ≡ false → mid.taken < byte_limit
-  → Goes old took (shown_as (Ok (found_last mid)) (after_last mid).line) (after_last mid)
-Goes-last old mid took goes in_line unspent = record {
-  limit_is = goes.limit_is;
-  taken_is = goes.taken_is;
-  within = goes.within;
-  unspent = λ ended. unspent;
-  at_end = λ ended. absurd (true≢false (sym ended ∙ goes.was_going));
-  fewer = λ given. omega (arith, goes.no_more, still old.ended goes.was_going);
-  leaves = λ before is_pending.
-    leaves_last (is_long mid (length mid.bytes)) (length mid.bytes == 0) old mid took before refl refl goes in_line is_pending;
-}
-
--- no whole line is held
-uncut : (old new : Held) (took before : List ℕ) → GoesOn old took new → has_newline new.bytes ≡ false → IsPending old before
-  → IsUncut (before ++ took) (before ++ took) new
-uncut old new took before goes in_line is_pending =
-    let pending = goes.pending before is_pending in
-    record {
-      kept = refl;
-      in_line = ap has_newline pending.pending_is
-        ∙ pending_in_line new.passing new.limit pending.passed new.bytes pending.are_passed in_line;
-      going = goes.going;
-    }
-
--- all bytes that the reader may take were taken
-pub Goes-spent : (old new : Held) (took : List ℕ) → GoesOn old took new → has_newline new.bytes ≡ false → new.taken ≡ byte_limit
-  → Goes old took (Err Spent) new
-Goes-spent old new took goes in_line spent = record {
-  limit_is = goes.limit_is;
-  taken_is = goes.taken_is;
-  within = goes.within;
-  unspent = λ ended. absurd (true≢false (sym ended ∙ goes.going));
-  at_end = λ ended. absurd (true≢false (sym ended ∙ goes.was_going));
-  fewer = λ given. absurd given;
-  leaves = λ before is_pending. record {
-    rest = before ++ took;
-    is_pending = goes.pending before is_pending;
-    cuts = (uncut old new took before goes in_line is_pending, spent);
-  };
-}
-
--- the source failed
-pub Goes-failed : (old mid : Held) (took : List ℕ) → GoesOn old took mid → has_newline mid.bytes ≡ false → mid.taken < byte_limit
-  → Goes old took (Err Read) (record mid { line = [] })
-Goes-failed old mid took goes in_line unspent = record {
-  limit_is = goes.limit_is;
-  taken_is = goes.taken_is;
-  within = goes.within;
-  unspent = λ ended. unspent;
-  at_end = λ ended. absurd (true≢false (sym ended ∙ goes.was_going));
-  fewer = λ given. absurd given;
-  leaves = λ before is_pending.
-    let pending = goes.pending before is_pending in
-    let cut = uncut old mid took before goes in_line is_pending in
-    record {
-      rest = before ++ took;
-      is_pending = record { passed = pending.passed; are_passed = pending.are_passed; pending_is = pending.pending_is };
-      cuts = (record { kept = refl; in_line = cut.in_line; going = goes.going }, unspent);
-    };
-}
-
--- the source ended before
-pub Goes-ended : (reader : Held) → reader.ended ≡ true → IsSound reader.taken reader.passing reader.ended reader.bytes
-  → Goes reader [] (Ok AtEnd) reader
-Goes-ended reader ended sound = record {
-  limit_is = refl;
-  taken_is = omega arith;
-  within = sound.within;
-  unspent = sound.unspent;
-  at_end = λ is. record { answer_is = refl; took_none = refl; same = refl };
-  fewer = λ given. absurd given;
-  leaves = λ before is_pending.
-    let Passed : Bool → Type 0 = λ passing. ArePassed passing reader.limit is_pending.passed in
-    let passed : is_pending.passed ≡ [] = subst Passed (sound.still ended) is_pending.are_passed in
-    let none : before ≡ [] = is_pending.pending_is ∙ ap (λ bytes. bytes ++ reader.bytes) passed ∙ sound.empty ended in
-    record {
-      rest = before;
-      is_pending = is_pending;
-      cuts = record { none = append-nil before ∙ none; none_left = none; ended = ended };
-    };
-}
-
--- letting go leaves no newline
-none_in_passed : (long : Bool) (mid : Held) → has_newline mid.bytes ≡ false
-  → has_newline ((if long then record mid { passing = true; bytes = []; line = [] } else mid).bytes) ≡ false
-none_in_passed true mid none = refl
-none_in_passed false mid none = none
-
--- letting go takes nothing
-taken_in_passed : (long : Bool) (mid : Held)
-  → (if long then record mid { passing = true; bytes = []; line = [] } else mid).taken ≡ mid.taken
-taken_in_passed true mid = refl
-taken_in_passed false mid = refl
-
--- a reader that goes on, holds no newline, and may take more
-pub record MayFetch (old : Held) (took : List ℕ) (mid : Held) : Type 0 where
-  pub goes_on : GoesOn old took mid
-  pub none : has_newline mid.bytes ≡ false
-  pub unspent : mid.taken < byte_limit
-
--- that holds when the reader has let go the bytes of a line that is too long
-pub MayFetch-passed : (old mid pass : Held) (took : List ℕ) → GoesOn old took mid → has_newline mid.bytes ≡ false
-  → (mid.taken ≡ byte_limit → ⊥) → pass ≡ passed_over mid → MayFetch old took pass
-MayFetch-passed old mid pass took goes none unspent is =
-    let long = is_long mid (length mid.bytes) in
-    subst (λ (reader : Held). MayFetch old took reader) (sym is) (record {
-      goes_on = GoesOn-passed old mid took goes none;
-      none = none_in_passed long mid none;
-      unspent = omega (arith, goes.within, unspent, taken_in_passed long mid);
-    })
-
--- a read that failed
-pub Goes-read : (old mid new : Held) (took : List ℕ) → MayFetch old took mid → new ≡ record mid { line = [] } → Goes old took (Err Read) new
-Goes-read old mid new took may is =
-    subst (λ (reader : Held). Goes old took (Err Read) reader) (sym is) (Goes-failed old mid took may.goes_on may.none may.unspent)
-
-module _ (old mid new : Held) (took fresh : List ℕ) (left left' : Option (List ℕ)) (count : ℕ) (may : MayFetch old took mid)
-    (fetches : Fetches left left' count fresh mid new) where
-  -- a read that brought something
-  pub GoesOn-fetched : GoesOn old (took ++ fresh) new
-  GoesOn-fetched =
-      subst (λ (reader : Held). GoesOn old (took ++ fresh) reader) (sym fetches.new_is)
-        (GoesOn-filled old mid took fresh may.goes_on (omega (arith, fetches.count_is, fetches.within)))
-
-  -- the bytes held before are still the first ones
-  pub front_kept : (length mid.bytes ≤ length new.bytes) × (has_newline (take (length mid.bytes) new.bytes) ≡ false)
-  front_kept =
-      let bytes : new.bytes ≡ mid.bytes ++ fresh = ap (λ (reader : Held). reader.bytes) fetches.new_is in (
-        omega (arith, ap length bytes, length-append mid.bytes fresh),
-        ap (λ held. has_newline (take (length mid.bytes) held)) bytes
-        ∙ ap has_newline (take-append_seam mid.bytes fresh)
-        ∙ may.none,
-      )
-
-  -- a read at the end of the source
-  pub Goes-over : (found : Found) (last : Held) → count ≡ 0 → found ≡ found_last new → last ≡ after_last new
-    → Goes old (took ++ fresh) (shown_as (Ok found) last.line) last
-  Goes-over found last none found_is last_is =
-      let nothing : fresh ≡ [] = nil_from_length fresh (fetches.count_is ∙ none) in
-      let bytes : new.bytes ≡ mid.bytes =
-        ap (λ (reader : Held). reader.bytes) fetches.new_is ∙ ap (λ more. mid.bytes ++ more) nothing ∙ append-nil mid.bytes in
-      let taken : new.taken ≡ mid.taken + length fresh = ap (λ (reader : Held). reader.taken) fetches.new_is in
-      rw (found_is, last_is)
-        (Goes-last old new (took ++ fresh) GoesOn-fetched (ap has_newline bytes ∙ may.none)
-          (omega (arith, taken, fetches.count_is, none, may.unspent)))

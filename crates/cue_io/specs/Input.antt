@@ -21,7 +21,7 @@ Takes-none (Some left) = refl
 
 -- what two calls take, one after the other
 pub Takes-append : (old mid new : Option (List ℕ)) (first second : List ℕ) → Takes old mid first → Takes mid new second
-  → Takes old new (first ++ second)
+    → Takes old new (first ++ second)
 Takes-append None None None first second a b = tt
 Takes-append None None (Some new) first second a b = b
 Takes-append None (Some mid) new first second a b = absurd a

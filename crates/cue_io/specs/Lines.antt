@@ -1,8 +1,7 @@
 -- Lists of bytes cut at newlines. A newline is byte 10.
 use Rattle.std.specs.Prelude.{◌≡◌, ℕ, ◌<◌, Bool, true, false, ◌||◌, ◌==◌, List, [], ◌∷◌, ◌++◌, length, if◌then◌else◌}
 use Rattle.std.specs.List.{list_any}
-use Rattle.std.proofs.Common.{refl, sym, ap, ◌∙◌, append_assoc, arith, rules}
-use Rattle.std.proofs.lemmas.List.Folds.{list_any-append}
+use Rattle.std.proofs.Common.{refl, sym, ap, ◌∙◌, append_assoc, arith}
 
 -- whether a byte is a newline
 abbrev pub is_newline : ℕ → Bool
@@ -41,7 +40,7 @@ joined-append (first ∷ lines) line =
 
 -- one more line has no newline in it
 pub AreLines-append : (lines : List (List ℕ)) (line : List ℕ) → AreLines lines → has_newline line ≡ false
-  → AreLines (lines ++ line ∷ [])
+    → AreLines (lines ++ line ∷ [])
 AreLines-append [] line are here = (here, tt)
 AreLines-append (first ∷ lines) line are here = (are.0, AreLines-append lines line are.1 here)
 

@@ -1,6 +1,6 @@
 -- What a sink was given, where it tells it, and what a call adds to that.
 use Rattle.std.specs.Prelude.{◌≡◌, ℕ, ◌<◌, List, [], ◌++◌, Option, None, Some, length, take}
-use Rattle.std.proofs.Common.{refl, sym, ap, ◌∙◌, append_assoc, append-nil}
+use Rattle.std.proofs.Common.{sym, ap, ◌∙◌, append_assoc, append-nil}
 
 -- these bytes were added at the end of what was written
 abbrev pub Adds : Option (List ℕ) → Option (List ℕ) → List ℕ → Type 0
@@ -22,7 +22,7 @@ Adds-none (Some written) = sym (append-nil written)
 
 -- what two calls add, one after the other
 pub Adds-append : (old mid new : Option (List ℕ)) (first second : List ℕ) → Adds old mid first → Adds mid new second
-  → Adds old new (first ++ second)
+    → Adds old new (first ++ second)
 Adds-append None None None first second a b = tt
 Adds-append None None (Some new) first second a b = b
 Adds-append None (Some mid) new first second a b = absurd a

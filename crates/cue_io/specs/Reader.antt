@@ -1,9 +1,10 @@
 -- What a reader of lines holds between its calls, and what a call does to it.
-use Rattle.std.specs.Prelude.{◌≡◌, ℕ, ◌+◌, ◌-◌, ◌<◌, ◌≤◌, Bool, true, false, List, [], ◌∷◌, ◌++◌, length, Result, Ok, Err, ◌⊎◌}
+use Rattle.std.specs.Prelude.{◌≡◌, ℕ, ◌+◌, ◌-◌, ◌<◌, ◌≤◌, Bool, true, false, List, [], ◌∷◌, ◌++◌, length, Option, Result, Ok, Err, ◌⊎◌}
 use Rattle.cue_io.specs.declared.line.Line.{Line}
 use Rattle.cue_io.specs.declared.line.Line.TheVariants.{Bytes, TooLong, End}
 use Rattle.cue_io.specs.declared.line.LineFault.{LineFault}
 use Rattle.cue_io.specs.declared.line.LineFault.TheVariants.{Read, Spent}
+use Rattle.cue_io.specs.Input.{Takes, IsAtEnd}
 use Rattle.cue_io.specs.Lines.{has_newline}
 
 -- the most bytes that a reader takes, counted from when it was made
@@ -133,3 +134,10 @@ pub record Goes (old : Held) (took : List ℕ) (answer : Result Given LineFault)
   pub at_end : old.ended ≡ true → StaysAtEnd old took answer new
   pub fewer : IsLineGiven answer → lines_left new < lines_left old
   pub leaves : (before : List ℕ) → IsPending old before → Leaves old before took answer new
+
+-- a call that gave this answer, and took bytes of what the source had left
+pub record Moves (left left' : Option (List ℕ)) (old : Held) (answer : Result Given LineFault) (new : Held) : Type 0 where
+  pub took : List ℕ
+  pub takes : Takes left left' took
+  pub goes : Goes old took answer new
+  pub end : old.ended ≡ false → new.ended ≡ true → IsAtEnd left'

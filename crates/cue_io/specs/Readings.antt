@@ -36,19 +36,19 @@ Shows-none None = tt
 Shows-none (Some readings) = (tt, refl)
 
 after_readings-append : (readings first second : List ℕ)
-  → after_readings readings (first ++ second) ≡ after_readings (after_readings readings first) second
+    → after_readings readings (first ++ second) ≡ after_readings (after_readings readings first) second
 after_readings-append readings [] second = refl
 after_readings-append readings (reading ∷ first) second = after_readings-append (after_reading readings) first second
 
 AreNext-append : (readings first second : List ℕ) → AreNext readings first
-  → AreNext (after_readings readings first) second → AreNext readings (first ++ second)
+    → AreNext (after_readings readings first) second → AreNext readings (first ++ second)
 AreNext-append readings [] second a b = b
 AreNext-append readings (reading ∷ first) second a b =
     (a.0, AreNext-append (after_reading readings) first second a.1 b)
 
 -- what two calls show, one after the other
 pub Shows-append : (old mid new : Option (List ℕ)) (first second : List ℕ) → Shows old mid first → Shows mid new second
-  → Shows old new (first ++ second)
+    → Shows old new (first ++ second)
 Shows-append None None None first second a b = tt
 Shows-append None None (Some new) first second a b = b
 Shows-append None (Some mid) new first second a b = absurd a

@@ -3,10 +3,9 @@ ghost use Rattle.std.specs.Prelude.{◌≡◌, ◌≤◌, None, length, take, If
 ghost use Rattle.cue_io.specs.Faults.{HasRisen, counted};
 ghost use Rattle.cue_io.specs.Input.{Takes};
 
+use crate::source::{Source, SourceFault};
 use std::io::Read;
 use std::marker::Model;
-
-use crate::source::{Source, SourceFault};
 
 /// A source over a reader, as standard input or a stream. It is seen as its count of faults.
 #[derive(Drop)]

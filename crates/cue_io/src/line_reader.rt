@@ -4,17 +4,16 @@ ghost use Rattle.std.specs.List.{position};
 ghost use Rattle.std.specs.Borrow.{sem};
 ghost use Rattle.std.specs.Io.BufRead.{Rests};
 ghost use Rattle.cue_io.specs.Faults.{HasRisen};
-ghost use Rattle.cue_io.specs.Input.{Takes, IsAtEnd};
+ghost use Rattle.cue_io.specs.Input.{IsAtEnd};
 ghost use Rattle.cue_io.specs.Lines.{has_newline, is_newline};
-ghost use Rattle.cue_io.specs.Reader.{Held, Goes, IsAhead, byte_limit, given_by, new_reader};
+ghost use Rattle.cue_io.specs.Reader.{Held, IsAhead, Moves, byte_limit, given_by, new_reader};
 ghost use Rattle.cue_io.specs.Steps.{IsSound, Fetches, after_last, after_line, found_at, found_last, passed_over, shown_as, IsFirstNewline};
-
-use std::alloc::{AllocError, Global};
-use std::marker::Model;
 
 use crate::line::{Found, Line, LineFault};
 use crate::source::{Source, SourceFault};
 use crate::window::Window;
+use std::alloc::{AllocError, Global};
+use std::marker::Model;
 
 /// The room behind the longest line: what one read may bring at least.
 const READ_ROOM: usize = 65536;
@@ -39,7 +38,14 @@ impl Model for LineReader {
 
     ghost Value = { Held };
 
-    ghost view = { λ r. record { limit = r.limit; taken = r.taken; passing = r.passing; ended = r.ended; bytes = r.window.held; line = r.window.line } };
+    ghost view = { λ r. record {
+      limit = r.limit;
+      taken = r.taken;
+      passing = r.passing;
+      ended = r.ended;
+      bytes = r.window.held;
+      line = r.window.line;
+    } };
 
     ghost invariant = { λ r. (r.window.size ≡ r.limit + 65536) × IsSound r.taken r.passing r.ended r.window.held };
 }
@@ -97,7 +103,11 @@ impl LineReader {
         let is_long = self.passing || self.limit < at;
         self.window.give(at);
         self.passing = false;
-        if is_long { Found::TooLong } else { Found::Bytes }
+        if is_long {
+            Found::TooLong
+        } else {
+            Found::Bytes
+        }
     }
 
     /// Gives what is held at the end of the source.
@@ -136,7 +146,8 @@ impl LineReader {
         requires room { length self.old.bytes ≤ self.old.limit }
         requires going { self.old.ended ≡ false }
         requires unspent { self.old.taken < byte_limit }
-        ensures ok { IfOk result (λ n. (fresh : List ℕ) × Fetches (S.left source.old) (S.left source.new) n fresh self.old self.new) }
+        ensures ok { IfOk result (λ n. (fresh : List ℕ) ×
+            Fetches (S.left source.old) (S.left source.new) n fresh self.old self.new) }
         ensures err { OnErr result (self.new ≡ record self.old { line = [] }) }
         ensures kept { OnErr result (S.left source.new ≡ S.left source.old) }
         ensures cause { OnErr result (HasRisen (S.faults source.old) (S.faults source.new)) }
@@ -150,8 +161,7 @@ impl LineReader {
 
     /// Moves on to what comes next, and says what that is.
     fn advance<S: Source>(&mut self, source: &mut S) -> Result<Found, LineFault>
-        ensures goes { (took : List ℕ) × Takes (S.left source.old) (S.left source.new) took × Goes self.old took (shown_as result self.new.line) self.new }
-        ensures end { self.old.ended ≡ false → self.new.ended ≡ true → IsAtEnd (S.left source.new) }
+        ensures moves { Moves (S.left source.old) (S.left source.new) self.old (shown_as result self.new.line) self.new }
         ensures unread { IsAhead self.old → source.new ≡ source.old }
         ensures cause { IsErrOf result LineFault.Read → HasRisen (S.faults source.old) (S.faults source.new) }
         ensures rises { S.faults source.old ≤ S.faults source.new }
@@ -190,7 +200,8 @@ impl LineReader {
     /// Read comes only where the source's count of faults rose in this call, and loses nothing. Spent comes exactly
     /// where the reader has taken 1,099,511,627,776 bytes and no whole line of them is left to give.
     pub fn next<S: Source>(&mut self, source: &mut S) -> Result<Line<'_>, LineFault>
-        ensures* goes { sem 𝓛 (Rests the_row self.entry (λ new. ((took : List ℕ) × Takes (S.left source.old) (S.left source.new) took × Goes self.old took (given_by result) new) × (self.old.ended ≡ false → new.ended ≡ true → IsAtEnd (S.left source.new)))) }
+        ensures* moves { sem 𝓛 (Rests the_row self.entry (λ new.
+            Moves (S.left source.old) (S.left source.new) self.old (given_by result) new)) }
         ensures unread { IsAhead self.old → source.new ≡ source.old }
         ensures cause { IsErrOf result LineFault.Read → HasRisen (S.faults source.old) (S.faults source.new) }
         ensures rises { S.faults source.old ≤ S.faults source.new }
@@ -207,7 +218,8 @@ impl LineReader {
 fn newline_from(bytes: &[u8], from: usize) -> Option<usize>
     requires within { from ≤ length bytes.now }
     requires searched { has_newline (take from bytes.now) ≡ false }
-    ensures { MatchOption result (has_newline bytes.now ≡ false) (λ at. (at < length bytes.now) × IsFirstNewline bytes.now at) }
+    ensures { MatchOption result (has_newline bytes.now ≡ false) (λ at.
+        (at < length bytes.now) × IsFirstNewline bytes.now at) }
 {
     match first_newline(&bytes[from..]) {
         Some(at) => Some(from + at),

@@ -2,10 +2,9 @@
 ghost use Rattle.std.specs.Prelude.{◌≡◌, ℕ, ◌<◌, [], ◌∷◌, Some, length, IfOk};
 ghost use Rattle.cue_io.specs.Readings.{Shows, next_reading, after_reading};
 
+use crate::clock::Clock;
 use std::alloc::{AllocError, Global};
 use std::marker::Model;
-
-use crate::clock::Clock;
 
 /// A clock that shows the readings of a list, and then its last one for ever.
 #[derive(Drop)]

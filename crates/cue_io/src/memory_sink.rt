@@ -2,13 +2,12 @@
 ghost use Rattle.std.specs.Prelude.{◌≡◌, ℕ, ◌<◌, ◌≤◌, ◌++◌, [], ◌&&◌, true, false, Some, length, take, if◌then◌else◌, nat_eq, nat_lt, IfOk, OnErr};
 ghost use Rattle.cue_io.specs.Faults.{HasRisen};
 ghost use Rattle.cue_io.specs.Output.{Adds};
-ghost use Rattle.cue_io.specs.Memory.{Store, after_call, is_to_fail, new_plan, takes_none, with_fault, write_count};
-
-use std::alloc::{AllocError, Global};
-use std::marker::Model;
+ghost use Rattle.cue_io.specs.Memory.{Store, after_call, after_write, is_to_fail, new_plan, write_count};
 
 use crate::fault_plan::FaultPlan;
 use crate::sink::{Sink, SinkFault};
+use std::alloc::{AllocError, Global};
+use std::marker::Model;
 
 /// A sink that keeps what is written in memory, and fails at the listed calls.
 #[derive(Drop)]
@@ -31,9 +30,14 @@ impl Model for MemorySink {
 }
 
 impl MemorySink {
-    /// A sink with room for so many bytes, all taken here. A write takes at most `most` bytes. The calls in `fails` fail, by
-    /// their number from 1.
-    pub fn make(alloc: Global, most: usize, room: usize, fails: &[u64]) -> Result<MemorySink, AllocError>
+    /// A sink with room for so many bytes, all taken here. A write takes at most `most` bytes. The calls in `fails`
+    /// fail, by their number from 1.
+    pub fn make(
+        alloc: Global,
+        most: usize,
+        room: usize,
+        fails: &[u64],
+    ) -> Result<MemorySink, AllocError>
         ensures { IfOk result (λ s. s ≡ record { written = []; most = most; room = room; plan = new_plan fails.now }) }
     {
         Ok(MemorySink {
@@ -67,14 +71,17 @@ impl Sink for MemorySink {
     fn write(&mut self, piece: &[u8]) -> Result<usize, SinkFault>
         ensures count { IfOk result (λ n. n ≤ length piece.now) }
         ensures adds { IfOk result (λ n. Adds (Some self.old.written) (Some self.new.written) (take n piece.now)) }
-        ensures none_taken { IfOk result (λ n. n ≡ 0 → 0 < length piece.now → HasRisen self.old.plan.faults self.new.plan.faults) }
+        ensures none_taken { IfOk result (λ n. n ≡ 0 → 0 < length piece.now →
+            HasRisen self.old.plan.faults self.new.plan.faults) }
         ensures kept { OnErr result (Some self.new.written ≡ Some self.old.written) }
         ensures cause { OnErr result (HasRisen self.old.plan.faults self.new.plan.faults) }
         ensures rises { self.old.plan.faults ≤ self.new.plan.faults }
 
         // exactly what a call does
-        ensures failed { is_to_fail self.old.plan ≡ true → (result ≡ Err SinkFault.Failed) × (self.new ≡ record self.old { plan = after_call self.old.plan }) }
-        ensures took { is_to_fail self.old.plan ≡ false → let n = write_count self.old (length piece.now) in (result ≡ Ok n) × (self.new ≡ record self.old { written = self.old.written ++ take n piece.now; plan = if takes_none n (length piece.now) then with_fault (after_call self.old.plan) else after_call self.old.plan }) }
+        ensures failed { is_to_fail self.old.plan ≡ true →
+            (result ≡ Err SinkFault.Failed) × (self.new ≡ record self.old { plan = after_call self.old.plan }) }
+        ensures took { is_to_fail self.old.plan ≡ false → let n = write_count self.old (length piece.now) in
+            (result ≡ Ok n) × (self.new ≡ after_write self.old piece.now) }
     {
         if self.plan.call() {
             return Err(SinkFault::Failed);

@@ -2,13 +2,12 @@
 ghost use Rattle.std.specs.Prelude.{◌≡◌, ℕ, ◌<◌, ◌≤◌, ◌++◌, true, false, Some, length, take, drop, IfOk, OnErr};
 ghost use Rattle.cue_io.specs.Faults.{HasRisen};
 ghost use Rattle.cue_io.specs.Input.{Takes, IsAtEnd};
-ghost use Rattle.cue_io.specs.Memory.{Supply, after_call, is_to_fail, new_plan, read_count};
-
-use std::alloc::{AllocError, Global};
-use std::marker::Model;
+ghost use Rattle.cue_io.specs.Memory.{Supply, after_read, is_to_fail, new_plan, read_count};
 
 use crate::fault_plan::FaultPlan;
 use crate::source::{Source, SourceFault};
+use std::alloc::{AllocError, Global};
+use std::marker::Model;
 
 /// A source that has its bytes in memory, and fails at the listed calls.
 #[derive(Drop)]
@@ -32,7 +31,12 @@ impl Model for MemorySource {
 
 impl MemorySource {
     /// A source of these bytes. A read gives at most `most` of them. The calls in `fails` fail, by their number from 1.
-    pub fn make(alloc: Global, bytes: &[u8], most: usize, fails: &[u64]) -> Result<MemorySource, AllocError>
+    pub fn make(
+        alloc: Global,
+        bytes: &[u8],
+        most: usize,
+        fails: &[u64],
+    ) -> Result<MemorySource, AllocError>
         requires { 0 < most }
         ensures { IfOk result (λ s. s ≡ record { left = bytes.now; most = most; plan = new_plan fails.now }) }
     {
@@ -66,8 +70,10 @@ impl Source for MemorySource {
         ensures rises { self.old.plan.faults ≤ self.new.plan.faults }
 
         // exactly what a call does
-        ensures failed { is_to_fail self.old.plan ≡ true → (result ≡ Err SourceFault.Failed) × (into.new ≡ into.old) × (self.new ≡ record self.old { plan = after_call self.old.plan }) }
-        ensures gave { is_to_fail self.old.plan ≡ false → let n = read_count self.old (length into.old) in (result ≡ Ok n) × (into.new ≡ take n self.old.left ++ drop n into.old) × (self.new ≡ record self.old { left = drop n self.old.left; plan = after_call self.old.plan }) }
+        ensures failed { is_to_fail self.old.plan ≡ true →
+            (result ≡ Err SourceFault.Failed) × (into.new ≡ into.old) × (self.new ≡ after_read self.old 0) }
+        ensures gave { is_to_fail self.old.plan ≡ false → let n = read_count self.old (length into.old) in
+            (result ≡ Ok n) × (into.new ≡ take n self.old.left ++ drop n into.old) × (self.new ≡ after_read self.old n) }
     {
         if self.plan.call() {
             return Err(SourceFault::Failed);

@@ -4,10 +4,9 @@ ghost use Rattle.cue_io.specs.Faults.{HasRisen, counted};
 ghost use Rattle.cue_io.specs.Memory.{takes_none};
 ghost use Rattle.cue_io.specs.Output.{Adds};
 
+use crate::sink::{Sink, SinkFault};
 use std::io::Write;
 use std::marker::Model;
-
-use crate::sink::{Sink, SinkFault};
 
 /// A sink over a writer, as standard output or a stream. What a write took is flushed before it returns, so that a reply
 /// is on its way before the program waits for more input. A flush that fails is a fault. It is

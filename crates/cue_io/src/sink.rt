@@ -20,7 +20,8 @@ pub trait Sink {
     fn write(&mut self, piece: &[u8]) -> Result<usize, SinkFault>
         ensures count { IfOk result (λ n. n ≤ length piece.now) }
         ensures adds { IfOk result (λ n. Adds (written self.old) (written self.new) (take n piece.now)) }
-        ensures none_taken { IfOk result (λ n. n ≡ 0 → 0 < length piece.now → HasRisen (faults self.old) (faults self.new)) }
+        ensures none_taken { IfOk result (λ n. n ≡ 0 → 0 < length piece.now →
+            HasRisen (faults self.old) (faults self.new)) }
         ensures kept { OnErr result (written self.new ≡ written self.old) }
         ensures cause { OnErr result (HasRisen (faults self.old) (faults self.new)) }
         ensures rises { faults self.old ≤ faults self.new };

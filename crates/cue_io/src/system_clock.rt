@@ -2,12 +2,11 @@
 ghost use Rattle.std.specs.Prelude.{◌≡◌, ◌≤◌, [], ◌∷◌, None, IfOk};
 ghost use Rattle.cue_io.specs.Readings.{Shows};
 
+use crate::clock::Clock;
 use std::alloc::{AllocError, Global};
 use std::marker::Model;
 use std::rt;
 use std::time::{SystemTime, UNIX_EPOCH};
-
-use crate::clock::Clock;
 
 /// The machine's clock, in seconds since 1970. It never goes back: where the machine's time does, or can't be read, the
 /// last reading stays, at first 0. It is seen as its last reading.

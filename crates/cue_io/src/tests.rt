@@ -52,11 +52,17 @@ fn lines_are_cut_at_newlines(rt: HostRuntime) -> Result<(), Fail> {
 #[test]
 fn a_read_that_fails_loses_nothing(rt: HostRuntime) -> Result<(), Fail> {
     let mut source = MemorySource::make(rt.alloc(), b"ab\ncd\n", 4, &[2])?;
-    assert_eq!(rt; answers(rt.alloc(), &mut source)?.as_slice(), b"ab|?cd|$".as_slice());
+    assert_eq!(rt;
+        answers(rt.alloc(), &mut source)?.as_slice(),
+        b"ab|?cd|$".as_slice()
+    );
     assert_eq!(rt; source.faults(), 1);
 
     let mut source = MemorySource::make(rt.alloc(), b"123456789012\nx\n", 10, &[2, 4])?;
-    assert_eq!(rt; answers(rt.alloc(), &mut source)?.as_slice(), b"?!x|?$".as_slice());
+    assert_eq!(rt;
+        answers(rt.alloc(), &mut source)?.as_slice(),
+        b"?!x|?$".as_slice()
+    );
     assert_eq!(rt; source.faults(), 2);
     Ok(())
 }
@@ -82,7 +88,10 @@ fn a_clock_in_memory_stays_at_its_last_reading(rt: HostRuntime) -> Result<(), Fa
     let mut clock = MemoryClock::make(rt.alloc(), &[5, 7])?;
     assert_eq!(rt; clock.now(), 5);
     let mut other = clock.fork(rt.alloc())?;
-    assert_eq!(rt; [clock.now(), clock.now(), other.now(), other.now()], [7, 7, 7, 7]);
+    assert_eq!(rt;
+        [clock.now(), clock.now(), other.now(), other.now()],
+        [7, 7, 7, 7]
+    );
     Ok(())
 }
 
@@ -98,7 +107,10 @@ fn the_machine_tells_the_time(rt: HostRuntime) -> Result<(), Fail> {
 #[test]
 fn any_reader_is_a_source(rt: HostRuntime) -> Result<(), Fail> {
     let mut source = InputSource::make(b"one\ntwo".as_slice());
-    assert_eq!(rt; answers(rt.alloc(), &mut source)?.as_slice(), b"one|two|$".as_slice());
+    assert_eq!(rt;
+        answers(rt.alloc(), &mut source)?.as_slice(),
+        b"one|two|$".as_slice()
+    );
     assert_eq!(rt; source.faults(), 0);
 
     let mut source = InputSource::make(Broken);

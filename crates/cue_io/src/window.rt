@@ -4,10 +4,9 @@ ghost use Rattle.cue_io.specs.Faults.{HasRisen};
 ghost use Rattle.cue_io.specs.Input.{Takes, IsAtEnd};
 ghost use Rattle.cue_io.specs.Window.{Framed, Fills};
 
+use crate::source::{Source, SourceFault};
 use std::alloc::{AllocError, Global};
 use std::marker::Model;
-
-use crate::source::{Source, SourceFault};
 
 /// The line given last stands in `line_start..line_end`, and the bytes held in `start..end`.
 #[derive(Drop)]
@@ -26,12 +25,13 @@ impl Model for Window {
     ghost Value = { Framed };
 
     ghost view = { λ w. record {
-        size = vec_len w.buffer;
-        line = slice_range w.buffer.items w.line_start w.line_end;
-        held = slice_range w.buffer.items w.start w.end
+      size = vec_len w.buffer;
+      line = slice_range w.buffer.items w.line_start w.line_end;
+      held = slice_range w.buffer.items w.start w.end;
     } };
 
-    ghost invariant = { λ w. (w.line_start ≤ w.line_end) × (w.line_end ≤ vec_len w.buffer) × (w.start ≤ w.end) × (w.end ≤ vec_len w.buffer) };
+    ghost invariant = { λ w. (w.line_start ≤ w.line_end) × (w.line_end ≤ vec_len w.buffer)
+        × (w.start ≤ w.end) × (w.end ≤ vec_len w.buffer) };
 }
 
 impl Window {
@@ -94,7 +94,8 @@ impl Window {
     pub fn fill<S: Source>(&mut self, source: &mut S, most: usize) -> Result<usize, SourceFault>
         requires room { length self.old.held < self.old.size }
         requires some { 0 < most }
-        ensures ok { IfOk result (λ n. (fresh : List ℕ) × Fills (S.left source.old) (S.left source.new) n most fresh × (self.new ≡ record self.old { line = []; held = self.old.held ++ fresh })) }
+        ensures ok { IfOk result (λ n. (fresh : List ℕ) × Fills (S.left source.old) (S.left source.new) n most fresh
+            × (self.new ≡ record self.old { line = []; held = self.old.held ++ fresh })) }
         ensures err { OnErr result (self.new ≡ record self.old { line = [] }) }
         ensures kept { OnErr result (S.left source.new ≡ S.left source.old) }
         ensures cause { OnErr result (HasRisen (S.faults source.old) (S.faults source.new)) }
@@ -132,7 +133,12 @@ fn with_room(buffer: &mut Vec<u8>, start: usize, end: usize) -> usize
 }
 
 /// Reads into the places from `from` to `to` of a buffer, and leaves those before as they are.
-fn read_into<S: Source>(source: &mut S, buffer: &mut Vec<u8>, from: usize, to: usize) -> Result<usize, SourceFault>
+fn read_into<S: Source>(
+    source: &mut S,
+    buffer: &mut Vec<u8>,
+    from: usize,
+    to: usize,
+) -> Result<usize, SourceFault>
     requires some { from < to }
     requires within { to ≤ vec_len buffer.old }
     ensures len { vec_len buffer.new ≡ vec_len buffer.old }

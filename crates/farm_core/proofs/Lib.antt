@@ -2,12 +2,13 @@ pub mod Booked
 pub mod CanBook
 pub mod Changed
 pub mod Count
-pub mod DemoFarm
 pub mod Ended
+pub mod FreshFarm
 pub mod Hosts
 pub mod Keeps
 pub mod Lists
 pub mod Once
+pub mod Ordered
 pub mod Ranks
 pub mod SafeRuns
 pub mod Spent

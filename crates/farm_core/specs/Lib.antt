@@ -1,3 +1,5 @@
-pub mod Consistent
 pub mod Change
+pub mod Consistent
+pub mod Fresh
+pub mod Order
 pub mod Reads

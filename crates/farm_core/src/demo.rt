@@ -1,6 +1,7 @@
 //! The farm of the demonstration: one show, allocation, subscription and host, and a job of ten frames.
 
 ghost use Rattle.std.specs.Prelude.{◌≡◌, ◌<◌, IfOk};
+ghost use Rattle.farm_types.specs.Run.{IsSound, HasItsHosts};
 ghost use Rattle.farm_types.specs.Demo.{demo_farm, demo_host, demo_job, demo_layer, demo_slots, demo_slot};
 
 use std::alloc::{AllocError, Global};
@@ -15,7 +16,8 @@ use crate::farm::Farm;
 /// The farm of the demonstration, as it is opened at a moment (seconds): host `h1` of eight cores, and the job
 /// `demo-job` of ten frames of one core each, on a subscription with a burst of four cores.
 pub fn demo_farm(alloc: Global, moment: u64) -> Result<Farm, AllocError>
-    ensures { IfOk result (λ f. f ≡ demo_farm moment) }
+    ensures farm { IfOk result (λ f. f ≡ demo_farm moment) }
+    ensures sound { IfOk result (λ f. IsSound f × HasItsHosts f) }
 {
     Ok(Farm {
         shows: Vec::from_array(alloc, [show_of(alloc, "demo")?])?,

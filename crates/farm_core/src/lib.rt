@@ -19,5 +19,5 @@ pub use change::{Answer, Change};
 pub use demo::demo_farm;
 pub use farm::Farm;
 pub use fault::PrepareFault;
-pub use law::legal_runs_are_safe;
+pub use law::{dispatch_lists_each_once, legal_runs_are_safe};
 pub use planning::plan;

@@ -1,4 +1,4 @@
-use Rattle.std.proofs.Common.{◌≡◌, ◌-◌, sym, ◌∙◌, ap, length, take, drop, Some, None}
+use Rattle.std.proofs.Common.{sym, ◌∙◌, ap, drop}
 use Rattle.std.specs.List.{position}
 use Rattle.std.proofs.lemmas.List.{take_rest}
 use Rattle.cue_io.specs.Lines.{is_newline}
@@ -12,4 +12,4 @@ returns-in-Some c = first_found c.args.bytes.now c.args.from c.in-Some.at c.requ
 pub returns-in-None : goal.returns-in-None
 returns-in-None c = none_in_both c.args.bytes.now c.args.from c.requires.searched
     (none_found (drop c.args.from c.args.bytes.now)
-      (ap (position is_newline) (sym (take_rest c.args.bytes.now c.args.from)) ∙ sym c.first_newline.ensures ∙ c.in-None.is))
+    (ap (position is_newline) (sym (take_rest c.args.bytes.now c.args.from)) ∙ sym c.first_newline.ensures ∙ c.in-None.is))

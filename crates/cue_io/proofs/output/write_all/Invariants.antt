@@ -6,7 +6,7 @@ abbrev pub invariant-pieces : goal.invariant-pieces
 invariant-pieces g l = record {
   within : l.at ≤ length l.piece;
   adds : Adds (g.W.Sink.written l.fn.sink) (g.W.Sink.written l.sink) (take l.at l.piece);
-  rises : g.W.Sink.faults l.fn.sink ≤ g.W.Sink.faults l.sink
+  rises : g.W.Sink.faults l.fn.sink ≤ g.W.Sink.faults l.sink;
 }
 
 abbrev pub decreases-pieces : goal.decreases-pieces

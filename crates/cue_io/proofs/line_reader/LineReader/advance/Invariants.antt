@@ -11,7 +11,7 @@ invariant-turns g l = (took : List ℕ) × record {
   searched : l.searched ≤ length l.self.bytes;
   none : has_newline (take l.searched l.self.bytes) ≡ false;
   unread : has_newline l.fn.self.bytes ≡ true → (l.self ≡ l.fn.self) × (l.source ≡ l.fn.source);
-  rises : g.S.Source.faults l.fn.source ≤ g.S.Source.faults l.source
+  rises : g.S.Source.faults l.fn.source ≤ g.S.Source.faults l.source;
 }
 
 abbrev pub decreases-turns : goal.decreases-turns

@@ -1,4 +1,4 @@
-use Rattle.std.proofs.Common.{◌≡◌, ◌+◌, ◌-◌, ◌<◌, ◌≤◌, List, ℕ, [], ◌++◌, length, take, drop, arith, sym, ◌∙◌, ap, slice_range, vec_len}
+use Rattle.std.proofs.Common.{◌+◌, ◌-◌, List, ℕ, ◌++◌, take, drop, arith, ◌∙◌, ap}
 use Rattle.cue_io.proofs.RangeLemmas.{range_more, range_same, on_any}
 use Rattle.cue_io.proofs.window.Window.fill.Goals as goal
 
@@ -8,8 +8,8 @@ returns-in_err-count-clause-err g c =
     let to : ℕ = at + (c.self.inside.end - c.self.inside.start) in
     let len = c.read_into.ensures.len ∙ c.with_room-start.ensures.len in
     let held =
-      range_same c.read_into.new.buffer.items c.with_room-start.new.buffer.items at to (omega arith) c.read_into.ensures.before
-      ∙ c.with_room-start.ensures.held in
+    range_same c.read_into.new.buffer.items c.with_room-start.new.buffer.items at to (omega arith) c.read_into.ensures.before
+    ∙ c.with_room-start.ensures.held in
     on_any c.from_residual.result (rw (← c.self.view_is) (cc (len, held)))
 
 pub returns-clause-ok : goal.returns-clause-ok
@@ -22,9 +22,9 @@ returns-clause-ok g c =
     let fills = c.in_ok-count.ensures.ok in
     let len = c.read_into.ensures.len ∙ c.with_room-start.ensures.len in
     let held =
-      range_more new at to count (omega arith)
-      ∙ ap (λ held. held ++ fresh) (range_same new c.with_room-start.new.buffer.items at to (omega arith) c.read_into.ensures.before
-        ∙ c.with_room-start.ensures.held) in (
+    range_more new at to count (omega arith)
+    ∙ ap (λ held. held ++ fresh) (range_same new c.with_room-start.new.buffer.items at to (omega arith) c.read_into.ensures.before
+    ∙ c.with_room-start.ensures.held) in (
       fresh,
       record { count_is = fills.count_is; within = omega (arith, fills.within, c.min.ensures); takes = fills.takes; end = fills.end },
       rw (← c.self.view_is) (cc (len, held)),
