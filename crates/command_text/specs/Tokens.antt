@@ -1,7 +1,7 @@
 -- The five tokens of a command, beside the rules' own words.
-use Rattle.std.specs.Prelude.{◌≡◌, ℕ, ℤ, List, drop, Option, None, Some}
+use Rattle.std.specs.Prelude.{◌≡◌, ℕ, ℤ, List, drop, length, true, false, Option, None, Some}
 use Rattle.std.specs.Fmt.{signed_decimal}
-use Rattle.farm_types.specs.Names.{four_places, frame_name, token_at, Token as Replaced}
+use Rattle.farm_types.specs.Names.{four_places, frame_name, starts_with, token_at, Token as Replaced}
 use Rattle.command_text.specs.declared.token.Token.{Token}
 use Rattle.command_text.specs.declared.token.Token.TheVariants.{PlacedNumber, PlainNumber, Layer, Job, FrameName}
 use denote.Ref.{Bor}
@@ -30,3 +30,11 @@ token_of job layer number token = record { size = size_of token; text = meaning_
 abbrev pub Strips : List ℕ → Option (Token × Bor (List ℕ)) → Type 0
 Strips text None = (job layer : List ℕ) (number : ℤ) → token_at job layer number text ≡ None
 Strips text (Some found) = ((job layer : List ℕ) (number : ℤ) → token_at job layer number text ≡ Some (token_of job layer number found.0)) × (found.1.now ≡ drop (size_of found.0) text)
+
+-- the text doesn't begin with the word
+abbrev pub IsAbsent : List ℕ → List ℕ → Type 0
+IsAbsent word text = starts_with word text ≡ false
+
+-- the text begins with the word, and this follows it
+abbrev pub IsAfter : List ℕ → List ℕ → List ℕ → Type 0
+IsAfter word text rest = (starts_with word text ≡ true) × (rest ≡ drop (length word) text)

@@ -1,8 +1,8 @@
 //! Commands with their tokens replaced.
 
-ghost use Rattle.std.specs.Prelude.{◌≡◌, ◌<◌, ◌++◌, ℕ, length, IfOk, string_bytes};
-ghost use Rattle.std.specs.Char.{encode_utf8};
-ghost use Rattle.farm_types.specs.Names.{expanded, expanded_from};
+ghost use Rattle.std.specs.Prelude.{◌≡◌, ◌<◌, length, IfOk, string_bytes};
+ghost use Rattle.farm_types.specs.Names.{expanded};
+ghost use Rattle.command_text.specs.Steps.{IsCopied, IsStep};
 ghost use Rattle.command_text.specs.Tokens.{meaning_of};
 
 use crate::frame_names::{four_places, frame_name};
@@ -10,8 +10,9 @@ use crate::token::{Token, strip_token};
 use farm_types::Text;
 use std::alloc::{AllocError, Global};
 
-/// The command of one frame: `#ZFRAME#` becomes the frame's number in four places, `#IFRAME#` the plain number,
-/// `#LAYER#` and `#JOB#` the names, and `#FRAME#` the frame's name. One pass from the left; what was put in isn't looked at again.
+/// A layer's command for one of its frames: `#ZFRAME#` becomes the frame's number in four places, `#IFRAME#` the
+/// number itself, `#LAYER#` and `#JOB#` the names, and `#FRAME#` the frame's name. Every other byte stays. It goes once
+/// from the left, and what was put in isn't looked at again. The only error is want of memory.
 pub fn expand(
     alloc: Global,
     command: &str,
@@ -30,7 +31,7 @@ pub fn expand(
     Ok(Text::from_string(expanded))
 }
 
-// What a command's tokens speak of.
+// What a command's tokens speak of: a frame, by its number and the names of its layer and its job.
 #[derive(Drop)]
 struct Names<'a> {
     job: &'a str,
@@ -39,7 +40,7 @@ struct Names<'a> {
 }
 
 impl Names<'_> {
-    // Writes the first character of the text, or what stands in the place of the token there, and gives what follows it.
+    // Writes what the token at the front of the text becomes, or the first character where there is none, and gives what follows it.
     fn expand_first<'t>(
         &self,
         alloc: Global,
@@ -47,7 +48,7 @@ impl Names<'_> {
         text: &'t str,
     ) -> Result<&'t str, AllocError>
         requires { 0 < length text.now }
-        ensures { IfOk result (λ rest. (length rest.now < length text.now) × (string_bytes expanded.new ++ expanded_from 0 self.now.job.now self.now.layer.now self.now.number rest.now ≡ string_bytes expanded.old ++ expanded_from 0 self.now.job.now self.now.layer.now self.now.number text.now)) }
+        ensures { IfOk result (λ rest. IsStep self.now (string_bytes expanded.old) text.now (string_bytes expanded.new) rest.now) }
     {
         match strip_token(text) {
             Some((token, rest)) => {
@@ -75,7 +76,7 @@ impl Names<'_> {
 // Writes the first character of the text, and gives what follows it.
 fn copy_first<'t>(expanded: &mut String, text: &'t str) -> Result<&'t str, AllocError>
     requires { 0 < length text.now }
-    ensures { IfOk result (λ rest. (first : ℕ) × (text.now ≡ encode_utf8 first ++ rest.now) × (string_bytes expanded.new ≡ string_bytes expanded.old ++ encode_utf8 first)) }
+    ensures { IfOk result (λ rest. IsCopied (string_bytes expanded.old) text.now (string_bytes expanded.new) rest.now) }
 {
     let mut chars = text.chars();
     let Some(first) = chars.next() else {

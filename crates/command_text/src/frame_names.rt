@@ -13,7 +13,7 @@ pub(crate) fn four_places(alloc: Global, number: i32) -> Result<Text, AllocError
     Ok(Text::from_string(format!(in alloc; "{number:04}")?))
 }
 
-/// A frame's name: its number in four places, a dash, and its layer's name, as `0001-render`.
+/// A frame's name: its number in four places, a dash, and its layer's name, as `0001-render`. The only error is want of memory.
 pub fn frame_name(alloc: Global, number: i32, layer: &str) -> Result<Text, AllocError>
     ensures { IfOk result (λ name. name ≡ frame_name number layer.now) }
 {

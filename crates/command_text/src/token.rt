@@ -1,8 +1,7 @@
 //! The five tokens of a command.
 
-ghost use Rattle.std.specs.Prelude.{◌≡◌, List, ℕ, ℤ, drop, MatchOption, option_map, length, true, false};
-ghost use Rattle.farm_types.specs.Names.{token_at, starts_with};
-ghost use Rattle.command_text.specs.Tokens.{token_of, size_of, Strips};
+ghost use Rattle.std.specs.Prelude.{MatchOption};
+ghost use Rattle.command_text.specs.Tokens.{IsAbsent, IsAfter, Strips};
 
 /// A token of a command, by what stands in its place.
 #[derive(Clone, Copy)]
@@ -40,7 +39,7 @@ pub(crate) fn strip_token(text: &str) -> Option<(Token, &str)>
 
 // What follows the word in a text that begins with it.
 fn text_after<'a>(text: &'a str, word: &str) -> Option<&'a str>
-    ensures { MatchOption result (starts_with word.now text.now ≡ false) (λ rest. (starts_with word.now text.now ≡ true) × (rest.now ≡ drop (length word.now) text.now)) }
+    ensures { MatchOption result (IsAbsent word.now text.now) (λ rest. IsAfter word.now text.now rest.now) }
 {
     text.strip_prefix(word)
 }
