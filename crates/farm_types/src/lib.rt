@@ -2,6 +2,7 @@
 #![tactic(auto)]
 
 mod attempt;
+mod cores_text;
 mod depend;
 mod dispatch;
 mod entry;
@@ -19,6 +20,7 @@ mod text;
 mod verdict;
 
 pub use attempt::{Attempt, DoneItem, Exit, ProcRow};
+pub use cores_text::read_cores;
 pub use depend::{DependEnd, DependKind, DependRow, MetRow};
 pub use dispatch::{Candidate, Rank};
 pub use entry::{Act, Entry, HeardAct};
@@ -28,7 +30,7 @@ pub use examples::{
 };
 pub use items::Items;
 pub use launch::Launch;
-pub use names::is_name;
+pub use names::{is_name, is_tag};
 pub use numbers::{AllocNo, Cores, DependNo, HostNo, JobNo, Kb, ShowNo, Slot, SubNo, Version};
 pub use refusal::Refusal;
 pub use report::Report;
@@ -37,3 +39,6 @@ pub use slot_row::{FrameRow, SlotRow};
 pub use states::{FrameState, HostState, JobState, LockState};
 pub use text::Text;
 pub use verdict::Verdict;
+
+#[cfg(test)]
+mod tests;

@@ -1,8 +1,8 @@
-//! The forms of names.
+//! The forms of names and tags.
 
 ghost use Rattle.std.specs.Prelude.{◌≡◌};
 ghost use Rattle.std.specs.List.{list_all};
-ghost use Rattle.farm_types.specs.Forms.{is_name_text, is_name_byte};
+ghost use Rattle.farm_types.specs.Forms.{is_name_text, is_name_byte, is_tag_text, is_tag_byte};
 
 /// Whether the text is a name of a show, job, layer or host: 1 to 64 bytes of ASCII letters, digits, `_`, `.` and `-`.
 pub fn is_name(text: &str) -> bool
@@ -23,4 +23,25 @@ fn is_name_part(byte: u8) -> bool
     ensures { result ≡ is_name_byte byte }
 {
     byte.is_ascii_alphanumeric() || byte == b'_' || byte == b'.' || byte == b'-'
+}
+
+/// Whether the text is a tag: 1 to 31 bytes of ASCII letters, digits, `_` and `-`.
+pub fn is_tag(text: &str) -> bool
+    ensures { result ≡ is_tag_text text.now }
+{
+    1 <= text.len() && text.len() <= 31 && are_tag_bytes(text.as_bytes())
+}
+
+// Whether each byte may stand in a tag.
+fn are_tag_bytes(bytes: &[u8]) -> bool
+    ensures { result ≡ list_all is_tag_byte bytes.now }
+{
+    bytes.iter().all(|b| is_tag_part(*b))
+}
+
+// Whether the byte may stand in a tag.
+fn is_tag_part(byte: u8) -> bool
+    ensures { result ≡ is_tag_byte byte }
+{
+    byte.is_ascii_alphanumeric() || byte == b'_' || byte == b'-'
 }
