@@ -86,7 +86,7 @@ module _ (first : Farm) (turns : List Turn) (taken wrote seen : List ℕ) (farm 
     → Continues line_limit (taken ++ took) (lines_in turns) answer new left'
   stands answer result step is =
       let Stands : Result Given LineFault → Type 0 = λ a. Continues line_limit (taken ++ took) (lines_in turns) a new left' in
-      subst Stands is (HasGiven-next line_limit taken (lines_in turns) reader left took step.answer new left' served.given takes step.goes step.at_end)
+      subst Stands is (HasGiven-next line_limit taken (lines_in turns) reader left step.answer new left' served.given (record { took = took; takes = takes; goes = step.goes; end = step.at_end }))
 
   -- the line was answered
   pub served_went : (step : IsStep turned.Went reader new left' farm after took w s) → (turns' : List Turn) × HasServed first turns' (taken ++ took) (wrote ++ w) (seen ++ s) after new left'

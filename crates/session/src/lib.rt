@@ -1,4 +1,4 @@
-//! A session: lines in, replies out.
+//! Sessions of the scheduler: lines in, replies out.
 #![tactic(auto)]
 
 mod answer;
@@ -9,12 +9,14 @@ mod laws;
 mod read;
 mod reply;
 mod round;
+mod run;
 mod serve;
 mod turn;
 mod turned;
+mod word_forms;
+mod words;
 
-pub use answer::answer_line;
-pub use fault::ReadFault;
 pub use laws::sessions_are_legal;
-pub use read::read_report;
-pub use reply::{Reply, refusal_line, report_line};
+pub use run::{Status, run_cuebot};
+pub use word_forms::form;
+pub use words::Form;

@@ -1,0 +1,34 @@
+-- Words of no form, want of memory, and a session.
+use Rattle.std.proofs.Common.{List, ℕ, [], ◌∷◌, ◌++◌}
+use Rattle.cue_io.specs.Input.{Takes-none}
+use Rattle.cue_io.specs.Output.{Adds-none}
+use Rattle.cue_io.specs.Readings.{Shows-none, Shows-append}
+use Rattle.session.proofs.RunLemmas.{called_for_usage, called_for_memory, called_session}
+use Rattle.session.proofs.run.run_cuebot.Goals as goal
+
+pub returns-then-is_none-clause-call : goal.returns-then-is_none-clause-call
+returns-then-is_none-clause-call g c =
+    let left = g.S.Source.left c.args.source.now in
+    ([], [], [], Takes-none left, Adds-none (g.W.Sink.written c.args.sink.now), Shows-none (g.C.Clock.readings c.args.clock.now), called_for_usage [] left)
+
+pub returns-in_default-clause-call : goal.returns-in_default-clause-call
+returns-in_default-clause-call g c =
+    let left = g.S.Source.left c.args.source.now in
+    ([], [], [], Takes-none left, Adds-none (g.W.Sink.written c.args.sink.now), Shows-none (g.C.Clock.readings c.args.clock.now), called_for_memory [] left)
+
+pub returns-in_default-demo_farm-clause-call : goal.returns-in_default-demo_farm-clause-call
+returns-in_default-demo_farm-clause-call g c =
+    let left = g.S.Source.left c.args.source.now in
+    let seen : List ℕ = c.now-moment.result ∷ [] in
+    ([], [], seen, Takes-none left, Adds-none (g.W.Sink.written c.args.sink.now), c.now-moment.ensures, called_for_memory seen left)
+
+pub returns-clause-call : goal.returns-clause-call
+returns-clause-call g c =
+    let session = c.serve.ensures.ends in
+    (
+      session.1, session.2, c.now-moment.result ∷ session.3, session.4, session.5,
+      Shows-append (g.C.Clock.readings c.args.clock.now) (g.C.Clock.readings c.now-moment.new.self) (g.C.Clock.readings c.serve.new.clock)
+        (c.now-moment.result ∷ []) session.3 c.now-moment.ensures session.6,
+      called_session c.status.result c.serve.result c.now-moment.result c.in-Ok-demo_farm.farm session.0 session.1 session.2 session.3 (g.S.Source.left c.serve.new.source)
+        c.status.ensures c.in-Ok-demo_farm.ensures.farm c.in-Ok-demo_farm.ensures.sound.0 c.in-Ok-demo_farm.ensures.sound.1 c.legal_runs_are_safe.ensures session.7,
+    )
