@@ -1,0 +1,57 @@
+//! The scheduler's program. `cuebot demo` reads hosts' report lines from standard input and answers each with what the host is to start and
+//! to stop, over the farm of the demonstration.
+#![tactic(auto)]
+
+use std::env;
+use std::io::{self, IsTerminal};
+use std::process::ExitCode;
+use std::rt::Runtime;
+
+use cue_io::{InputSource, OutputSink, SystemClock};
+use farm_types::{Items, Text};
+use session::{Status, form, run_cuebot};
+
+const USAGE: &str = "usage: cuebot demo";
+
+const WAITING: &str =
+    "cuebot: waiting for report lines, each a JSON object; end the input with Ctrl-D";
+
+fn main(rt: HostRuntime) -> ExitCode {
+    let at_terminal = rt.stdin().is_terminal();
+    ExitCode::from(run(&rt, at_terminal))
+}
+
+// Runs the program over the standard streams and the machine's clock.
+fn run<R: Runtime + AllocGlobal>(rt: &R, at_terminal: bool) -> Status {
+    let Ok(words) = words_of(rt) else {
+        return 7;
+    };
+    if let Some(hint) = hint_for(words.as_slice(), at_terminal) {
+        let _ = rt.eprintln(hint);
+    }
+    let Ok(clock_rt) = rt.clone() else {
+        return 7;
+    };
+    let mut source = InputSource::make(rt.reader());
+    let mut sink = OutputSink::make(io::writer(rt));
+    let mut clock = SystemClock::make(clock_rt);
+    run_cuebot(rt.alloc(), words.as_slice(), &mut source, &mut sink, &mut clock)
+}
+
+// What is said on standard error before the call: the usage for words of no form, and at a terminal what is waited for.
+fn hint_for(words: &[Text], at_terminal: bool) -> Option<&'static str> {
+    match form(words) {
+        None => Some(USAGE),
+        Some(_) if at_terminal => Some(WAITING),
+        Some(_) => None,
+    }
+}
+
+// The words after the program's name.
+fn words_of<R: Runtime + AllocGlobal>(rt: &R) -> io::Result<Items<Text>> {
+    let mut words = Items::new(rt.alloc());
+    for word in env::args(rt)?.skip(1) {
+        words.push(Text::from_string(word))?;
+    }
+    Ok(words)
+}
