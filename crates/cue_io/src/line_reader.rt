@@ -1,10 +1,9 @@
 //! Lines from a source.
-ghost use Rattle.std.specs.Prelude.{◌≡◌, ℕ, ◌+◌, ◌<◌, ◌≤◌, List, ◌++◌, true, false, nat_eq, nat_lt, length, take, drop, IfOk, IsErrOf, OnErr, OnOk, MatchOption, IfErr, []};
+ghost use Rattle.std.specs.Prelude.{◌≡◌, ℕ, ◌+◌, ◌<◌, ◌≤◌, List, false, nat_eq, length, take, IfOk, IsErrOf, OnErr, MatchOption, []};
 ghost use Rattle.std.specs.List.{position};
 ghost use Rattle.std.specs.Borrow.{sem};
 ghost use Rattle.std.specs.Io.BufRead.{Rests};
 ghost use Rattle.cue_io.specs.Faults.{HasRisen};
-ghost use Rattle.cue_io.specs.Input.{IsAtEnd};
 ghost use Rattle.cue_io.specs.Lines.{has_newline, is_newline};
 ghost use Rattle.cue_io.specs.Reader.{Held, IsAhead, Moves, byte_limit, given_by, new_reader};
 ghost use Rattle.cue_io.specs.Steps.{IsSound, Fetches, after_last, after_line, found_at, found_last, passed_over, shown_as, IsFirstNewline};

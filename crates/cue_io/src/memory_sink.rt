@@ -1,5 +1,5 @@
 //! A sink in memory.
-ghost use Rattle.std.specs.Prelude.{◌≡◌, ℕ, ◌<◌, ◌≤◌, ◌++◌, [], ◌&&◌, true, false, Some, length, take, if◌then◌else◌, nat_eq, nat_lt, IfOk, OnErr};
+ghost use Rattle.std.specs.Prelude.{◌≡◌, ◌<◌, ◌≤◌, [], true, false, Some, length, take, IfOk, OnErr};
 ghost use Rattle.cue_io.specs.Faults.{HasRisen};
 ghost use Rattle.cue_io.specs.Output.{Adds};
 ghost use Rattle.cue_io.specs.Memory.{Store, after_call, after_write, is_to_fail, new_plan, write_count};

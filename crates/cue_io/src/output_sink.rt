@@ -1,5 +1,5 @@
 //! Any writer of std as a sink. It tells nothing of what was written.
-ghost use Rattle.std.specs.Prelude.{◌≡◌, ◌<◌, ◌≤◌, ◌&&◌, None, if◌then◌else◌, nat_eq, nat_lt, length, take, IfOk, OnErr};
+ghost use Rattle.std.specs.Prelude.{◌≡◌, ◌<◌, ◌≤◌, None, if◌then◌else◌, length, take, IfOk, OnErr};
 ghost use Rattle.cue_io.specs.Faults.{HasRisen, counted};
 ghost use Rattle.cue_io.specs.Memory.{takes_none};
 ghost use Rattle.cue_io.specs.Output.{Adds};

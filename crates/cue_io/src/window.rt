@@ -1,7 +1,6 @@
 //! The buffer of a reader of lines: a fixed room that the bytes pass through.
 ghost use Rattle.std.specs.Prelude.{◌≡◌, ℕ, ◌+◌, ◌-◌, ◌<◌, ◌≤◌, List, [], ◌++◌, length, take, drop, IfOk, OnErr, slice_range, vec_len};
 ghost use Rattle.cue_io.specs.Faults.{HasRisen};
-ghost use Rattle.cue_io.specs.Input.{Takes, IsAtEnd};
 ghost use Rattle.cue_io.specs.Window.{Framed, Fills};
 
 use crate::source::{Source, SourceFault};

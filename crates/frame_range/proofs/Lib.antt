@@ -1,0 +1,15 @@
+pub mod AddLemmas
+pub mod AgainLemmas
+pub mod DistinctLemmas
+pub mod EmptyLemmas
+pub mod GrammarLemmas
+pub mod NumberLemmas
+pub mod OtherLemmas
+pub mod PieceLemmas
+pub mod PlaceLemmas
+pub mod ReadLemmas
+pub mod RepeatLemmas
+pub mod SectionLemmas
+pub mod SoundLemmas
+pub mod StepLemmas
+pub mod TextLemmas

@@ -1,0 +1,12 @@
+pub mod Answers
+pub mod Away
+pub mod Capped
+pub mod Checks
+pub mod Grammar
+pub mod Listing
+pub mod Number
+pub mod Places
+pub mod Printed
+pub mod Sections
+pub mod Sets
+pub mod Steps

@@ -1,0 +1,25 @@
+//! Frame ranges: the text of a frame set, its numbers in order, and the text that it prints as.
+#![tactic(auto)]
+
+mod checks;
+mod digits;
+mod fault;
+mod frame_set;
+mod laws;
+mod listing;
+mod pieces;
+mod print;
+mod read;
+mod section;
+mod steps;
+#[cfg(test)]
+mod tests;
+mod text;
+
+pub use fault::RangeFault;
+pub use frame_set::{FrameSet, parse_set};
+pub use laws::{
+    numbers_stand_at_their_places, printed_sets_are_read_again, sections_are_read_as_spelled,
+};
+pub use section::Section;
+pub use text::Text;
