@@ -73,7 +73,7 @@ module _ (f : Farm) (slot host moment : ℕ) (r : Rows) (can : CanBook f slot ho
         cores = λ n h at. subst (λ (k : ℕ). k ≤ h.cores) (sym (booked_sum (cores_on n) refl)) (cores_fit n h (eqb host n) refl at);
         memory = λ n h at. subst (λ (k : ℕ). k ≤ h.memory) (sym (booked_sum (memory_on n) refl)) (memory_fit n h (eqb host n) refl at);
         attempts =
-          changed_at_each (λ i s. HasItsAttempt i s.version s.frame s.proc) f.slots slot (booked_row added)
+            changed_at_each (λ i s. HasItsAttempt i s.version s.frame s.proc) f.slots slot (booked_row added)
             (λ s at. running_attempt slot added.version s.frame added r.frame (subst (λ (x : SlotRow). x.frame ≡ Some r.frame) (same_Some r.slot s (sym can.slot_is ∙ at)) can.frame_is) refl refl)
             (λ i s apart at. ok.attempts i s at);
       }
@@ -81,8 +81,8 @@ module _ (f : Farm) (slot host moment : ℕ) (r : Rows) (can : CanBook f slot ho
   pub booked_hosts : HasItsHosts f → HasItsHosts booked
   booked_hosts there =
       changed_at_each (λ i s. OnHostOf (length f.hosts) s.proc) f.slots slot (booked_row added)
-        (λ s at. slice_get_within f.hosts host r.host can.host_is)
-        (λ i s apart at. there i s at)
+      (λ s at. slice_get_within f.hosts host r.host can.host_is)
+      (λ i s apart at. there i s at)
 
   -- what is booked of the attempt's subscription rises by its cores, and of the others stays
   pub booked_of : (n : ℕ) → booked_in booked n ≡ booked_in f n + cond (eqb (sub_of r.job.show r.host.alloc) n) r.layer.cores 0

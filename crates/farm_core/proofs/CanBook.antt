@@ -57,22 +57,23 @@ can_book f slot host h0 =
     let ready2 = and_both _ (is_pending job.0.state) ready3.0 in
     let ready1 = and_both (is_waiting frame.0.state) (ltb s.0.version last_version) ready2.0 in
     let room = and_both (leb (used_cores f host + layer.0.cores) host_row.0.cores) (leb (used_memory f host + layer.0.memory) host_row.0.memory) h4.1 in
-    let sub = for_some_true (sub_at f (sub_of job.0.show host_row.0.alloc)) _ h5.1 in
-    (record { slot = s.0; frame = frame.0; job = job.0; layer = layer.0; host = host_row.0; sub = sub.0 },
-    record {
-      slot_is = s.1;
-      frame_is = frame.1;
-      job_is = job.1;
-      layer_is = layer.1;
-      host_is = host_row.1;
-      sub_is = sub.1;
-      waits = ready1.0;
-      version = ltb-true s.0.version last_version ready1.1;
-      unblocked = h1.1;
-      cores = leb-true _ _ room.0;
-      memory = leb-true _ _ room.1;
-      burst = leb-true _ _ sub.2;
-    })
+    let sub = for_some_true (sub_at f (sub_of job.0.show host_row.0.alloc)) _ h5.1 in (
+      record { slot = s.0; frame = frame.0; job = job.0; layer = layer.0; host = host_row.0; sub = sub.0 },
+      record {
+        slot_is = s.1;
+        frame_is = frame.1;
+        job_is = job.1;
+        layer_is = layer.1;
+        host_is = host_row.1;
+        sub_is = sub.1;
+        waits = ready1.0;
+        version = ltb-true s.0.version last_version ready1.1;
+        unblocked = h1.1;
+        cores = leb-true _ _ room.0;
+        memory = leb-true _ _ room.1;
+        burst = leb-true _ _ sub.2;
+      },
+    )
 
 -- the attempt that such a booking adds
 pub new_proc_is : (f : Farm) (slot host moment : ℕ) (r : Rows) → CanBook f slot host r → new_proc f slot host moment ≡ Some (proc_of slot host moment r.slot r.job r.layer r.host)

@@ -46,7 +46,7 @@ module _ (f : Farm) (slot : ℕ) (exit : Exit) where
         cores = λ n h at. omega (arith, ended_sum (cores_on n) refl, ok.cores n h at);
         memory = λ n h at. omega (arith, ended_sum (memory_on n) refl, ok.memory n h at);
         attempts =
-          changed_at_each (λ i s. HasItsAttempt i s.version s.frame s.proc) f.slots slot (ended_row f exit)
+            changed_at_each (λ i s. HasItsAttempt i s.version s.frame s.proc) f.slots slot (ended_row f exit)
             (λ s at. ended_attempt slot s.version (λ frame. verdict_for exit frame (job_at f frame.job)) s.frame)
             (λ i s apart at. ok.attempts i s at);
       }

@@ -39,10 +39,10 @@ heard_consistent f host seq moment ok =
       sound = heard_sound f host seq moment ok.sound;
       hosted = rw count ok.hosted;
       hosts_within =
-        list_all-from_at is_host_within (changed_at f.hosts host (heard_row seq moment))
+          list_all-from_at is_host_within (changed_at f.hosts host (heard_row seq moment))
           (changed_at_each (λ k h. is_host_within h ≡ true) f.hosts host (heard_row seq moment)
-            (λ h at. list_all-at is_host_within f.hosts host h ok.hosts_within at)
-            (λ k h apart at. list_all-at is_host_within f.hosts k h ok.hosts_within at));
+          (λ h at. list_all-at is_host_within f.hosts host h ok.hosts_within at)
+          (λ k h apart at. list_all-at is_host_within f.hosts k h ok.hosts_within at));
       subs_within = ok.subs_within;
       booked_within = ok.booked_within;
       host_count = omega (arith, count, ok.host_count);
@@ -61,7 +61,7 @@ opened_consistent f moment ok =
       sound = opened_sound f moment ok.sound;
       hosted = rw count ok.hosted;
       hosts_within =
-        list_all-from_at is_host_within (map (reopened_row moment) f.hosts)
+          list_all-from_at is_host_within (map (reopened_row moment) f.hosts)
           (mapped_each (λ k h. is_host_within h ≡ true) f.hosts (reopened_row moment) (λ k h at. reopened_within moment h (list_all-at is_host_within f.hosts k h ok.hosts_within at)));
       subs_within = ok.subs_within;
       booked_within = ok.booked_within;

@@ -40,10 +40,10 @@ ratio_flip b s c t = ratio_by (eqb s 0) (eqb t 0) (nat_cmp (b * t) (c * s)) (nat
 rank_flip : (f : Farm) (x y : Rank) → rank_cmp f y x ≡ ordering_reverse (rank_cmp f x y)
 rank_flip f x y =
     flip_then _ _ (ratio_flip x.booked x.size y.booked y.size)
-      (flip_then _ _ (nat_list_cmp_total.antisymm (show_name f y.show) (show_name f x.show))
-      (flip_then _ _ (nat_cmp_total.antisymm x.priority y.priority)
-      (flip_then _ _ (nat_cmp_total.antisymm y.job x.job)
-      (flip_then _ _ (nat_cmp_total.antisymm y.layer x.layer) (nat_cmp_total.antisymm y.position x.position)))))
+    (flip_then _ _ (nat_list_cmp_total.antisymm (show_name f y.show) (show_name f x.show))
+    (flip_then _ _ (nat_cmp_total.antisymm x.priority y.priority)
+    (flip_then _ _ (nat_cmp_total.antisymm y.job x.job)
+    (flip_then _ _ (nat_cmp_total.antisymm y.layer x.layer) (nat_cmp_total.antisymm y.position x.position)))))
 
 below_by : (o p : Ordering) → p ≡ ordering_reverse o → is_gt o ≡ true → is_gt p ≡ false
 below_by Less p e h = absurd (false≢true h)

@@ -75,9 +75,9 @@ module _ (f : Farm) (slot host moment : ℕ) (r : Rows) (can : CanBook f slot ho
       record {
         unblocked = can.unblocked;
         burst = λ s p at live.
-          let new : booked_row (added f slot host moment r can ok) r.slot ≡ s = same_Some _ s (sym (changed_at_same f.slots slot (booked_row (added f slot host moment r can ok)) r.slot can.slot_is) ∙ at) in
-          let same : added f slot host moment r can ok ≡ p = same_Some _ p (ap (λ (x : SlotRow). x.proc) new ∙ live) in
-          subst (λ (x : ProcRow). IsWithinBurst (booked f slot host moment r can ok) x.sub) same burst_kept;
+            let new : booked_row (added f slot host moment r can ok) r.slot ≡ s = same_Some _ s (sym (changed_at_same f.slots slot (booked_row (added f slot host moment r can ok)) r.slot can.slot_is) ∙ at) in
+            let same : added f slot host moment r can ok ≡ p = same_Some _ p (ap (λ (x : SlotRow). x.proc) new ∙ live) in
+            subst (λ (x : ProcRow). IsWithinBurst (booked f slot host moment r can ok) x.sub) same burst_kept;
       }
 
 book_safely : (f : Farm) (slot host moment : ℕ) → may_record f slot host ≡ true → IsSound f → BooksSafely f (with_proc f slot (new_proc f slot host moment)) slot
@@ -93,9 +93,11 @@ act_safely f moment (Book slot host) allowed ok = book_safely (at_moment f momen
 pub each_step_safe : (f : Farm) (es : List Entry) → IsSound f → HasItsHosts f → IsLegal f es → EachStepSafe f es
 each_step_safe f [] ok there legal = ok
 each_step_safe f (e ∷ es) ok there legal =
-    let moment = moment_of f e.moment in
-    (ok, act_safely f moment e.act legal.0.condition ok,
-    each_step_safe (after f e) es (act_step f moment e.act legal.0.condition ok) (act_hosts f moment e.act legal.0.condition ok there) legal.1)
+    let moment = moment_of f e.moment in (
+      ok,
+      act_safely f moment e.act legal.0.condition ok,
+      each_step_safe (after f e) es (act_step f moment e.act legal.0.condition ok) (act_hosts f moment e.act legal.0.condition ok there) legal.1,
+    )
 
 -- ---- completions count once
 
@@ -108,7 +110,7 @@ spent_book f slot host moment a allowed spent =
     let can = can_book f slot host allowed in
     let new = proc_of slot host moment can.0.slot can.0.job can.0.layer can.0.host in
     subst (λ (g : Farm). IsSpent g a) (sym (booking_makes f slot host moment can.0 can.1))
-      (spent_booked f slot new a (λ s at. let same = ap (λ (x : SlotRow). x.version) (same_Some can.0.slot s (sym can.1.slot_is ∙ at)) in omega (arith, same)) spent)
+    (spent_booked f slot new a (λ s at. let same = ap (λ (x : SlotRow). x.version) (same_Some can.0.slot s (sym can.1.slot_is ∙ at)) in omega (arith, same)) spent)
 
 spent_act : (f : Farm) (moment : ℕ) (act : Act) (a : Attempt) → HasCondition f act → IsSpent f a → IsSpent (after_act (at_moment f moment) moment act) a
 spent_act f moment Opened a allowed spent = spent
@@ -147,7 +149,7 @@ none_counted f [] ok legal = λ a spent. refl
 none_counted f (e ∷ es) ok legal =
     let moment = moment_of f e.moment in
     none_joined f (after f e) (counted_by (at_moment f moment) moment e.act) (counted (after f e) es) (λ a spent. spent_act f moment e.act a legal.0.condition spent) (none_act f moment e.act ok)
-      (none_counted (after f e) es (act_step f moment e.act legal.0.condition ok) legal.1)
+    (none_counted (after f e) es (act_step f moment e.act legal.0.condition ok) legal.1)
 
 differ_counted : (f : Farm) (es : List Entry) → IsSound f → IsLegal f es → AllDiffer (counted f es)
 differ_counted f [] ok legal = tt
@@ -155,7 +157,7 @@ differ_counted f (e ∷ es) ok legal =
     let moment = moment_of f e.moment in
     let sound = act_step f moment e.act legal.0.condition ok in
     differ_joined (after f e) (counted_by (at_moment f moment) moment e.act) (counted (after f e) es) (differ_act f moment e.act ok) (differ_counted (after f e) es sound legal.1) (are_act f moment e.act ok)
-      (none_counted (after f e) es sound legal.1)
+    (none_counted (after f e) es sound legal.1)
 
 -- ---- the law
 

@@ -82,9 +82,9 @@ spent_not_live f host boot a ok spent = not_live_by f host boot a (is_live f hos
 spent_changed : (ss : List SlotRow) (i : ℕ) (change : SlotRow → SlotRow) (a : Attempt) → ((s : SlotRow) → slice_get ss i ≡ Some s → IsSpentAt a s → IsSpentAt a (change s)) → ((s : SlotRow) → slice_get ss a.slot ≡ Some s → IsSpentAt a s) → (s : SlotRow) → slice_get (changed_at ss i change) a.slot ≡ Some s → IsSpentAt a s
 spent_changed ss i change a step had s at =
     changed_at_each (λ k y. a.slot ≡ k → IsSpentAt a y) ss i change
-      (λ x here e. step x here (had x (subst (λ (n : ℕ). slice_get ss n ≡ Some x) (sym e) here)))
-      (λ k x apart there e. had x (subst (λ (n : ℕ). slice_get ss n ≡ Some x) (sym e) there))
-      a.slot s at refl
+    (λ x here e. step x here (had x (subst (λ (n : ℕ). slice_get ss n ≡ Some x) (sym e) here)))
+    (λ k x apart there e. had x (subst (λ (n : ℕ). slice_get ss n ≡ Some x) (sym e) there))
+    a.slot s at refl
 
 ended_stays : (f : Farm) (exit : Exit) (a : Attempt) (s : SlotRow) → IsSpentAt a s → IsSpentAt a (ended_row f exit s)
 ended_stays f exit a s (inl below) = inl below
@@ -117,9 +117,9 @@ spent_booked f slot p a above spent = spent_changed f.slots slot (booked_row p) 
 live_ends : (f : Farm) (d : DoneItem) → LiveIn f d.attempt → IsSpent (record f { slots = changed_at f.slots d.attempt.slot (ended_row f d.exit) }) d.attempt
 live_ends f d l s at =
     changed_at_each (λ k y. d.attempt.slot ≡ k → IsSpentAt d.attempt y) f.slots d.attempt.slot (ended_row f d.exit)
-      (λ x here e. inr (l.version ∙ ap (λ (r : SlotRow). r.version) (same_Some l.slot x (sym l.slot_is ∙ here)), refl))
-      (λ k x apart there e. absurd (apart (sym e)))
-      d.attempt.slot s at refl
+    (λ x here e. inr (l.version ∙ ap (λ (r : SlotRow). r.version) (same_Some l.slot x (sym l.slot_is ∙ here)), refl))
+    (λ k x apart there e. absurd (apart (sym e)))
+    d.attempt.slot s at refl
 
 -- a completion that counts leaves its attempt spent
 pub counted_spent : (f : Farm) (host boot : ℕ) (d : DoneItem) → IsSound f → is_live f host boot d.attempt.slot d.attempt.version ≡ true → IsSpent (end_attempt f host boot d) d.attempt

@@ -7,14 +7,12 @@ ghost use Rattle.farm_types.specs.Farm.{changed_at};
 ghost use Rattle.farm_types.specs.Step.{at_moment, reopened_row, heard_row, booked_row, end_attempt, end_all};
 ghost use Rattle.farm_core.specs.Change.{IsReady, IsBooking, is_reserved, reserved_of, after_change, answer_of};
 
-use std::alloc::{AllocError, Global};
-
+use crate::change::{Answer, Change, Effect};
+use crate::farm::Farm;
 use farm_types::{
     DoneItem, FrameRow, FrameState, HostNo, HostRow, HostState, ProcRow, Slot, SlotRow,
 };
-
-use crate::change::{Answer, Change, Effect};
-use crate::farm::Farm;
+use std::alloc::{AllocError, Global};
 
 impl Farm {
     /// Reserves the room that the change needs, so that applying it takes no memory. Changes nothing else. No

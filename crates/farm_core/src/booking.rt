@@ -6,12 +6,11 @@ ghost use Rattle.farm_types.specs.Farm.{sub_at, sub_of};
 ghost use Rattle.farm_types.specs.Depends.{is_open};
 ghost use Rattle.farm_types.specs.Booking.{is_ready, in_facility, takes_frames, has_room, within_burst, may_place, may_record, may_book, tags_match, share_tag, tags_of};
 
+use crate::farm::Farm;
 use farm_types::{
     AllocNo, AllocRow, FrameRow, FrameState, HostNo, HostRow, HostState, JobRow, JobState,
     LayerRow, LockState, ShowNo, Slot, SlotRow, SubRow, Text, Version,
 };
-
-use crate::farm::Farm;
 
 /// The last version of a slot, at which it stays.
 const LAST_VERSION: u32 = 16_777_215;

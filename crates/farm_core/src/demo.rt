@@ -4,14 +4,12 @@ ghost use Rattle.std.specs.Prelude.{◌≡◌, ◌<◌, IfOk};
 ghost use Rattle.farm_types.specs.Run.{IsSound, HasItsHosts};
 ghost use Rattle.farm_types.specs.Demo.{demo_farm, demo_host, demo_job, demo_layer, demo_slots, demo_slot};
 
-use std::alloc::{AllocError, Global};
-
+use crate::farm::Farm;
 use farm_types::{
     AllocNo, AllocRow, Cores, FrameRow, FrameState, HostRow, HostState, Items, JobNo, JobRow,
     JobState, Kb, LayerRow, LockState, ShowNo, ShowRow, SlotRow, SubNo, SubRow, Text, Version,
 };
-
-use crate::farm::Farm;
+use std::alloc::{AllocError, Global};
 
 /// The farm of the demonstration, as it is opened at a moment (seconds): host `h1` of eight cores, and the job
 /// `demo-job` of ten frames of one core each, on a subscription with a burst of four cores.
@@ -115,10 +113,7 @@ fn layer_of(alloc: Global) -> Result<LayerRow, AllocError>
         command: Text::from_str(alloc, "echo #IFRAME#")?,
         cores: Cores(100),
         memory: Kb(3355443),
-        tags: Items::from_vec(Vec::from_array(
-            alloc,
-            [Text::from_str(alloc, "general")?],
-        )?),
+        tags: Items::from_vec(Vec::from_array(alloc, [Text::from_str(alloc, "general")?])?),
     })
 }
 

@@ -4,12 +4,11 @@ ghost use Rattle.std.specs.Prelude.{◌≡◌, ◌≤◌, length, slice_get, opt
 ghost use Rattle.farm_types.specs.Farm.{job_at, layer_at, sub_at};
 ghost use Rattle.farm_core.specs.Reads.{live_at};
 
-use std::marker::Model;
-
 use farm_types::{
-    AllocNo, AllocRow, HostNo, HostRow, JobNo, JobRow, LayerRow, ProcRow, ShowNo, ShowRow,
-    Slot, SlotRow, SubNo, SubRow,
+    AllocNo, AllocRow, HostNo, HostRow, JobNo, JobRow, LayerRow, ProcRow, ShowNo, ShowRow, Slot,
+    SlotRow, SubNo, SubRow,
 };
+use std::marker::Model;
 
 /// The farm's rows, each list in the order of its numbers, and its counters. `slots` ends with the last slot that
 /// was ever used.
@@ -52,30 +51,28 @@ impl Model for Farm {
           next_finish = a.next_finish;
           moment = a.moment;
           marked = a.marked;
-        }
-    };
+        } };
 
     ghost invariant = { λ a.
         let f : types.Farm =
-            record {
-              shows = a.shows.items;
-              allocs = a.allocs.items;
-              subs = a.subs.items;
-              hosts = a.hosts.items;
-              jobs = a.jobs.items;
-              layers = a.layers.items;
-              slots = a.slots.items;
-              depends = [];
-              met = [];
-              next_job = a.next_job;
-              next_depend = a.next_depend;
-              next_finish = a.next_finish;
-              moment = a.moment;
-              marked = a.marked;
-            }
+        record {
+          shows = a.shows.items;
+          allocs = a.allocs.items;
+          subs = a.subs.items;
+          hosts = a.hosts.items;
+          jobs = a.jobs.items;
+          layers = a.layers.items;
+          slots = a.slots.items;
+          depends = [];
+          met = [];
+          next_job = a.next_job;
+          next_depend = a.next_depend;
+          next_finish = a.next_finish;
+          moment = a.moment;
+          marked = a.marked;
+        }
         in
-        IsConsistent f
-    };
+        IsConsistent f };
 }
 
 impl Farm {
@@ -133,7 +130,9 @@ impl Farm {
     pub fn layer(&self, job: JobNo, place: u32) -> Option<&LayerRow>
         ensures { option_copied result ≡ layer_at self.now job place }
     {
-        self.layers.iter().find(|l| l.job == job && l.place == place)
+        self.layers
+            .iter()
+            .find(|l| l.job == job && l.place == place)
     }
 
     /// What stands in a slot, none past the last that was ever used.

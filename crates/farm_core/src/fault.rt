@@ -1,8 +1,7 @@
 //! Why no change was prepared.
 
-use std::alloc::AllocError;
-
 use farm_types::Refusal;
+use std::alloc::AllocError;
 
 /// Why the farm prepared no change for an entry.
 #[derive(Debug, Drop)]

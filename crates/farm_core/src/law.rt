@@ -12,12 +12,10 @@ ghost use Rattle.farm_core.specs.Order.{IsDispatchOrder};
 /// and no completion counts twice. It holds of all farms, those with depends included.
 pub fn legal_runs_are_safe()
     ensures { (f : Farm) (es : List Entry) → IsSound f → HasItsHosts f → IsLegal f es → IsSafe f es }
-{
-}
+{}
 
 /// The order of dispatch for a host lists each frame that may be booked there exactly once, and no frame stands right
 /// before one that comes before it.
 pub fn dispatch_lists_each_once()
     ensures { (f : Farm) (host : ℕ) → IsDispatchOrder f host }
-{
-}
+{}

@@ -13,6 +13,8 @@ mod planning;
 mod prepare;
 mod rank;
 mod sums;
+#[cfg(test)]
+mod tests;
 mod verdict;
 
 pub use change::{Answer, Change};

@@ -4,9 +4,8 @@ ghost use Rattle.std.specs.Prelude.{◌≡◌, ◌<◌, ◌≤◌, length, IfSom
 ghost use Rattle.farm_types.specs.Farm.{host_named, host_from};
 ghost use Rattle.farm_types.specs.Step.{is_live, is_attempt};
 
-use farm_types::{Attempt, HostNo, HostRow, ProcRow, Version};
-
 use crate::farm::Farm;
+use farm_types::{Attempt, HostNo, HostRow, ProcRow, Version};
 
 impl Farm {
     /// The number of the first host of that name.

@@ -5,11 +5,9 @@ ghost use Rattle.std.specs.List.{prefix_len};
 ghost use Rattle.std.specs.Ordering.{is_gt};
 ghost use Rattle.farm_types.specs.Dispatch.{rank_cmp, insert_rank, sorted_ranks, ranks_from, plan_for, candidates_each};
 
-use std::alloc::{AllocError, Global};
-
-use farm_types::{Candidate, HostNo, Items, Rank, Slot};
-
 use crate::farm::Farm;
+use farm_types::{Candidate, HostNo, Items, Rank, Slot};
+use std::alloc::{AllocError, Global};
 
 /// How many frames a report is offered.
 const CANDIDATES_EACH: usize = 64;

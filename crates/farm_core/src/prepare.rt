@@ -6,15 +6,13 @@ ghost use Rattle.farm_types.specs.Step.{HasCondition, moment_of, new_proc};
 ghost use Rattle.farm_types.specs.declared.entry.Act.TheVariants as act;
 ghost use Rattle.farm_core.specs.Change.{Prepares, Makes, IsUnknown};
 
-use std::alloc::{AllocError, Global};
-
-use farm_types::{
-    Act, DoneItem, Entry, HeardAct, HostNo, Items, ProcRow, Refusal, Slot, Text, Version,
-};
-
 use crate::change::{Change, Effect};
 use crate::farm::Farm;
 use crate::fault::PrepareFault;
+use farm_types::{
+    Act, DoneItem, Entry, HeardAct, HostNo, Items, ProcRow, Refusal, Slot, Text, Version,
+};
+use std::alloc::{AllocError, Global};
 
 impl Farm {
     /// Prepares what the entry does, and changes nothing. An entry to book is one whose booking may be recorded.

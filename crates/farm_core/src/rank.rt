@@ -3,11 +3,9 @@
 ghost use Rattle.std.specs.Prelude.{◌≡◌};
 ghost use Rattle.farm_types.specs.Dispatch.{by_ratio, show_name, rank_cmp, rank_in, rank_of};
 
-use std::cmp::Ordering;
-
-use farm_types::{Candidate, HostNo, Rank, ShowNo, Slot, SlotRow};
-
 use crate::farm::Farm;
+use farm_types::{Candidate, HostNo, Rank, ShowNo, Slot, SlotRow};
+use std::cmp::Ordering;
 
 impl Farm {
     // How two ranks compare: subscriptions by what is booked of their size, ties by the show's name; jobs by
@@ -18,7 +16,10 @@ impl Farm {
         let by_frame = a.layer.cmp(&b.layer).then(a.position.cmp(&b.position));
         let by_number = a.job.0.cmp(&b.job.0).then(by_frame);
         let by_job = b.priority.cmp(&a.priority).then(by_number);
-        let by_show = self.show_name(a.show).cmp(self.show_name(b.show)).then(by_job);
+        let by_show = self
+            .show_name(a.show)
+            .cmp(self.show_name(b.show))
+            .then(by_job);
         by_ratio(a.booked, a.size, b.booked, b.size).then(by_show)
     }
 

@@ -3,9 +3,8 @@
 ghost use Rattle.std.specs.Prelude.{◌≡◌, ◌<◌, ◌^◌, length, sum_by};
 ghost use Rattle.farm_types.specs.Sums.{cores_on, memory_on, cores_in, used_on, booked_in};
 
-use farm_types::{Cores, HostNo, Kb, ProcRow, SlotRow, SubNo};
-
 use crate::farm::Farm;
+use farm_types::{Cores, HostNo, Kb, ProcRow, SlotRow, SubNo};
 
 impl Farm {
     /// The cores and the memory that live attempts use on a host that is there.
@@ -14,10 +13,7 @@ impl Farm {
         ensures { result ≡ used_on self.now host }
     {
         let slots = self.slots.as_slice();
-        (
-            Cores(cores_used(slots, host)),
-            Kb(memory_used(slots, host)),
-        )
+        (Cores(cores_used(slots, host)), Kb(memory_used(slots, host)))
     }
 
     /// The cores that are booked of a subscription.

@@ -5,9 +5,8 @@ ghost use Rattle.farm_types.specs.Farm.{job_at};
 ghost use Rattle.farm_types.specs.Step.{judged, verdict_for, ended_row};
 ghost use Rattle.farm_types.specs.Verdict.{verdict_of};
 
-use farm_types::{Exit, FrameRow, FrameState, SlotRow, Verdict};
-
 use crate::farm::Farm;
+use farm_types::{Exit, FrameRow, FrameState, SlotRow, Verdict};
 
 /// The status of a process that asks for another try, which counts as no retry.
 const TRY_AGAIN: u32 = 286;

@@ -6,7 +6,7 @@ abbrev pub invariant-loop-place : goal.invariant-loop-place
 invariant-loop-place l =
     record {
       within : l.place ≤ length l.slots;
-      kept : l.kept.items ≡ take candidates_each (sorted_ranks l.farm (ranks_from l.farm l.host l.place (drop l.place l.slots)))
+      kept : l.kept.items ≡ take candidates_each (sorted_ranks l.farm (ranks_from l.farm l.host l.place (drop l.place l.slots)));
     }
 
 abbrev pub decreases-loop-place : goal.decreases-loop-place
