@@ -5,6 +5,7 @@ use Rattle.std.specs.Option.{option_map, is_some}
 use Rattle.std.specs.Ordering.{int_eq}
 use Rattle.std.specs.List.{AllByRecursion, IsDistinct, slice_get, list_any, flat_map}
 use Rattle.std.proofs.lemmas.Cmp.{int_eq_equiv}
+use Rattle.std.proofs.lemmas.List.Folds.{list_any-append}
 use Rattle.std.proofs.lemmas.Map.Keys.{IsDistinct-push, IsDistinct-head, IsDistinct-tail}
 use Rattle.std.proofs.lemmas.Bool.Decides.{Decides-int_eq}
 use Rattle.frame_range.proofs.PlaceLemmas.{int_eq-same, int_eq-comm}
@@ -106,3 +107,43 @@ place_of_get z (x ∷ xs) zero d g =
 place_of_get z (x ∷ xs) (suc i) d g =
     ap (λ (b : Bool). cond b (Some 0) (option_map suc (place_of z xs))) (int_eq-comm z x ∙ other_at x z xs i (IsDistinct-head int_eq x xs d) g)
     ∙ ap (option_map suc) (place_of_get z xs i (IsDistinct-tail int_eq x xs d) g)
+
+-- ---- members
+
+or_absorb : (p q : Bool) → (q ≡ true → p ≡ true) → p ≡ (p || q)
+or_absorb true q h = refl
+or_absorb false true h = h refl
+or_absorb false false h = refl
+
+or_none : (p : Bool) → (p || false) ≡ p
+or_none true = refl
+or_none false = refl
+
+or_join : (p q r : Bool) → ((p || q) || r) ≡ (p || (q || r))
+or_join true q r = refl
+or_join false q r = refl
+
+with_number-has : (b : Bool) (xs : List ℤ) (y z : ℤ) → has xs y ≡ b → has (cond b xs (xs ++ y ∷ [])) z ≡ (has xs z || int_eq z y)
+with_number-has true xs y z h = or_absorb (has xs z) (int_eq z y) (λ e. ap (has xs) ((Decides-int_eq z y).0 e) ∙ h)
+with_number-has false xs y z h =
+    has_any z (xs ++ y ∷ []) ∙ list_any-append (int_eq z) xs (y ∷ [])
+    ∙ ap (λ (b : Bool). b || (int_eq z y || false)) (sym (has_any z xs)) ∙ ap (λ (b : Bool). has xs z || b) (or_none (int_eq z y))
+
+with_all-any : (xs zs : List ℤ) (z : ℤ) → has (with_all xs zs) z ≡ (has xs z || list_any (int_eq z) zs)
+with_all-any xs [] z = sym (or_none (has xs z))
+with_all-any xs (y ∷ ys) z =
+    with_all-any (with_number xs y) ys z
+    ∙ ap (λ (b : Bool). b || list_any (int_eq z) ys) (with_number-has (has xs y) xs y z refl)
+    ∙ or_join (has xs z) (int_eq z y) (list_any (int_eq z) ys)
+
+any_section : (ss : List Section) (z : ℤ) → list_any (int_eq z) (flat_map section_numbers ss) ≡ list_any (λ s. has (section_numbers s) z) ss
+any_section [] z = refl
+any_section (s ∷ ss) z =
+    list_any-append (int_eq z) (section_numbers s) (flat_map section_numbers ss)
+    ∙ ap (λ (b : Bool). b || list_any (int_eq z) (flat_map section_numbers ss)) (sym (has_any z (section_numbers s)))
+    ∙ ap (λ (b : Bool). has (section_numbers s) z || b) (any_section ss z)
+
+-- a set has the numbers of its sections and no other
+pub numbers_from_sections : (ss : List Section) (z : ℤ) → has (numbers_of ss) z ≡ list_any (λ s. has (section_numbers s) z) ss
+unfolding numbers_of
+numbers_from_sections ss z = with_all-any [] (flat_map section_numbers ss) z ∙ any_section ss z

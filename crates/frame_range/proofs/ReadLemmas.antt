@@ -33,7 +33,7 @@ marked_some mark a b c x y z e f g =
     ap (λ (v : ℤ). marked mark v y z) p ∙ ap (λ (v : ℤ). marked mark (capped a) v z) q ∙ ap (λ (v : ℤ). marked mark (capped a) (capped b) v) r
     ∙ capped_stepped (mark == 120) (mark == 121) a b c
 
-pub marked_read : (mark : ℕ) (o p q : Option ℤ) (x y z : ℤ) → Some x ≡ option_map capped o → Some y ≡ option_map capped p → Some z ≡ option_map capped q →
+marked_read : (mark : ℕ) (o p q : Option ℤ) (x y z : ℤ) → Some x ≡ option_map capped o → Some y ≡ option_map capped p → Some z ≡ option_map capped q →
     Some (marked mark x y z) ≡ option_map capped_section (marked_of mark o p q)
 marked_read mark None p q x y z e f g = absurd (cc)
 marked_read mark (Some a) None q x y z e f g = absurd (cc)
@@ -46,6 +46,11 @@ range_at_none first rest e =
       | None ↦ range_of (number_at first) (number_at rest)
       | Some i ↦ marked_of (slice_index rest i) (number_at first) (number_at (take i rest)) (number_at (drop (i + 1) rest))
     ]) e
+
+-- the section that the mark says, of the numbers as they are read
+pub marked_gives : (mark : ℕ) (o p q : Option ℤ) (x y z : ℤ) (r : Section) → r ≡ marked mark x y z → Some x ≡ option_map capped o → Some y ≡ option_map capped p →
+    Some z ≡ option_map capped q → Some r ≡ option_map capped_section (marked_of mark o p q)
+marked_gives mark o p q x y z r is e f g = ap (λ (s : Section). Some s) is ∙ marked_read mark o p q x y z e f g
 
 -- a space at the back makes no difference
 pub without_back_space : (text : List ℕ) → without_back (text ++ 32 ∷ []) ≡ without_back text

@@ -25,23 +25,26 @@ without_back (b ∷ bs) = onto_back b (without_back bs)
 abbrev pub trimmed : List ℕ → List ℕ
 trimmed text = without_back (without_front text)
 
--- the minus sign, and the marks x, y and : of a step
+-- the minus sign
 abbrev pub is_dash : ℕ → Bool
 is_dash b = b == 45
 
+-- the marks x, y and : of a step
 abbrev pub is_mark : ℕ → Bool
 is_mark b = b == 120 || (b == 121 || b == 58)
 
--- a section of two numbers, or of three by its mark, where all of them are numbers
+-- a section of two numbers, where both are there
 abbrev pub range_of : Option ℤ → Option ℤ → Option Section
 range_of (Some first) (Some last) = Some (Range first last)
 range_of (Some first) None = None
 range_of None last = None
 
+-- the section of three numbers that the mark says
 abbrev pub marked : ℕ → ℤ → ℤ → ℤ → Section
 marked mark first last step =
     if mark == 120 then Stepped first last step else (if mark == 121 then Inverse first last step else Interleaved first last step)
 
+-- the same, where all three are there
 abbrev pub marked_of : ℕ → Option ℤ → Option ℤ → Option ℤ → Option Section
 marked_of mark (Some first) (Some last) (Some step) = Some (marked mark first last step)
 marked_of mark (Some first) (Some last) None = None

@@ -13,6 +13,7 @@ use Rattle.frame_range.specs.Steps.{section_numbers}
 unfoldable pub numbers_of : List Section → List ℤ
 numbers_of sections = without_repeats (flat_map section_numbers sections)
 
+-- the list has no number
 abbrev pub is_nil : List ℤ → Bool
 is_nil [] = true
 is_nil (z ∷ zs) = false

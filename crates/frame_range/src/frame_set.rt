@@ -85,8 +85,8 @@ pub fn parse_set(alloc: Global, text: &str) -> Result<FrameSet, RangeFault>
     let mut sections = Vec::new(alloc);
     let mut listing = Listing::new(alloc);
     let mut rest = text.as_bytes();
-    while let Some((text, others)) = cut_at_comma(rest) {
-        add_section(&mut sections, &mut listing, text)?;
+    while let Some((piece, others)) = cut_at_comma(rest) {
+        add_section(&mut sections, &mut listing, piece)?;
         rest = others;
     }
     add_section(&mut sections, &mut listing, rest)?;

@@ -1,12 +1,14 @@
 //! Laws of the definitions that the calls are proved against.
 
 ghost use Rattle.std.specs.Prelude.{◌≡◌, ◌↔◌, ℕ, ℤ, List, Some, Ok, slice_get};
+ghost use Rattle.std.specs.List.{list_any};
 ghost use Rattle.frame_range.specs.declared.section.Section.{Section};
 ghost use Rattle.frame_range.specs.Grammar.{Spells};
-ghost use Rattle.frame_range.specs.Places.{place_of};
+ghost use Rattle.frame_range.specs.Places.{has, place_of};
 ghost use Rattle.frame_range.specs.Printed.{printed};
 ghost use Rattle.frame_range.specs.Sections.{section_at, trimmed};
 ghost use Rattle.frame_range.specs.Sets.{numbers_of, set_of};
+ghost use Rattle.frame_range.specs.Steps.{section_numbers};
 
 /// A text is read as a section exactly where it is one of the section's spellings: one of the five forms, with spaces
 /// before and after it.
@@ -22,4 +24,9 @@ pub fn printed_sets_are_read_again()
 /// The place of a number of a set is where it stands, and there alone.
 pub fn numbers_stand_at_their_places()
     ensures { (sections : List Section) (i : ℕ) (z : ℤ) → (place_of z (numbers_of sections) ≡ Some i) ↔ (slice_get (numbers_of sections) i ≡ Some z) }
+{}
+
+/// A set has the numbers of its sections and no other.
+pub fn numbers_are_those_of_the_sections()
+    ensures { (sections : List Section) (z : ℤ) → has (numbers_of sections) z ≡ list_any (λ s. has (section_numbers s) z) sections }
 {}

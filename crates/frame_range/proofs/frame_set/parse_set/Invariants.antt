@@ -3,13 +3,13 @@ use Rattle.frame_range.specs.Places.{most_numbers}
 use Rattle.frame_range.specs.Sets.{numbers_of, IsFaultless, sections_from, pieces}
 use Rattle.frame_range.proofs.frame_set.parse_set.Given as goal
 
-abbrev pub invariant-loop-text : goal.invariant-loop-text
-invariant-loop-text l = record {
+abbrev pub invariant-loop-piece : goal.invariant-loop-piece
+invariant-loop-piece l = record {
   listed : l.listing ≡ numbers_of l.sections.items;
   room : length l.listing ≤ most_numbers;
   faultless : IsFaultless l.sections.items;
   so_far : sections_from l.sections.items (pieces l.rest) ≡ sections_from [] (pieces l.fn.text);
 }
 
-abbrev pub decreases-loop-text : goal.decreases-loop-text
-decreases-loop-text l = length l.rest
+abbrev pub decreases-loop-piece : goal.decreases-loop-piece
+decreases-loop-piece l = length l.rest
