@@ -1,5 +1,5 @@
 -- A booking that may be recorded keeps the farm sound.
-use Rattle.std.proofs.Common.{◌≡◌, ◌≢◌, ℕ, ◌+◌, ◌<◌, ◌≤◌, Bool, true, false, cond, eqb, List, length, Option, Some, None, refl, sym, ap, subst, ◌∙◌, arith, option_map}
+use Rattle.std.proofs.Common.{◌≡◌, ℕ, ◌+◌, ◌≤◌, Bool, true, false, cond, eqb, length, Option, Some, None, refl, sym, ap, subst, ◌∙◌, arith, option_map}
 use Rattle.std.specs.List.{slice_get, sum_by}
 use Rattle.std.proofs.lemmas.Option.{same_Some, slice_get_within}
 use Rattle.std.proofs.lemmas.Bool.{false≢true, eqb-true}
@@ -14,7 +14,7 @@ use Rattle.farm_types.specs.Sums.{used_cores, used_memory, booked_in, cores_on, 
 use Rattle.farm_types.specs.Booking.{is_waiting}
 use Rattle.farm_types.specs.Run.{IsSound, HasItsHosts, HasItsAttempt, IsAttemptOf, OnHostOf}
 use Rattle.farm_types.specs.Step.{booked_row, proc_of}
-use Rattle.farm_core.proofs.Changed.{changed_at_each, changed_at_sum, length-changed_at}
+use Rattle.farm_core.proofs.Changed.{changed_at_each, changed_at_sum}
 use Rattle.farm_core.proofs.CanBook.{Rows, CanBook}
 
 waiting_has_none : (place version : ℕ) (state : FrameState) (proc : Option ProcRow) → is_waiting state ≡ true → IsAttemptOf place version state proc → proc ≡ None

@@ -1,18 +1,17 @@
 -- What a test for a booking says, part by part.
-use Rattle.std.proofs.Common.{◌≡◌, ℕ, ◌+◌, ◌<◌, ◌≤◌, Bool, true, false, ◌&&◌, not, List, Option, Some, None, refl, sym, leb, ltb}
+use Rattle.std.proofs.Common.{◌≡◌, ℕ, ◌+◌, ◌<◌, ◌≤◌, true, not, Some, refl, leb, ltb}
 use Rattle.std.specs.List.{slice_get}
 use Rattle.std.proofs.lemmas.Bool.{leb-true, ltb-true}
-use Rattle.farm_types.specs.declared.attempt.ProcRow.{ProcRow}
 use Rattle.farm_types.specs.declared.rows.HostRow.{HostRow}
 use Rattle.farm_types.specs.declared.rows.JobRow.{JobRow}
 use Rattle.farm_types.specs.declared.rows.LayerRow.{LayerRow}
 use Rattle.farm_types.specs.declared.rows.SubRow.{SubRow}
 use Rattle.farm_types.specs.declared.slot_row.SlotRow.{SlotRow}
 use Rattle.farm_types.specs.declared.slot_row.FrameRow.{FrameRow}
-use Rattle.farm_types.specs.Farm.{Farm, for_some, last_version, sub_at, job_at, layer_at, sub_of}
+use Rattle.farm_types.specs.Farm.{Farm, last_version, sub_at, job_at, layer_at, sub_of}
 use Rattle.farm_types.specs.Sums.{used_cores, used_memory, booked_in}
 use Rattle.farm_types.specs.Depends.{is_open}
-use Rattle.farm_types.specs.Booking.{is_waiting, is_ready, is_pending, in_facility, takes_frames, has_room, within_burst, may_place, may_record}
+use Rattle.farm_types.specs.Booking.{is_waiting, is_ready, is_pending, in_facility, takes_frames, has_room, within_burst, may_record}
 use Rattle.farm_types.specs.Step.{new_proc, proc_of}
 use Rattle.farm_core.proofs.Lists.{and_both, for_some_true}
 

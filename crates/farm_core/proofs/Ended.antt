@@ -1,5 +1,5 @@
 -- A completion keeps the farm sound.
-use Rattle.std.proofs.Common.{◌≡◌, ℕ, ◌+◌, ◌≤◌, Bool, true, false, cond, List, [], ◌∷◌, length, Option, Some, None, refl, sym, ap, subst, arith, option_map}
+use Rattle.std.proofs.Common.{◌≡◌, ℕ, ◌≤◌, Bool, true, false, cond, List, [], ◌∷◌, length, Option, Some, None, refl, ap, arith, option_map}
 use Rattle.std.specs.List.{slice_get, sum_by}
 use Rattle.farm_types.specs.declared.attempt.DoneItem.{DoneItem}
 use Rattle.farm_types.specs.declared.attempt.Exit.{Exit}
@@ -9,10 +9,10 @@ use Rattle.farm_types.specs.declared.slot_row.FrameRow.{FrameRow}
 use Rattle.farm_types.specs.declared.verdict.Verdict.{Verdict}
 use Rattle.farm_types.specs.declared.verdict.Verdict.TheVariants.{Succeeded, Waiting, Eaten, Dead}
 use Rattle.farm_types.specs.Farm.{Farm, changed_at, changed_by, job_at}
-use Rattle.farm_types.specs.Sums.{used_cores, used_memory, booked_in, cores_on, memory_on, cores_in}
+use Rattle.farm_types.specs.Sums.{cores_on, memory_on}
 use Rattle.farm_types.specs.Run.{IsSound, HasItsHosts, HasItsAttempt, IsAttemptOf, OnHostOf}
 use Rattle.farm_types.specs.Step.{judged, verdict_for, ended_row, end_attempt, end_all, is_live}
-use Rattle.farm_core.proofs.Changed.{changed_at_each, changed_at_sum, length-changed_at}
+use Rattle.farm_core.proofs.Changed.{changed_at_each, changed_at_sum}
 
 judged_attempt : (place version : ℕ) (frame : FrameRow) (v : Verdict) → IsAttemptOf place version (judged frame v).state None
 judged_attempt place version frame Succeeded = tt

@@ -1,6 +1,6 @@
 -- A farm all of whose slots have a waiting frame is consistent, where its amounts are within the greatest.
-use Rattle.std.proofs.Common.{◌≡◌, ◌≤◌, ℕ, ◌+◌, arith, refl, ap, ◌∙◌, subst, sym, Bool, true, false, List, [], ◌∷◌, Option, Some, None, length}
-use Rattle.std.specs.List.{slice_get, list_all, sum_by}
+use Rattle.std.proofs.Common.{◌≡◌, ◌≤◌, ℕ, arith, refl, ap, ◌∙◌, subst, sym, true, List, [], ◌∷◌, Option, Some, None, length}
+use Rattle.std.specs.List.{list_all, sum_by}
 use Rattle.std.proofs.lemmas.Bool.{false≢true}
 use Rattle.std.proofs.lemmas.List.Sums.{sum_by-cons}
 use Rattle.farm_types.specs.declared.attempt.ProcRow.{ProcRow}

@@ -1,5 +1,5 @@
 -- What entries change of hosts keeps the farm sound.
-use Rattle.std.proofs.Common.{◌≡◌, ℕ, ◌≤◌, Bool, true, false, cond, map, refl, sym, subst}
+use Rattle.std.proofs.Common.{◌≡◌, ℕ, ◌≤◌, Bool, true, false, cond, map, refl, subst}
 use Rattle.farm_types.specs.declared.rows.HostRow.{HostRow}
 use Rattle.farm_types.specs.Farm.{Farm, changed_at}
 use Rattle.farm_types.specs.Sums.{used_cores, used_memory}

@@ -1,6 +1,6 @@
 -- Each change keeps the farm consistent.
-use Rattle.std.proofs.Common.{◌≡◌, ℕ, ◌+◌, ◌<◌, ◌≤◌, Bool, true, false, cond, eqb, leb, map, length, List, Option, Some, None, refl, sym, ap, subst, ◌∙◌, arith}
-use Rattle.std.specs.List.{list_all, find, slice_get, slice_set}
+use Rattle.std.proofs.Common.{◌≡◌, ℕ, ◌+◌, ◌≤◌, Bool, true, false, cond, eqb, map, List, Some, refl, sym, subst, ◌∙◌, arith}
+use Rattle.std.specs.List.{slice_get, slice_set}
 use Rattle.std.proofs.lemmas.Bool.{leb-true, eqb-true}
 use Rattle.std.proofs.lemmas.List.{length-map}
 use Rattle.std.proofs.lemmas.Option.{same_Some}
@@ -8,9 +8,9 @@ use Rattle.farm_types.specs.declared.attempt.Exit.{Exit}
 use Rattle.farm_types.specs.declared.attempt.ProcRow.{ProcRow}
 use Rattle.farm_types.specs.declared.rows.HostRow.{HostRow}
 use Rattle.farm_types.specs.declared.slot_row.SlotRow.{SlotRow}
-use Rattle.farm_types.specs.Farm.{Farm, changed_at, sub_of, sub_at}
+use Rattle.farm_types.specs.Farm.{Farm, changed_at, sub_of}
 use Rattle.farm_types.specs.Sums.{booked_in, cores_in}
-use Rattle.farm_types.specs.Step.{heard_row, reopened_row, booked_row, proc_of, at_moment, new_proc, ended_row}
+use Rattle.farm_types.specs.Step.{heard_row, reopened_row, booked_row, proc_of, at_moment, ended_row}
 use Rattle.farm_core.specs.Change.{IsBooking}
 use Rattle.farm_core.specs.Consistent.{IsConsistent, is_host_within, is_sub_within, most_burst}
 use Rattle.farm_core.proofs.Lists.{list_all-at, list_all-from_at, find_passes}

@@ -1,11 +1,10 @@
 -- The order of dispatch lists each frame that may be booked once, and in order.
-use Rattle.std.proofs.Common.{◌≡◌, ℕ, zero, suc, ◌+◌, ◌*◌, Bool, true, false, cond, eqb, ◌&&◌, List, [], ◌∷◌, map, Option, Some, None, option_map, refl, sym, ap, subst, ◌∙◌, arith}
-use Rattle.std.specs.List.{slice_get, prefix_len, insert}
+use Rattle.std.proofs.Common.{◌≡◌, ℕ, suc, ◌+◌, ◌*◌, Bool, true, false, cond, eqb, List, [], ◌∷◌, map, Some, None, refl, sym, ap, subst, ◌∙◌, arith}
+use Rattle.std.specs.List.{slice_get, prefix_len}
 use Rattle.std.specs.declared.cmp.Ordering.{Ordering}
 use Rattle.std.specs.declared.cmp.Ordering.TheVariants.{Less, Equal, Greater}
 use Rattle.std.specs.Ordering.{is_gt, ordering_then, ordering_reverse, nat_cmp}
-use Rattle.std.specs.Cmp.{then_flip, IsTotalOrder}
-use Rattle.std.specs.Cmp.Lexicographic.{slice_cmp}
+use Rattle.std.specs.Cmp.{then_flip}
 use Rattle.std.specs.List.Sorted.{IsPermutation}
 use Rattle.std.proofs.lemmas.Bool.{false≢true}
 use Rattle.std.proofs.lemmas.Cmp.{nat_cmp_total, nat_list_cmp_total}
@@ -14,10 +13,9 @@ use Rattle.std.proofs.lemmas.List.Sorted.{IsPermutation-refl, IsPermutation-tran
 use Rattle.farm_types.specs.declared.dispatch.Candidate.{Candidate}
 use Rattle.farm_types.specs.declared.dispatch.Rank.{Rank}
 use Rattle.farm_types.specs.declared.slot_row.SlotRow.{SlotRow}
-use Rattle.farm_types.specs.declared.slot_row.FrameRow.{FrameRow}
 use Rattle.farm_types.specs.Farm.{Farm}
 use Rattle.farm_types.specs.Booking.{may_book, may_record, tags_match}
-use Rattle.farm_types.specs.Dispatch.{by_ratio, show_name, rank_cmp, rank_at, rank_in, rank_of, with_found, ranks_from, insert_rank, sorted_ranks, order_for}
+use Rattle.farm_types.specs.Dispatch.{by_ratio, show_name, rank_cmp, rank_at, rank_in, with_found, ranks_from, insert_rank, sorted_ranks, order_for}
 use Rattle.farm_core.specs.Order.{bookable_from, bookable, StandsBefore, AreInOrder, IsDispatchOrder}
 use Rattle.farm_core.proofs.Lists.{and_both}
 use Rattle.farm_core.proofs.CanBook.{Rows, CanBook, can_book}

@@ -1,6 +1,5 @@
 -- Every legal run from a sound farm is safe.
-use Rattle.std.proofs.Common.{◌≡◌, ℕ, ◌+◌, ◌≤◌, Bool, true, false, cond, eqb, List, [], ◌∷◌, length, map, Option, Some, None, refl, sym, ap, subst, ◌∙◌, arith}
-use Rattle.std.specs.List.{slice_get, list_any}
+use Rattle.std.proofs.Common.{◌≡◌, ℕ, ◌+◌, ◌≤◌, true, eqb, List, [], ◌∷◌, Option, Some, None, refl, sym, ap, subst, ◌∙◌, arith}
 use Rattle.std.proofs.lemmas.Option.{same_Some}
 use Rattle.std.proofs.lemmas.Bool.{eq-eqb}
 use Rattle.std.proofs.lemmas.List.{length-map}
@@ -12,11 +11,11 @@ use Rattle.farm_types.specs.declared.entry.Act.TheVariants.{Opened, Heard, Book}
 use Rattle.farm_types.specs.declared.entry.HeardAct.{HeardAct}
 use Rattle.farm_types.specs.declared.rows.SubRow.{SubRow}
 use Rattle.farm_types.specs.declared.slot_row.SlotRow.{SlotRow}
-use Rattle.farm_types.specs.Farm.{Farm, changed_at, sub_at, sub_of, host_named}
+use Rattle.farm_types.specs.Farm.{Farm, changed_at, sub_of, host_named}
 use Rattle.farm_types.specs.Sums.{booked_in}
 use Rattle.farm_types.specs.Booking.{may_record}
-use Rattle.farm_types.specs.Run.{IsSound, HasItsHosts, IsLegal, IsLegalStep, IsSafe, EachStepSafe, ActsSafely, BooksSafely, IsWithinBurst, AllDiffer, counted, counted_by, counted_of, counted_in}
-use Rattle.farm_types.specs.Step.{HasCondition, at_moment, moment_of, after, after_act, after_heard, heard_row, reopened_row, booked_row, end_all, with_proc, new_proc, proc_of}
+use Rattle.farm_types.specs.Run.{IsSound, HasItsHosts, IsLegal, IsSafe, EachStepSafe, ActsSafely, BooksSafely, IsWithinBurst, AllDiffer, counted, counted_by, counted_of}
+use Rattle.farm_types.specs.Step.{HasCondition, at_moment, moment_of, after, after_act, after_heard, heard_row, reopened_row, booked_row, with_proc, new_proc, proc_of}
 use Rattle.farm_core.proofs.Changed.{changed_at_same, length-changed_at}
 use Rattle.farm_core.proofs.CanBook.{Rows, CanBook, can_book, new_proc_is}
 use Rattle.farm_core.proofs.Hosts.{moment_sound, heard_sound, opened_sound}

@@ -1,8 +1,8 @@
 -- Attempts that are spent: of a version below their slot's, or of the slot's while it has no live attempt.
-use Rattle.std.proofs.Common.{◌≡◌, ◌≢◌, ℕ, ◌+◌, ◌<◌, ◌≤◌, Bool, true, false, cond, eqb, ◌&&◌, List, [], ◌∷◌, Option, Some, None, refl, sym, ap, subst, ◌∙◌, arith, ◌⊎◌, inl, inr, option_map}
+use Rattle.std.proofs.Common.{◌≡◌, ℕ, ◌<◌, Bool, true, false, cond, eqb, ◌&&◌, List, [], ◌∷◌, Option, Some, None, refl, sym, ap, subst, ◌∙◌, arith, ◌⊎◌, inl, inr}
 use Rattle.std.specs.List.{slice_get}
 use Rattle.std.proofs.lemmas.Option.{none-some, same_Some}
-use Rattle.std.proofs.lemmas.Bool.{false≢true, eqb-true}
+use Rattle.std.proofs.lemmas.Bool.{eqb-true}
 use Rattle.farm_types.specs.declared.attempt.Attempt.{Attempt}
 use Rattle.farm_types.specs.declared.attempt.DoneItem.{DoneItem}
 use Rattle.farm_types.specs.declared.attempt.Exit.{Exit}
@@ -13,7 +13,7 @@ use Rattle.farm_types.specs.declared.states.FrameState.{FrameState}
 use Rattle.farm_types.specs.declared.states.FrameState.TheVariants.{Waiting, Setup, Running, Succeeded, Depend, Dead, Eaten}
 use Rattle.farm_types.specs.Farm.{Farm, changed_at}
 use Rattle.farm_types.specs.Run.{IsSound, HasItsAttempt, IsAttemptOf, is_same}
-use Rattle.farm_types.specs.Step.{is_attempt, is_live, ended_row, end_attempt, end_all, booked_row}
+use Rattle.farm_types.specs.Step.{is_live, ended_row, end_attempt, end_all, booked_row}
 use Rattle.farm_core.proofs.Lists.{and_both, for_some_true}
 use Rattle.farm_core.proofs.Changed.{changed_at_each}
 

@@ -1,5 +1,5 @@
 -- What is used and booked is within the greatest amounts.
-use Rattle.std.proofs.Common.{◌≡◌, ℕ, ◌<◌, ◌≤◌, List, length, Some, arith, leb}
+use Rattle.std.proofs.Common.{◌≡◌, ℕ, ◌<◌, ◌≤◌, length, Some, arith, leb}
 use Rattle.std.specs.List.{slice_get}
 use Rattle.std.proofs.lemmas.Bool.{leb-true}
 use Rattle.farm_types.specs.declared.rows.HostRow.{HostRow}

@@ -1,5 +1,5 @@
 -- What the farm keeps true of itself.
-use Rattle.std.specs.Prelude.{ℕ, ◌≡◌, ◌≤◌, ◌&&◌, Bool, true, List, length, Some, nat_le}
+use Rattle.std.specs.Prelude.{ℕ, ◌≡◌, ◌≤◌, ◌&&◌, Bool, true, length, nat_le}
 use Rattle.std.specs.List.{list_all}
 use Rattle.farm_types.specs.declared.rows.HostRow.{HostRow}
 use Rattle.farm_types.specs.declared.rows.SubRow.{SubRow}

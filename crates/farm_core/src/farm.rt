@@ -29,50 +29,15 @@ pub struct Farm {
 }
 
 impl Model for Farm {
-    ghost use Rattle.std.specs.Prelude.{[]};
     ghost use Rattle.farm_types.specs.Farm as types;
-    ghost use Rattle.farm_core.specs.Consistent.{IsConsistent};
 
     ghost Value = { types.Farm };
 
-    ghost view = { λ a.
-        record {
-          shows = a.shows.items;
-          allocs = a.allocs.items;
-          subs = a.subs.items;
-          hosts = a.hosts.items;
-          jobs = a.jobs.items;
-          layers = a.layers.items;
-          slots = a.slots.items;
-          depends = [];
-          met = [];
-          next_job = a.next_job;
-          next_depend = a.next_depend;
-          next_finish = a.next_finish;
-          moment = a.moment;
-          marked = a.marked;
-        } };
+    ghost use Rattle.farm_core.specs.Inside.{farm_of, KeepsConsistent};
 
-    ghost invariant = { λ a.
-        let f : types.Farm =
-        record {
-          shows = a.shows.items;
-          allocs = a.allocs.items;
-          subs = a.subs.items;
-          hosts = a.hosts.items;
-          jobs = a.jobs.items;
-          layers = a.layers.items;
-          slots = a.slots.items;
-          depends = [];
-          met = [];
-          next_job = a.next_job;
-          next_depend = a.next_depend;
-          next_finish = a.next_finish;
-          moment = a.moment;
-          marked = a.marked;
-        }
-        in
-        IsConsistent f };
+    ghost view = { farm_of };
+
+    ghost invariant = { KeepsConsistent };
 }
 
 impl Farm {

@@ -1,4 +1,4 @@
-use Rattle.std.proofs.Common.{◌≡◌, ◌+◌, ◌-◌, ◌<◌, length, arith, ap, sym, ◌∙◌, drop}
+use Rattle.std.proofs.Common.{◌≡◌, ◌+◌, ◌-◌, ◌<◌, length, arith}
 use Rattle.farm_types.specs.Dispatch.{candidates_each}
 use Rattle.farm_core.proofs.Ranks.{first_more}
 use Rattle.farm_core.proofs.planning.first_ranks.Goals as goal

@@ -13,7 +13,7 @@ returns-in_err-list_steps c =
     let p = err_from_is_err_and c.from_residual.result c.from_residual.ensures.1 in
     let fit : SFits w32 c.args.first = c.ranges.first in
     let so = simp to_z-of_z at c.loop-step.invariant.so_far in
-    let more = halves_more c.args.first c.args.up c.args.span so.0 c.loop-step.step c.loop-step-test.true so.1 in
+    let more = halves_more c.args.first c.args.up c.args.span so.0 c.loop-step.step (omega arith) so.1 in
     let now = steps_from c.args.first (stride c.args.up c.loop-step.step) (c.args.span / c.loop-step.step + 1) in
     let failed = simp to_z-of_z at c.in_err-list_steps.ensures in
     Lists_exit _ c.from_residual.result c.args.listing.now (halves_from c.args.first c.args.up c.args.span c.args.size c.args.size) c.list_steps.new.listing _ _ p.1 p.2
@@ -26,7 +26,7 @@ loop-step-preserved c =
     let fit : SFits w32 c.args.first = c.ranges.first in
     let so = simp to_z-of_z at c.loop-step.invariant.so_far in
     let done = simp to_z-of_z at c.in_ok-list_steps.ensures in
-    let more = halves_more c.args.first c.args.up c.args.span so.0 c.loop-step.step c.loop-step-test.true so.1 in
+    let more = halves_more c.args.first c.args.up c.args.span so.0 c.loop-step.step (omega arith) so.1 in
     let rest = halves_from c.args.first c.args.up c.args.span more.0 (c.loop-step.step / 2) in
     let now = steps_from c.args.first (stride c.args.up c.loop-step.step) (c.args.span / c.loop-step.step + 1) in
     record {

@@ -1,4 +1,4 @@
-use Rattle.std.proofs.Common.{◌≡◌, sym, subst, ap, length, ◌∙◌}
+use Rattle.std.proofs.Common.{sym, subst, ap, length, ◌∙◌}
 use Rattle.farm_types.specs.Farm.{Farm}
 use Rattle.farm_core.specs.declared.change.Effect.{Effect}
 use Rattle.farm_core.specs.Change.{IsBooking, Fits}

@@ -1,0 +1,28 @@
+-- The farm that the code's fields hold.
+use Rattle.std.specs.Prelude.{[]}
+use Rattle.farm_types.specs.Farm.{Farm}
+use Rattle.farm_core.specs.declared.farm.Farm.TheInside.{Inside}
+use Rattle.farm_core.specs.Consistent.{IsConsistent}
+
+-- its lists and counters, and no depends: no entry of today makes one
+abbrev pub farm_of : Inside → Farm
+farm_of a =
+    record {
+      shows = a.shows.items;
+      allocs = a.allocs.items;
+      subs = a.subs.items;
+      hosts = a.hosts.items;
+      jobs = a.jobs.items;
+      layers = a.layers.items;
+      slots = a.slots.items;
+      depends = [];
+      met = [];
+      next_job = a.next_job;
+      next_depend = a.next_depend;
+      next_finish = a.next_finish;
+      moment = a.moment;
+      marked = a.marked;
+    }
+
+abbrev pub KeepsConsistent : Inside → Type 0
+KeepsConsistent a = IsConsistent (farm_of a)
