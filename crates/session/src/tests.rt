@@ -171,24 +171,24 @@ fn a_read_that_fails_ends_the_session_after_whole_replies(rt: HostRuntime) -> Re
 #[test]
 fn a_write_that_fails_ends_the_session_in_its_reply(rt: HostRuntime) -> Result<(), Fail> {
     let input = joined(rt.alloc(), &LINES)?;
-    let mut before = 0;
+    let mut write = 1u64;
     let mut written = Vec::new(rt.alloc());
     for reply in REPLIES {
         let line = joined(rt.alloc(), &[reply])?;
         for piece in line.as_bytes().chunks(5) {
-            let ended = demo(rt.alloc(), input.as_bytes(), &[], &[before + 1])?;
+            let ended = demo(rt.alloc(), input.as_bytes(), &[], &[write])?;
             assert_eq!(rt;
                 ended.sink.written(),
                 written.as_slice(),
-                "after {before} writes"
+                "at write {write}"
             );
-            assert_eq!(rt; ended.status, 5, "after {before} writes");
-            assert_eq!(rt; ended.sink.faults(), 1, "after {before} writes");
+            assert_eq!(rt; ended.status, 5, "at write {write}");
+            assert_eq!(rt; ended.sink.faults(), 1, "at write {write}");
             written.extend_from_slice(piece)?;
-            before += 1;
+            write = write.saturating_add(1);
         }
     }
-    let ended = demo(rt.alloc(), input.as_bytes(), &[], &[before + 1])?;
+    let ended = demo(rt.alloc(), input.as_bytes(), &[], &[write])?;
     assert_eq!(rt; ended.status, 0);
     Ok(())
 }
