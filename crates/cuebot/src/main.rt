@@ -2,16 +2,22 @@
 //! to stop, over the farm of the demonstration.
 #![tactic(auto)]
 
+ghost use Rattle.std.specs.Prelude.{◌≡◌, option_map};
+ghost use Rattle.session.specs.Sessions.{is_demo};
+ghost use Rattle.cuebot.specs.Hints.{hint_of};
+
+use cue_io::{InputSource, OutputSink, SystemClock};
+use farm_types::{Items, Text};
+use session::{Status, form, run_cuebot};
 use std::env;
 use std::io::{self, IsTerminal};
 use std::process::ExitCode;
 use std::rt::Runtime;
 
-use cue_io::{InputSource, OutputSink, SystemClock};
-use farm_types::{Items, Text};
-use session::{Status, form, run_cuebot};
-
 const USAGE: &str = "usage: cuebot demo";
+
+// The status where memory is wanting before the call.
+const NO_MEMORY: Status = 7;
 
 const WAITING: &str =
     "cuebot: waiting for report lines, each a JSON object; end the input with Ctrl-D";
@@ -24,22 +30,30 @@ fn main(rt: HostRuntime) -> ExitCode {
 // Runs the program over the standard streams and the machine's clock.
 fn run<R: Runtime + AllocGlobal>(rt: &R, at_terminal: bool) -> Status {
     let Ok(words) = words_of(rt) else {
-        return 7;
+        return NO_MEMORY;
     };
     if let Some(hint) = hint_for(words.as_slice(), at_terminal) {
         let _ = rt.eprintln(hint);
     }
     let Ok(clock_rt) = rt.clone() else {
-        return 7;
+        return NO_MEMORY;
     };
     let mut source = InputSource::make(rt.reader());
     let mut sink = OutputSink::make(io::writer(rt));
     let mut clock = SystemClock::make(clock_rt);
-    run_cuebot(rt.alloc(), words.as_slice(), &mut source, &mut sink, &mut clock)
+    run_cuebot(
+        rt.alloc(),
+        words.as_slice(),
+        &mut source,
+        &mut sink,
+        &mut clock,
+    )
 }
 
 // What is said on standard error before the call: the usage for words of no form, and at a terminal what is waited for.
-fn hint_for(words: &[Text], at_terminal: bool) -> Option<&'static str> {
+fn hint_for(words: &[Text], at_terminal: bool) -> Option<&'static str>
+    ensures { option_map (λ hint. hint.now) result ≡ hint_of (is_demo words.now) at_terminal }
+{
     match form(words) {
         None => Some(USAGE),
         Some(_) if at_terminal => Some(WAITING),

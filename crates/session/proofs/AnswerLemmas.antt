@@ -19,23 +19,23 @@ use Rattle.session.specs.Answers.{IsAnswer, IsRefusal, IsRound, IsRoundAnswer, c
 
 -- a line within the limit is answered by what it asks
 pub line_within : (f : Farm) (line : List ℕ) (moment : ℕ) (mark : Mark) → length line ≤ line_limit
-  → answer_to f line moment mark ≡ unless_memory mark (request_answer f moment mark (request_of line))
+    → answer_to f line moment mark ≡ unless_memory mark (request_answer f moment mark (request_of line))
 unfolding answer_to
 line_within f line moment mark h = ap (λ b. cond b (only_reply (bad_line [])) (unless_memory mark (request_answer f moment mark (request_of line)))) (le-ltb line_limit (length line) h)
 
 -- ---- a report that the farm refuses
 
 refused_as : (f : Farm) (report : Report) (moment : ℕ) (mark : Mark) (why : Refusal) (found : Option Refusal) → found ≡ Some why
-  → report_answer f report moment mark found ≡ only_reply (refusal_data why)
+    → report_answer f report moment mark found ≡ only_reply (refusal_data why)
 refused_as f report moment mark why found e = ap (report_answer f report moment mark) e
 
 pub refused_is : (f : Farm) (report : Report) (moment : ℕ) (why : Refusal) → refusal_of f (heard_entry report moment) ≡ Some why
-  → unless_memory Plain (request_answer f moment Plain (Ok report)) ≡ only_reply (refusal_data why)
+    → unless_memory Plain (request_answer f moment Plain (Ok report)) ≡ only_reply (refusal_data why)
 refused_is f report moment why e = refused_as f report moment Plain why (refusal_of f (heard_entry report moment)) e
 
 -- its line is that of the refusal, or of want of memory
 pub answered_refusal : (f : Farm) (report : Report) (moment : ℕ) (why : Refusal) (line : List ℕ) → refusal_of f (heard_entry report moment) ≡ Some why
-  → IsRefusal why line → (mark : Mark) × IsAnswer f (unless_memory mark (request_answer f moment mark (Ok report))) f line
+    → IsRefusal why line → (mark : Mark) × IsAnswer f (unless_memory mark (request_answer f moment mark (Ok report))) f line
 answered_refusal f report moment why line e (inl text) =
     (Plain, subst (λ (answered : Answered). IsAnswer f answered f line) (sym (refused_is f report moment why e)) (record { farm = refl; text = text }))
 answered_refusal f report moment why line e (inr text) = (Memory, record { farm = refl; text = text })
@@ -43,13 +43,13 @@ answered_refusal f report moment why line e (inr text) = (Memory, record { farm 
 -- ---- a report that the farm accepts
 
 accepted_as : (f : Farm) (report : Report) (moment host : ℕ) (mark : Mark) (found : Option Refusal) (named : Option ℕ) → found ≡ None → named ≡ Some host
-  → host_named f report.host ≡ named
-  → report_answer f report moment mark found ≡ marked_answer f host report (heard_entry report moment) (round_for (after f (heard_entry report moment)) host moment) mark
+    → host_named f report.host ≡ named
+    → report_answer f report moment mark found ≡ marked_answer f host report (heard_entry report moment) (round_for (after f (heard_entry report moment)) host moment) mark
 accepted_as f report moment host mark found named e n is =
     ap (report_answer f report moment mark) e ∙ ap (accepted_answer f report moment mark) (is ∙ n)
 
 accepted_unless : (mark : Mark) (f : Farm) (host : ℕ) (report : Report) (heard : Entry) (round : List Entry) (answered : Answered)
-  → answered ≡ marked_answer f host report heard round mark → unless_memory mark answered ≡ marked_answer f host report heard round mark
+    → answered ≡ marked_answer f host report heard round mark → unless_memory mark answered ≡ marked_answer f host report heard round mark
 accepted_unless Plain f host report heard round answered e = e
 accepted_unless Memory f host report heard round answered e = refl
 accepted_unless (Cut k) f host report heard round answered e = e
@@ -57,41 +57,55 @@ accepted_unless LatePlain f host report heard round answered e = e
 accepted_unless (LateCut k) f host report heard round answered e = e
 
 pub accepted_is : (f : Farm) (report : Report) (moment host : ℕ) (mark : Mark) → refusal_of f (heard_entry report moment) ≡ None → host_named f report.host ≡ Some host
-  → unless_memory mark (request_answer f moment mark (Ok report)) ≡ marked_answer f host report (heard_entry report moment) (round_for (after f (heard_entry report moment)) host moment) mark
+    → unless_memory mark (request_answer f moment mark (Ok report)) ≡ marked_answer f host report (heard_entry report moment) (round_for (after f (heard_entry report moment)) host moment) mark
 accepted_is f report moment host mark e n =
     accepted_unless mark f host report (heard_entry report moment) (round_for (after f (heard_entry report moment)) host moment) (request_answer f moment mark (Ok report))
-      (accepted_as f report moment host mark (refusal_of f (heard_entry report moment)) (host_named f report.host) e n refl)
+    (accepted_as f report moment host mark (refusal_of f (heard_entry report moment)) (host_named f report.host) e n refl)
 
 -- the answer after the round is that of the report
 pub answered_report : (f next : Farm) (report : Report) (moment host : ℕ) (new : Farm) (line : List ℕ)
-  → refusal_of f (heard_entry report moment) ≡ None → host_named f report.host ≡ Some host → next ≡ after f (heard_entry report moment)
-  → (mark : Mark) × IsRoundAnswer next host report moment mark new line
-  → (mark : Mark) × IsAnswer f (unless_memory mark (request_answer f moment mark (Ok report))) new line
-answered_report f next report moment host new line e n is answered =
-    (answered.0, subst (λ (a : Answered). IsAnswer f a new line) (sym (accepted_is f report moment host answered.0 e n))
+    → refusal_of f (heard_entry report moment) ≡ None → host_named f report.host ≡ Some host → next ≡ after f (heard_entry report moment)
+    → (mark : Mark) × IsRoundAnswer next host report moment mark new line
+    → (mark : Mark) × IsAnswer f (unless_memory mark (request_answer f moment mark (Ok report))) new line
+answered_report f next report moment host new line e n is answered = (
+  answered.0,
+  subst (λ (a : Answered). IsAnswer f a new line) (sym (accepted_is f report moment host answered.0 e n))
       (subst (λ (g : Farm). IsAnswer f (marked_answer f host report (heard_entry report moment) (round_for g host moment) answered.0) new line) is
-        (answered.1 f (heard_entry report moment) (sym is))))
+      (answered.1 f (heard_entry report moment) (sym is))),
+)
 
 -- ---- the round's marks
 
 pub round_replied : (old : Farm) (host : ℕ) (report : Report) (moment : ℕ) (cut : round.Cut) (new : Farm) (line : List ℕ) → IsRound old host moment cut new
-  → line ≡ compact_text (report_reply new host report (cut_text cut)) ++ 10 ∷ [] → (mark : Mark) × IsRoundAnswer old host report moment mark new line
-round_replied old host report moment cut.Whole new line walked text = (Plain, λ f heard e. record {
-  farm = walked ∙ ap (λ g. run_of g (round_for old host moment)) (sym e);
-  text = text ∙ ap (λ g. compact_text (report_reply g host report []) ++ 10 ∷ []) (walked ∙ ap (λ g. run_of g (round_for old host moment)) (sym e));
-})
-round_replied old host report moment cut.Memory new line walked text = (Cut walked.0, λ f heard e. record {
-  farm = walked.1 ∙ ap (λ g. run_of g (take walked.0 (round_for old host moment))) (sym e);
-  text = text ∙ ap (λ g. compact_text (report_reply g host report (codes "memory")) ++ 10 ∷ []) (walked.1 ∙ ap (λ g. run_of g (take walked.0 (round_for old host moment))) (sym e));
-})
+    → line ≡ compact_text (report_reply new host report (cut_text cut)) ++ 10 ∷ [] → (mark : Mark) × IsRoundAnswer old host report moment mark new line
+round_replied old host report moment cut.Whole new line walked text = (
+  Plain,
+  λ f heard e. record {
+    farm = walked ∙ ap (λ g. run_of g (round_for old host moment)) (sym e);
+    text = text ∙ ap (λ g. compact_text (report_reply g host report []) ++ 10 ∷ []) (walked ∙ ap (λ g. run_of g (round_for old host moment)) (sym e));
+  },
+)
+round_replied old host report moment cut.Memory new line walked text = (
+  Cut walked.0,
+  λ f heard e. record {
+    farm = walked.1 ∙ ap (λ g. run_of g (take walked.0 (round_for old host moment))) (sym e);
+    text = text ∙ ap (λ g. compact_text (report_reply g host report (codes "memory")) ++ 10 ∷ []) (walked.1 ∙ ap (λ g. run_of g (take walked.0 (round_for old host moment))) (sym e));
+  },
+)
 
 pub round_unreplied : (old : Farm) (host : ℕ) (report : Report) (moment : ℕ) (cut : round.Cut) (new : Farm) (line : List ℕ) → IsRound old host moment cut new
-  → line ≡ compact_text no_memory ++ 10 ∷ [] → (mark : Mark) × IsRoundAnswer old host report moment mark new line
-round_unreplied old host report moment cut.Whole new line walked text = (LatePlain, λ f heard e. record {
-  farm = walked ∙ ap (λ g. run_of g (round_for old host moment)) (sym e);
-  text = text;
-})
-round_unreplied old host report moment cut.Memory new line walked text = (LateCut walked.0, λ f heard e. record {
-  farm = walked.1 ∙ ap (λ g. run_of g (take walked.0 (round_for old host moment))) (sym e);
-  text = text;
-})
+    → line ≡ compact_text no_memory ++ 10 ∷ [] → (mark : Mark) × IsRoundAnswer old host report moment mark new line
+round_unreplied old host report moment cut.Whole new line walked text = (
+  LatePlain,
+  λ f heard e. record {
+    farm = walked ∙ ap (λ g. run_of g (round_for old host moment)) (sym e);
+    text = text;
+  },
+)
+round_unreplied old host report moment cut.Memory new line walked text = (
+  LateCut walked.0,
+  λ f heard e. record {
+    farm = walked.1 ∙ ap (λ g. run_of g (take walked.0 (round_for old host moment))) (sym e);
+    text = text;
+  },
+)

@@ -32,14 +32,14 @@ module _ (launches : List Launch) (rest : List Launch) where
   take_with found = by (nat_lt (length launches) 64) refl
     where
       by : (b : Bool) → b ≡ nat_lt (length launches) 64
-        → cond b (launches ++ option_to_list found) launches ++ take (64 - length (cond b (launches ++ option_to_list found) launches)) rest ≡ launches ++ take (64 - length launches) (cons_option found rest)
+          → cond b (launches ++ option_to_list found) launches ++ take (64 - length (cond b (launches ++ option_to_list found) launches)) rest ≡ launches ++ take (64 - length launches) (cons_option found rest)
       by true e = below found (ltb-true (length launches) 64 (sym e))
       by false e = at_limit found (ltb-false (length launches) 64 (sym e))
 
 -- one slot more of the rest
 pub take_step : {S : Type 0} (h : S → Option Launch) (launches next : List Launch) (slots : List S) (i : ℕ) (d : S) → i < length slots
-  → next ≡ with_launch launches (h (get_or slots i d))
-  → next ++ take (64 - length next) (filter_map h (drop (i + 1) slots)) ≡ launches ++ take (64 - length launches) (filter_map h (drop i slots))
+    → next ≡ with_launch launches (h (get_or slots i d))
+    → next ++ take (64 - length next) (filter_map h (drop (i + 1) slots)) ≡ launches ++ take (64 - length launches) (filter_map h (drop i slots))
 take_step h launches next slots i d within e =
     let cut : drop i slots ≡ get_or slots i d ∷ drop (i + 1) slots = rw add-one (drop-cons slots i d within) in
     ap (λ (xs : List Launch). xs ++ take (64 - length xs) (filter_map h (drop (i + 1) slots))) e
@@ -48,7 +48,7 @@ take_step h launches next slots i d within e =
 
 -- nothing is left of the slots
 pub take_end : {S : Type 0} (h : S → Option Launch) (launches : List Launch) (slots : List S) (i : ℕ) → length slots ≤ i
-  → launches ++ take (64 - length launches) (filter_map h (drop i slots)) ≡ launches
+    → launches ++ take (64 - length launches) (filter_map h (drop i slots)) ≡ launches
 take_end h launches slots i past =
     ap (λ xs. launches ++ take (64 - length launches) (filter_map h xs)) (drop_all i slots past) ∙ ap (λ xs. launches ++ xs) (take_none (64 - length launches)) ∙ append-nil launches
   where

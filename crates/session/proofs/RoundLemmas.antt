@@ -28,12 +28,12 @@ take_front {X} xs ys all e = ap (take (length xs)) (sym e) ∙ front xs
 
 -- a candidate that is booked
 pub offered_booked : (f : Farm) (left : ℕ) (c : Candidate) (moment : ℕ) (new : Farm) → 0 < left → may_book f c.slot c.host ≡ true
-  → new ≡ after f (book_entry c moment) → IsOffered f left c moment new (left - 1)
+    → new ≡ after f (book_entry c moment) → IsOffered f left c moment new (left - 1)
 offered_booked f left c moment new some may e = record {
   booked = book_entry c moment ∷ [];
   farm = e;
   rest = λ later. ap (λ g. book_entry c moment ∷ round_from (left - 1) g moment later) e
-    ∙ sym (ap (λ b. cond b (book_entry c moment ∷ round_from (left - 1) (after f (book_entry c moment)) moment later) (round_from left f moment later)) test);
+      ∙ sym (ap (λ b. cond b (book_entry c moment ∷ round_from (left - 1) (after f (book_entry c moment)) moment later) (round_from left f moment later)) test);
 }
   where
     test : (nat_lt 0 left && may_book f c.slot c.host) ≡ true
@@ -45,21 +45,21 @@ offered_passed f left c moment test = record {
   booked = [];
   farm = refl;
   rest = λ later.
-    sym (ap (λ b. cond b (book_entry c moment ∷ round_from (left - 1) (after f (book_entry c moment)) moment later) (round_from left f moment later)) test);
+      sym (ap (λ b. cond b (book_entry c moment ∷ round_from (left - 1) (after f (book_entry c moment)) moment later) (round_from left f moment later)) test);
 }
 
 module _ (first : Farm) (moment : ℕ) (cs : List Candidate) (all : List Entry) where
   -- one candidate more
   pub round_step : (old new : Farm) (left still_left : ℕ) (booked : List Entry) (i : ℕ) (c : Candidate) → i < length cs
-    → c ≡ get_or cs i c → old ≡ run_of first booked → booked ++ round_from left old moment (drop i cs) ≡ all
-    → (offered : IsOffered old left c moment new still_left)
-    → (new ≡ run_of first (booked ++ offered.booked)) × ((booked ++ offered.booked) ++ round_from still_left new moment (drop (i + 1) cs) ≡ all)
+      → c ≡ get_or cs i c → old ≡ run_of first booked → booked ++ round_from left old moment (drop i cs) ≡ all
+      → (offered : IsOffered old left c moment new still_left)
+      → (new ≡ run_of first (booked ++ offered.booked)) × ((booked ++ offered.booked) ++ round_from still_left new moment (drop (i + 1) cs) ≡ all)
   round_step old new left still_left booked i c within is farm so_far offered = (
     offered.farm ∙ ap (λ f. run_of f offered.booked) farm ∙ sym (run_of-append first booked offered.booked),
     append_assoc booked offered.booked (round_from still_left new moment (drop (i + 1) cs))
-    ∙ ap (λ es. booked ++ es) (offered.rest (drop (i + 1) cs))
-    ∙ sym (ap (λ later. booked ++ round_from left old moment later) cut)
-    ∙ so_far,
+        ∙ ap (λ es. booked ++ es) (offered.rest (drop (i + 1) cs))
+        ∙ sym (ap (λ later. booked ++ round_from left old moment later) cut)
+        ∙ so_far,
   )
     where
       cut : drop i cs ≡ c ∷ drop (i + 1) cs
@@ -67,6 +67,6 @@ module _ (first : Farm) (moment : ℕ) (cs : List Candidate) (all : List Entry) 
 
   -- no candidate is left
   pub round_end : (old : Farm) (left : ℕ) (booked : List Entry) (i : ℕ) → length cs ≤ i
-    → old ≡ run_of first booked → booked ++ round_from left old moment (drop i cs) ≡ all → old ≡ run_of first all
+      → old ≡ run_of first booked → booked ++ round_from left old moment (drop i cs) ≡ all → old ≡ run_of first all
   round_end old left booked i past farm so_far =
       farm ∙ ap (λ es. run_of first es) (sym (append-nil booked) ∙ sym (ap (λ later. booked ++ round_from left old moment later) (drop_all i cs past)) ∙ so_far)

@@ -19,9 +19,9 @@ called_for_memory seen left = inl (record { status_is = inr refl; none_taken = r
 
 -- a session over a farm that was opened
 pub called_session : (status : ℕ) (ended : Turned) (opened : ℕ) (farm : Farm) (turns : List Turn) (taken wrote later : List ℕ) (left : Option (List ℕ))
-  → status ≡ status_of ended → farm ≡ demo_farm opened → IsSound farm → HasItsHosts farm
-  → ((f : Farm) (es : List Entry) → IsSound f → HasItsHosts f → IsLegal f es → IsSafe f es)
-  → Ends ended farm turns taken wrote later left → IsCall status taken wrote (opened ∷ later) left
+    → status ≡ status_of ended → farm ≡ demo_farm opened → IsSound farm → HasItsHosts farm
+    → ((f : Farm) (es : List Entry) → IsSound f → HasItsHosts f → IsLegal f es → IsSafe f es)
+    → Ends ended farm turns taken wrote later left → IsCall status taken wrote (opened ∷ later) left
 called_session status ended opened farm turns taken wrote later left is opens sound hosted law ends =
     let SoundAt : Farm → Type 0 = λ f. IsSound f in
     let HostedAt : Farm → Type 0 = λ f. HasItsHosts f in

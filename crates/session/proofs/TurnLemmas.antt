@@ -32,7 +32,7 @@ answers_long f moment text e line long =
 
 -- what was given is answered, and the reply's text sent
 turn_answered : (result : Turned) (answer : Result Given LineFault) (given : Given) (before after : Farm) (moment : ℕ) (mark : Mark) (text wrote : List ℕ)
-  → answer ≡ Ok given → Answers given before moment mark after text → Sends result text wrote → Turns result answer before after wrote (moment ∷ [])
+    → answer ≡ Ok given → Answers given before moment mark after text → Sends result text wrote → Turns result answer before after wrote (moment ∷ [])
 turn_answered turned.Went answer given before after moment mark text wrote is answers sent =
     (given, is, record { moment = moment; mark = mark; reply = text; read = refl; answers = answers; written = append-nil wrote ∙ sent })
 turn_answered turned.Write answer given before after moment mark text wrote is answers sent =
@@ -42,9 +42,9 @@ turn_answered turned.Read answer given before after moment mark text wrote is an
 turn_answered turned.Spent answer given before after moment mark text wrote is answers sent = absurd sent
 
 pub step_answered : (result : Turned) (returned : Result Line LineFault) (given : Given) (old new : Held) (left : Option (List ℕ)) (before after : Farm)
-  (took : List ℕ) (moment : ℕ) (text wrote : List ℕ) → given_by returned ≡ Ok given → Goes old took (given_by returned) new
-  → (old.ended ≡ false → new.ended ≡ true → IsAtEnd left) → (mark : Mark) × Answers given before moment mark after text → Sends result text wrote
-  → IsStep result old new left before after took wrote (moment ∷ [])
+    (took : List ℕ) (moment : ℕ) (text wrote : List ℕ) → given_by returned ≡ Ok given → Goes old took (given_by returned) new
+    → (old.ended ≡ false → new.ended ≡ true → IsAtEnd left) → (mark : Mark) × Answers given before moment mark after text → Sends result text wrote
+    → IsStep result old new left before after took wrote (moment ∷ [])
 step_answered result returned given old new left before after took moment text wrote is goes end answers sent = record {
   answer = given_by returned;
   goes = goes;
@@ -54,7 +54,7 @@ step_answered result returned given old new left before after took moment text w
 
 -- a line that is given whole is within the limit
 pub line_fits : (returned : Result Line LineFault) (line : List ℕ) (old new : Held) (took pending : List ℕ) → given_by returned ≡ Ok (Whole line)
-  → Goes old took (given_by returned) new → IsPending old pending → length line ≤ old.limit
+    → Goes old took (given_by returned) new → IsPending old pending → length line ≤ old.limit
 line_fits returned line old new took pending is goes held =
     let Going : Result Given LineFault → Type 0 = λ answer. Goes old took answer new in
     ((subst Going is goes).leaves pending held).cuts.1

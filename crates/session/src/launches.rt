@@ -8,7 +8,9 @@ ghost use Rattle.session.specs.Launches.{with_launch};
 
 use command_text::{expand, frame_name};
 use farm_core::Farm;
-use farm_types::{Attempt, DoneItem, FrameRow, HostNo, Items, JobRow, Launch, LayerRow, ProcRow, Report, SlotRow};
+use farm_types::{
+    Attempt, DoneItem, FrameRow, HostNo, Items, JobRow, Launch, LayerRow, ProcRow, Report, SlotRow,
+};
 use std::alloc::{AllocError, Global};
 
 // How many attempts a reply launches at most.
@@ -26,7 +28,12 @@ pub fn acks(alloc: Global, report: &Report) -> Result<Items<Attempt>, AllocError
 }
 
 /// The attempts that the report says are running and that aren't live on this host and boot, in order.
-pub fn kills(alloc: Global, farm: &Farm, host: HostNo, report: &Report) -> Result<Items<Attempt>, AllocError>
+pub fn kills(
+    alloc: Global,
+    farm: &Farm,
+    host: HostNo,
+    report: &Report,
+) -> Result<Items<Attempt>, AllocError>
     ensures { IfOk result (λ kills. kills ≡ kills_of farm.now host report.now) }
 {
     let mut kills = Items::new(alloc);
@@ -40,7 +47,12 @@ pub fn kills(alloc: Global, farm: &Farm, host: HostNo, report: &Report) -> Resul
 
 /// The first live attempts on this host and boot, by slot, that the report doesn't list.
 #[tactic(auto, using(crate::proofs::LaunchLemmas::take_step))]
-pub fn launches(alloc: Global, farm: &Farm, host: HostNo, report: &Report) -> Result<Items<Launch>, AllocError>
+pub fn launches(
+    alloc: Global,
+    farm: &Farm,
+    host: HostNo,
+    report: &Report,
+) -> Result<Items<Launch>, AllocError>
     ensures { IfOk result (λ launches. launches ≡ launches_of farm.now host report.now) }
 {
     let mut launches = Items::new(alloc);
@@ -70,7 +82,13 @@ fn add_due(
 }
 
 // The launch of the slot's live attempt, where it is due.
-fn due(alloc: Global, farm: &Farm, host: HostNo, report: &Report, slot: &SlotRow) -> Result<Option<Launch>, AllocError>
+fn due(
+    alloc: Global,
+    farm: &Farm,
+    host: HostNo,
+    report: &Report,
+    slot: &SlotRow,
+) -> Result<Option<Launch>, AllocError>
     ensures { IfOk result (λ launch. launch ≡ due_in farm.now host report.now slot.now) }
 {
     let Some(proc) = slot.proc else {
@@ -120,7 +138,12 @@ fn same(one: &Attempt, other: &Attempt) -> bool
 }
 
 // The launch of the slot's live attempt.
-fn launch_at(alloc: Global, farm: &Farm, slot: &SlotRow, proc: &ProcRow) -> Result<Option<Launch>, AllocError>
+fn launch_at(
+    alloc: Global,
+    farm: &Farm,
+    slot: &SlotRow,
+    proc: &ProcRow,
+) -> Result<Option<Launch>, AllocError>
     ensures { IfOk result (λ launch. launch ≡ launch_of farm.now slot.now proc.now) }
 {
     let Some(frame) = slot.frame else {
@@ -135,10 +158,22 @@ fn launch_at(alloc: Global, farm: &Farm, slot: &SlotRow, proc: &ProcRow) -> Resu
     Ok(Some(launch_of_frame(alloc, proc, &frame, job, layer)?))
 }
 
-fn launch_of_frame(alloc: Global, proc: &ProcRow, frame: &FrameRow, job: &JobRow, layer: &LayerRow) -> Result<Launch, AllocError>
+fn launch_of_frame(
+    alloc: Global,
+    proc: &ProcRow,
+    frame: &FrameRow,
+    job: &JobRow,
+    layer: &LayerRow,
+) -> Result<Launch, AllocError>
     ensures { IfOk result (λ launch. launch ≡ launch_for proc.now frame.now job.now layer.now) }
 {
-    let command = expand(alloc, layer.command.as_str(), job.name.as_str(), layer.name.as_str(), frame.number)?;
+    let command = expand(
+        alloc,
+        layer.command.as_str(),
+        job.name.as_str(),
+        layer.name.as_str(),
+        frame.number,
+    )?;
     let name = frame_name(alloc, frame.number, layer.name.as_str())?;
     let job = job.name.copy(alloc)?;
     let layer = layer.name.copy(alloc)?;

@@ -6,11 +6,15 @@ mod fault;
 mod item;
 mod launches;
 mod laws;
+#[cfg(test)]
+mod order_tests;
 mod read;
 mod reply;
 mod round;
 mod run;
 mod serve;
+#[cfg(test)]
+mod tests;
 mod turn;
 mod turned;
 mod word_forms;

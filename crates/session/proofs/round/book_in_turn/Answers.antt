@@ -10,8 +10,8 @@ loop-candidate-preserved c =
     let so_far = c.loop-candidate.invariant in
     let offered = c.in-Ok.ensures.ok in
     let next = round_step c.args.farm.now c.args.moment c.args.candidates.now (round_from bookings_each c.args.farm.now c.args.moment c.args.candidates.now)
-      c.loop-candidate.farm c.offer.new.farm c.loop-candidate.left c.in-Ok.still_left so_far.0 c.loop-candidate.candidate-index c.candidate-item.result
-      c.loop-candidate-test.true c.candidate-item.is so_far.1.farm so_far.1.all offered in
+    c.loop-candidate.farm c.offer.new.farm c.loop-candidate.left c.in-Ok.still_left so_far.0 c.loop-candidate.candidate-index c.candidate-item.result
+    c.loop-candidate-test.true c.candidate-item.is so_far.1.farm so_far.1.all offered in
     (so_far.0 ++ offered.booked, record { farm = next.0; all = next.1 })
 
 pub returns-in-Err : goal.returns-in-Err

@@ -24,11 +24,14 @@ returns-in_default-demo_farm-clause-call g c =
 
 pub returns-clause-call : goal.returns-clause-call
 returns-clause-call g c =
-    let session = c.serve.ensures.ends in
-    (
-      session.1, session.2, c.now-moment.result ∷ session.3, session.4, session.5,
+    let session = c.serve.ensures.ends in (
+      session.1,
+      session.2,
+      c.now-moment.result ∷ session.3,
+      session.4,
+      session.5,
       Shows-append (g.C.Clock.readings c.args.clock.now) (g.C.Clock.readings c.now-moment.new.self) (g.C.Clock.readings c.serve.new.clock)
-        (c.now-moment.result ∷ []) session.3 c.now-moment.ensures session.6,
+          (c.now-moment.result ∷ []) session.3 c.now-moment.ensures session.6,
       called_session c.status.result c.serve.result c.now-moment.result c.in-Ok-demo_farm.farm session.0 session.1 session.2 session.3 (g.S.Source.left c.serve.new.source)
-        c.status.ensures c.in-Ok-demo_farm.ensures.farm c.in-Ok-demo_farm.ensures.sound.0 c.in-Ok-demo_farm.ensures.sound.1 c.legal_runs_are_safe.ensures session.7,
+          c.status.ensures c.in-Ok-demo_farm.ensures.farm c.in-Ok-demo_farm.ensures.sound.0 c.in-Ok-demo_farm.ensures.sound.1 c.legal_runs_are_safe.ensures session.7,
     )

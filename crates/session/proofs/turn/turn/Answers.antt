@@ -13,18 +13,22 @@ answer_line-reply-requires g c =
     let is : given_by c.next.result ≡ Ok (Whole c.in-Ok-Bytes.line.now) = ap given_by (c.in-Ok-Bytes.is ∙ ap Ok c.in-Ok-Bytes.field-0-is) in
     let moves = c.next.follows.holds-at-none in
     subst (λ (limit : ℕ). length c.in-Ok-Bytes.line.now ≤ limit) c.requires.limit
-      (line_fits c.next.result c.in-Ok-Bytes.line.now c.args.reader.now c.next.follows.lender-at-none moves.took c.requires.pending.0 is moves.goes c.requires.pending.1)
+    (line_fits c.next.result c.in-Ok-Bytes.line.now c.args.reader.now c.next.follows.lender-at-none moves.took c.requires.pending.0 is moves.goes c.requires.pending.1)
 
 pub returns-in-Ok-Bytes-clause-step : goal.returns-in-Ok-Bytes-clause-step
 returns-in-Ok-Bytes-clause-step g c =
     let is : given_by c.next.result ≡ Ok (Whole c.in-Ok-Bytes.line.now) = ap given_by (c.in-Ok-Bytes.is ∙ ap Ok c.in-Ok-Bytes.field-0-is) in
     let moves = c.next.follows.holds-at-none in
-    let sent = c.send.ensures.sends in
-    (
-      moves.took, sent.0, c.now-moment.result ∷ [], moves.takes, sent.1, c.now-moment.ensures,
+    let sent = c.send.ensures.sends in (
+      moves.took,
+      sent.0,
+      c.now-moment.result ∷ [],
+      moves.takes,
+      sent.1,
+      c.now-moment.ensures,
       step_answered c.send.result c.next.result (Whole c.in-Ok-Bytes.line.now) c.args.reader.now c.next.follows.lender-at-none (g.S.Source.left c.next.new.source)
-        c.args.farm.now c.answer_line-reply.new.farm moves.took c.now-moment.result (shown c.answer_line-reply.result) sent.0 is moves.goes moves.end
-        c.answer_line-reply.ensures sent.2,
+          c.args.farm.now c.answer_line-reply.new.farm moves.took c.now-moment.result (shown c.answer_line-reply.result) sent.0 is moves.goes moves.end
+          c.answer_line-reply.ensures sent.2,
     )
 
 pub returns-in-Ok-TooLong-clause-step : goal.returns-in-Ok-TooLong-clause-step
@@ -32,10 +36,14 @@ returns-in-Ok-TooLong-clause-step g c =
     let is : given_by c.next.result ≡ Ok Long = ap given_by (c.in-Ok-TooLong.is ∙ ap Ok c.in-Ok-TooLong.field-0-is) in
     let moves = c.next.follows.holds-at-none in
     let sent = c.send-in-Ok-TooLong.ensures.sends in
-    let text : List ℕ = compact_text (bad_line []) ++ 10 ∷ [] in
-    (
-      moves.took, sent.0, c.now-moment-in-Ok-TooLong.result ∷ [], moves.takes, sent.1, c.now-moment-in-Ok-TooLong.ensures,
+    let text : List ℕ = compact_text (bad_line []) ++ 10 ∷ [] in (
+      moves.took,
+      sent.0,
+      c.now-moment-in-Ok-TooLong.result ∷ [],
+      moves.takes,
+      sent.1,
+      c.now-moment-in-Ok-TooLong.ensures,
       step_answered c.send-in-Ok-TooLong.result c.next.result Long c.args.reader.now c.next.follows.lender-at-none (g.S.Source.left c.next.new.source)
-        c.args.farm.now c.args.farm.now moves.took c.now-moment-in-Ok-TooLong.result text sent.0 is moves.goes moves.end
-        (Plain, answers_long c.args.farm.now c.now-moment-in-Ok-TooLong.result text refl) sent.2,
+          c.args.farm.now c.args.farm.now moves.took c.now-moment-in-Ok-TooLong.result text sent.0 is moves.goes moves.end
+          (Plain, answers_long c.args.farm.now c.now-moment-in-Ok-TooLong.result text refl) sent.2,
     )
