@@ -1,12 +1,12 @@
 -- What a call of the program did, by how it ended.
-use Rattle.std.proofs.Common.{◌≡◌, ℕ, List, [], ◌∷◌, inl, inr, refl, sym, subst, Option}
+use Rattle.std.proofs.Common.{◌≡◌, ℕ, List, [], ◌∷◌, inl, inr, refl, subst, Option}
 use Rattle.farm_types.specs.declared.entry.Entry.{Entry}
 use Rattle.farm_types.specs.Demo.{demo_farm}
 use Rattle.farm_types.specs.Farm.{Farm}
 use Rattle.farm_types.specs.Run.{IsSound, HasItsHosts, IsLegal, IsSafe}
 use Rattle.farm_types.specs.Transcript.{Turn, entries_in}
 use Rattle.session.specs.declared.turned.Turned.{Turned}
-use Rattle.session.specs.Sessions.{IsCall, IsNoSession, IsSession, Ends, status_of}
+use Rattle.session.specs.Sessions.{IsCall, Ends, status_of}
 use Rattle.session.proofs.LegalLemmas.{turns_legal}
 
 -- words of no form

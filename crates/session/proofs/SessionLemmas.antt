@@ -1,19 +1,18 @@
 -- Turn by turn, a session is the transcript of its lines.
-use Rattle.std.proofs.Common.{◌≡◌, ℕ, ◌<◌, ◌≤◌, Bool, true, false, List, [], ◌∷◌, ◌++◌, length, map, refl, sym, ap, ◌∙◌, subst, Option, Result, Ok, Err, append_assoc, append-nil}
+use Rattle.std.proofs.Common.{◌≡◌, ℕ, Bool, true, false, List, [], ◌∷◌, ◌++◌, refl, sym, ap, ◌∙◌, subst, Option, Result, Ok, Err, append_assoc, append-nil}
 use Rattle.std.proofs.lemmas.List.{map-append}
 use Rattle.cue_io.specs.declared.line.LineFault.{LineFault}
 use Rattle.cue_io.specs.declared.line.LineFault.TheVariants as line_fault
-use Rattle.cue_io.specs.History.{HasGiven, HasGiven-next, Continues, IsCut, IsGoing, IsDone, IsUnfinished}
-use Rattle.cue_io.specs.Input.{Takes, IsAtEnd}
+use Rattle.cue_io.specs.History.{HasGiven, HasGiven-next, Continues, IsCut}
+use Rattle.cue_io.specs.Input.{Takes}
 use Rattle.cue_io.specs.Lines.{lines_of, lines_of-joined}
-use Rattle.cue_io.specs.Reader.{Held, Given, Whole, Long, AtEnd, byte_limit}
+use Rattle.cue_io.specs.Reader.{Held, Given, Whole, Long, AtEnd}
 use Rattle.farm_types.specs.Farm.{Farm}
-use Rattle.farm_types.specs.Run.{run_of}
-use Rattle.farm_types.specs.Transcript.{Mark, Turn, Answered, answer_to, answer_at, farm_next, farm_after, transcript, lines_in, moments_in, line_limit}
+use Rattle.farm_types.specs.Transcript.{Mark, Turn, answer_to, answer_at, farm_next, farm_after, transcript, lines_in, moments_in, line_limit}
 use Rattle.session.specs.declared.turned.Turned.{Turned}
 use Rattle.session.specs.declared.turned.Turned.TheVariants as turned
 use Rattle.session.specs.Answers.{IsAnswer}
-use Rattle.session.specs.Sessions.{Answers, IsTurn, Turns, IsStep, HasAnswered, HasServed, AreFirstLines, Ends, EndsAtEnd, EndsInLine, EndsInReply}
+use Rattle.session.specs.Sessions.{Answers, IsTurn, IsStep, HasAnswered, HasServed, AreFirstLines, Ends}
 
 -- ---- one turn more
 

@@ -1,12 +1,11 @@
 -- One turn, by what the reader gave and how much of the reply was written.
-use Rattle.std.proofs.Common.{◌≡◌, ℕ, ◌<◌, ◌≤◌, ◌-◌, Bool, true, false, cond, List, [], ◌∷◌, ◌++◌, length, take, drop, refl, sym, ap, ◌∙◌, subst, Option, Result, Ok, Err, arith, append-nil, length-drop, take-append-drop}
+use Rattle.std.proofs.Common.{◌≡◌, ℕ, ◌<◌, ◌≤◌, true, false, cond, List, [], ◌∷◌, ◌++◌, length, take, drop, refl, sym, ap, ◌∙◌, subst, Option, Result, Ok, arith, append-nil, length-drop, take-append-drop}
 use Rattle.std.proofs.lemmas.Bool.{lt-ltb}
 use Rattle.serde_json.specs.Written.{compact_text}
 use Rattle.cue_io.specs.declared.line.Line.{Line}
-use Rattle.cue_io.specs.declared.line.Line.TheVariants.{Bytes, TooLong, End}
 use Rattle.cue_io.specs.declared.line.LineFault.{LineFault}
 use Rattle.cue_io.specs.Input.{IsAtEnd}
-use Rattle.cue_io.specs.Reader.{Held, Given, Whole, Long, AtEnd, Goes, IsPending, given_by}
+use Rattle.cue_io.specs.Reader.{Held, Given, Whole, Long, Goes, IsPending, given_by}
 use Rattle.farm_types.specs.Farm.{Farm}
 use Rattle.farm_types.specs.Reply.{bad_line}
 use Rattle.farm_types.specs.Request.{request_of}

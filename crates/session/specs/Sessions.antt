@@ -1,5 +1,5 @@
 -- What a whole call does: the lines that it took, what it wrote, and how it ended.
-use Rattle.std.specs.Prelude.{◌≡◌, ◌<◌, ◌++◌, ◌∷◌, [], ◌⊎◌, ℕ, List, Bool, true, false, length, codes, bytes_eq, Option, Some, None, Result, Ok, Err}
+use Rattle.std.specs.Prelude.{◌≡◌, ◌<◌, ◌++◌, ◌∷◌, [], ◌⊎◌, ℕ, List, Bool, true, false, length, codes, bytes_eq, Option, Result, Ok, Err}
 use Rattle.cue_io.specs.declared.line.LineFault.{LineFault}
 use Rattle.cue_io.specs.declared.line.LineFault.TheVariants as line_fault
 use Rattle.cue_io.specs.History.{HasGiven, IsUnfinished}

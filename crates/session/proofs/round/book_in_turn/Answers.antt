@@ -2,7 +2,7 @@
 use Rattle.std.proofs.Common.{◌++◌, length, sym, ap, ◌∙◌}
 use Rattle.farm_types.specs.Dispatch.{round_from, bookings_each}
 use Rattle.farm_types.specs.Run.{run_of}
-use Rattle.session.proofs.RoundLemmas.{round_step, round_end, take_front}
+use Rattle.session.proofs.RoundLemmas.{round_step, take_front}
 use Rattle.session.proofs.round.book_in_turn.Goals as goal
 
 pub loop-candidate-preserved : goal.loop-candidate-preserved

@@ -1,5 +1,5 @@
 -- Words of no form, want of memory, and a session.
-use Rattle.std.proofs.Common.{List, ℕ, [], ◌∷◌, ◌++◌}
+use Rattle.std.proofs.Common.{List, ℕ, [], ◌∷◌}
 use Rattle.cue_io.specs.Input.{Takes-none}
 use Rattle.cue_io.specs.Output.{Adds-none}
 use Rattle.cue_io.specs.Readings.{Shows-none, Shows-append}

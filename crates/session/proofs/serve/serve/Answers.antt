@@ -1,15 +1,12 @@
 -- Before the first turn, after one more, and at the last.
-use Rattle.std.proofs.Common.{◌≡◌, ◌≤◌, ℕ, List, [], ◌++◌, refl, sym, ◌∙◌, subst, arith}
+use Rattle.std.proofs.Common.{[], ◌++◌, refl, sym, subst, arith}
 use Rattle.cue_io.specs.Faults.{HasRisen-earlier}
 use Rattle.cue_io.specs.History.{HasGiven, HasGiven-new}
 use Rattle.cue_io.specs.Input.{Takes-none, Takes-append}
 use Rattle.cue_io.specs.Output.{Adds-none, Adds-append}
 use Rattle.cue_io.specs.Reader.{Held}
 use Rattle.cue_io.specs.Readings.{Shows-none, Shows-append}
-use Rattle.farm_types.specs.Farm.{Farm}
 use Rattle.farm_types.specs.Transcript.{line_limit}
-use Rattle.session.specs.declared.turned.Turned.{Turned}
-use Rattle.session.specs.Sessions.{IsStep}
 use Rattle.session.proofs.SessionLemmas.{served_went, served_ended}
 use Rattle.session.proofs.serve.serve.Goals as goal
 
