@@ -1,0 +1,11 @@
+-- What was read so far and what is left to read give what all of the list reads as.
+use Rattle.std.proofs.Common.{◌≡◌, drop}
+use Rattle.serde_json.specs.View.{items_view}
+use Rattle.farm_types.specs.Request.{items_at}
+use Rattle.job_spec.specs.Spec.{layer_form_at}
+use Rattle.job_spec.specs.Answers.{prepend}
+use Rattle.job_spec.proofs.layer_form.read_items.Given as goal
+
+abbrev pub invariant-loop-value : goal.invariant-loop-value
+invariant-loop-value l =
+    prepend l.found (items_at l.field layer_form_at (items_view (drop l.value-index l.values))) ≡ items_at l.field layer_form_at (items_view l.values)

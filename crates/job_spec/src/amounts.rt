@@ -1,0 +1,41 @@
+//! Amounts within their limits.
+
+ghost use Rattle.std.specs.Prelude.{IfOk, OnOk};
+ghost use Rattle.farm_types.specs.Forms.{cores_of};
+ghost use Rattle.job_spec.specs.Spec.{layer_cores, within};
+ghost use Rattle.job_spec.specs.SpecLimits.{IsBetween};
+ghost use Rattle.job_spec.specs.Answers.{GivesSpec};
+
+use crate::fault::SpecFault;
+use farm_types::{Cores, read_cores};
+use std::alloc::Global;
+
+/// Nothing where the amount of the field is within its limits. It has 128 bits, so that a sum of lengths is one too.
+pub fn within(
+    alloc: Global,
+    field: &str,
+    least: u128,
+    most: u128,
+    amount: u128,
+) -> Result<(), SpecFault>
+    ensures gives { GivesSpec result (within field.now least most amount) }
+    ensures limits { OnOk result (IsBetween least most amount) }
+{
+    if least <= amount && amount <= most {
+        Ok(())
+    } else {
+        Err(SpecFault::amount(alloc, field))
+    }
+}
+
+/// The amount of cores that a layer's text says.
+pub fn read_layer_cores(alloc: Global, field: &str, text: &str) -> Result<Cores, SpecFault>
+    ensures gives { GivesSpec result (layer_cores field.now (cores_of text.now)) }
+    ensures limits { IfOk result (IsBetween 10 1000000) }
+{
+    let Some(cores) = read_cores(text) else {
+        return Err(SpecFault::amount(alloc, field));
+    };
+    within(alloc, field, 10, 1_000_000, u128::from(cores.0))?;
+    Ok(cores)
+}

@@ -1,0 +1,49 @@
+//! Judging the amounts of a job.
+
+ghost use Rattle.std.specs.Prelude.{◌≡◌, IfOk};
+ghost use Rattle.job_spec.specs.Spec.{frames_in, job_of};
+ghost use Rattle.job_spec.specs.SpecLimits.{JobKeepsLimits};
+ghost use Rattle.job_spec.specs.Answers.{GivesSpec};
+
+use crate::amounts::within;
+use crate::fault::SpecFault;
+use crate::forms::JobForm;
+use crate::job::{JobSpec, LayerSpec};
+use crate::layer_amounts::judge_layers;
+use std::alloc::Global;
+
+/// A job's amounts in order: priority, retries, the number of layers, each layer's, and the number of frames.
+#[tactic(auto, unfolding(crate::specs::Spec::job_of))]
+pub fn judge_job(alloc: Global, form: JobForm) -> Result<JobSpec, SpecFault>
+    ensures gives { GivesSpec result (job_of form) }
+    ensures limits { IfOk result JobKeepsLimits }
+{
+    within(alloc, "priority", 1, 1_000_000, u128::from(form.priority))?;
+    within(alloc, "max_retries", 0, 16, u128::from(form.max_retries))?;
+    within(alloc, "layers", 1, 64, form.layers.len() as u128)?;
+    let layers = judge_layers(alloc, form.layers.as_slice())?;
+    within(alloc, "layers", 1, 10_000, count_frames(layers.as_slice()))?;
+    Ok(JobSpec {
+        name: form.name,
+        show: form.show,
+        facility: form.facility,
+        shot: form.shot,
+        user: form.user,
+        priority: form.priority as u32,
+        max_retries: form.max_retries as u32,
+        auto_eat: form.auto_eat,
+        paused: form.paused,
+        layers,
+    })
+}
+
+// How many frames the layers have together.
+fn count_frames(layers: &[LayerSpec]) -> u128
+    ensures { result ≡ frames_in layers.now }
+{
+    let mut frames = 0;
+    for layer in layers {
+        frames += layer.numbers.len() as u128;
+    }
+    frames
+}

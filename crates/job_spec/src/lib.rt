@@ -1,0 +1,21 @@
+//! Job specs: the job that a JSON object says, or its first fault.
+#![tactic(auto)]
+
+mod amounts;
+mod defaults;
+mod fault;
+mod forms;
+mod job;
+mod job_amounts;
+mod job_form;
+mod layer_amounts;
+mod layer_form;
+mod spec;
+mod tags;
+#[cfg(test)]
+mod tests;
+mod words;
+
+pub use fault::SpecFault;
+pub use job::{JobSpec, LayerSpec};
+pub use spec::read_spec;

@@ -1,0 +1,63 @@
+//! Lists of tags.
+
+ghost use Rattle.std.specs.Prelude.{◌≡◌, ◌∷◌, [], codes, IfOk};
+ghost use Rattle.serde_json.specs.View.{items_view, members_view, view};
+ghost use Rattle.cue_json.specs.Fields.{Gives};
+ghost use Rattle.job_spec.specs.Spec.{tag_item, tags_at, tags_in};
+
+use crate::words::kept;
+use cue_json::{FieldFault, Map};
+use farm_types::{Items, Text, is_tag};
+use serde_json::Value;
+use std::alloc::{AllocError, Global};
+
+/// The tags in the field's list, in order.
+pub fn tags(alloc: Global, object: &Map, field: &str) -> Result<Items<Text>, FieldFault>
+    ensures { Gives (λ tags. tags) result (tags_at field.now (members_view object.now.entries)) }
+{
+    match cue_json::list(alloc, object, field) {
+        Ok(values) => read_tags(alloc, field, values),
+        Err(fault) => Err(fault),
+    }
+}
+
+// The tags of the list of that field.
+fn read_tags(alloc: Global, field: &str, values: &[Value]) -> Result<Items<Text>, FieldFault>
+    ensures { Gives (λ tags. tags) result (tags_in field.now (items_view values.now)) }
+{
+    let mut found = Items::new(alloc);
+    for value in values {
+        found.push(read_tag(alloc, field, value)?)?;
+    }
+    Ok(found)
+}
+
+// One tag of the list of that field.
+fn read_tag(alloc: Global, field: &str, value: &Value) -> Result<Text, FieldFault>
+    ensures { Gives (λ tag. tag) result (tag_item field.now (view value.now)) }
+{
+    match cue_json::text_item(alloc, value, field) {
+        Ok(text) => kept(alloc, field, text, is_tag(text)),
+        Err(fault) => Err(fault),
+    }
+}
+
+/// The tags of a layer that says none: `general`.
+pub fn default_tags(alloc: Global) -> Result<Items<Text>, AllocError>
+    ensures { IfOk result (λ tags. tags ≡ codes "general" ∷ []) }
+{
+    let mut tags = Items::new(alloc);
+    tags.push(Text::from_str(alloc, "general")?)?;
+    Ok(tags)
+}
+
+/// Copies of tags.
+pub fn copied_tags(alloc: Global, tags: &[Text]) -> Result<Items<Text>, AllocError>
+    ensures { IfOk result (λ copies. copies ≡ tags.now) }
+{
+    let mut copies = Items::new(alloc);
+    for tag in tags {
+        copies.push(tag.copy(alloc)?)?;
+    }
+    Ok(copies)
+}

@@ -1,0 +1,88 @@
+//! Fields whose texts have a form: names, facilities, commands.
+
+ghost use Rattle.std.specs.Prelude.{◌≡◌, Ok, Err, if◌then◌else◌};
+ghost use Rattle.std.specs.List.{list_all};
+ghost use Rattle.serde_json.specs.View.{members_view};
+ghost use Rattle.cue_json.specs.Fields.{Gives, WrongKind, text_at};
+ghost use Rattle.farm_types.specs.Forms.{is_tag_text};
+ghost use Rattle.farm_types.specs.Request.{name_at};
+ghost use Rattle.job_spec.specs.Spec.{is_command_byte, is_command_text, is_name_or_empty, text_of};
+
+use cue_json::{FieldFault, Map};
+use farm_types::{Text, is_name, is_tag};
+use std::alloc::Global;
+
+/// The field's name.
+pub fn name(alloc: Global, object: &Map, field: &str) -> Result<Text, FieldFault>
+    ensures { Gives (λ name. name) result (name_at field.now (members_view object.now.entries)) }
+{
+    match cue_json::text(alloc, object, field) {
+        Ok(text) => kept(alloc, field, text, is_name(text)),
+        Err(fault) => Err(fault),
+    }
+}
+
+/// The field's name or empty text.
+pub fn name_or_empty(alloc: Global, object: &Map, field: &str) -> Result<Text, FieldFault>
+    ensures { Gives (λ name. name) result (text_of is_name_or_empty field.now (members_view object.now.entries)) }
+{
+    match cue_json::text(alloc, object, field) {
+        Ok(text) => kept(alloc, field, text, text.is_empty() || is_name(text)),
+        Err(fault) => Err(fault),
+    }
+}
+
+/// The field's facility, which has the form of a tag.
+pub fn facility(alloc: Global, object: &Map, field: &str) -> Result<Text, FieldFault>
+    ensures { Gives (λ facility. facility) result (text_of is_tag_text field.now (members_view object.now.entries)) }
+{
+    match cue_json::text(alloc, object, field) {
+        Ok(text) => kept(alloc, field, text, is_tag(text)),
+        Err(fault) => Err(fault),
+    }
+}
+
+/// The field's command, of any length, without control bytes.
+pub fn command(alloc: Global, object: &Map, field: &str) -> Result<Text, FieldFault>
+    ensures { Gives (λ command. command) result (text_of is_command_text field.now (members_view object.now.entries)) }
+{
+    match cue_json::text(alloc, object, field) {
+        Ok(text) => kept(alloc, field, text, is_command(text)),
+        Err(fault) => Err(fault),
+    }
+}
+
+/// The field's text, whatever it is.
+pub fn text(alloc: Global, object: &Map, field: &str) -> Result<Text, FieldFault>
+    ensures { Gives (λ text. text) result (text_at field.now (members_view object.now.entries)) }
+{
+    match cue_json::text(alloc, object, field) {
+        Ok(text) => Ok(Text::from_str(alloc, text)?),
+        Err(fault) => Err(fault),
+    }
+}
+
+/// A copy of the text where it has the form that was asked for.
+pub fn kept(alloc: Global, field: &str, text: &str, is_formed: bool) -> Result<Text, FieldFault>
+    ensures { Gives (λ kept. kept) result (if is_formed then Ok text.now else Err (WrongKind field.now)) }
+{
+    if is_formed {
+        Ok(Text::from_str(alloc, text)?)
+    } else {
+        Err(FieldFault::wrong_kind(alloc, field))
+    }
+}
+
+// Whether no byte of the text is below 32.
+fn is_command(text: &str) -> bool
+    ensures { result ≡ is_command_text text.now }
+{
+    are_command_bytes(text.as_bytes())
+}
+
+// Whether no byte is below 32.
+fn are_command_bytes(bytes: &[u8]) -> bool
+    ensures { result ≡ list_all is_command_byte bytes.now }
+{
+    bytes.iter().all(|b| 32 <= *b)
+}
