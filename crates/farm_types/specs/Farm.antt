@@ -1,5 +1,6 @@
 -- The farm: plain lists, each in the order of its numbers.
 use Rattle.std.specs.Prelude.{ℕ, ◌==◌, ◌&&◌, ◌+◌, ◌*◌, Bool, false, List, [], ◌∷◌, Option, None, Some, slice_get, slice_set, find, bytes_eq, if◌then◌else◌}
+use Rattle.std.specs.List.{list_any}
 use Rattle.farm_types.specs.declared.rows.ShowRow.{ShowRow}
 use Rattle.farm_types.specs.declared.rows.AllocRow.{AllocRow}
 use Rattle.farm_types.specs.declared.rows.SubRow.{SubRow}
@@ -67,3 +68,15 @@ host_from place name (h ∷ hs) = if bytes_eq h.name name then Some place else h
 
 abbrev pub host_named : Farm → List ℕ → Option ℕ
 host_named f name = host_from 0 name f.hosts
+
+-- the number of the first show of that name, counted from a place
+abbrev pub show_from : ℕ → List ℕ → List ShowRow → Option ℕ
+show_from place name [] = None
+show_from place name (s ∷ ss) = if bytes_eq s.name name then Some place else show_from (place + 1) name ss
+
+abbrev pub show_named : Farm → List ℕ → Option ℕ
+show_named f name = show_from 0 name f.shows
+
+-- a facility is there when an allocation has it
+abbrev pub has_facility : Farm → List ℕ → Bool
+has_facility f facility = list_any (λ a. bytes_eq a.facility facility) f.allocs

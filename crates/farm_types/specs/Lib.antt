@@ -4,11 +4,15 @@ pub mod Depends
 pub mod Dispatch
 pub mod Examples
 pub mod Farm
+pub mod Fields
 pub mod Forms
+pub mod Jobs
 pub mod Names
 pub mod Reply
 pub mod Request
 pub mod Run
+pub mod Spec
+pub mod SpecLimits
 pub mod Step
 pub mod Sums
 pub mod Transcript

@@ -1,32 +1,26 @@
--- What a line asks: a report, read field by field, or the name of the first field at fault.
+-- What a line asks: a report or the submit of a job, read field by field, or its first fault.
 use Rattle.std.specs.Prelude.{ℕ, List, [], ◌∷◌, codes, Option, None, Some, Result, Ok, Err, ⊤, bytes_eq, if◌then◌else◌}
-use Rattle.serde_json.specs.Data.{Data, Items, no_items, item, Members}
-use Rattle.serde_json.specs.Find.{as_object}
-use Rattle.cue_json.specs.Fields.{Fault, WrongKind, field_of, ◌>>=◌, of_kind, text_at, whole_at, list_at, others_at, has_key}
+use Rattle.serde_json.specs.Data.{Members}
+use Rattle.cue_json.specs.Fields.{Fault, WrongKind, field_of, ◌>>=◌, text_at, whole_at, object_at, others_at}
 use Rattle.cue_json.specs.Lines.{object_in}
+use Rattle.frame_range.specs.declared.fault.RangeFault.{RangeFault}
 use Rattle.farm_types.specs.declared.attempt.Attempt.{Attempt}
 use Rattle.farm_types.specs.declared.attempt.DoneItem.{DoneItem}
+use Rattle.farm_types.specs.declared.job.JobSpec.{JobSpec}
 use Rattle.farm_types.specs.declared.report.Report.{Report}
-use Rattle.farm_types.specs.Forms.{is_name_text}
+use Rattle.farm_types.specs.declared.request.Request.{Request}
+use Rattle.farm_types.specs.declared.request.Request.TheVariants as request
+use Rattle.farm_types.specs.Fields.{name_at, optional_whole_at, list_of}
+use Rattle.farm_types.specs.Spec.{SpecError, Field, Range, Amount, formed, spec_at}
 
--- a text that is a name
-abbrev pub name_at : List ℕ → Members → Result (List ℕ) Fault
-name_at field ms = text_at field ms >>= λ name. if is_name_text name then Ok name else Err (WrongKind field)
+-- why a line asks nothing: the field at fault, empty where the line is no JSON object; a layer's range has a fault; or the amount of a field
+-- is outside its limits
+pub data RequestError : Type 0 where
+  BadLine : List ℕ → RequestError
+  BadRange : List ℕ → RangeFault → RequestError
+  BadAmount : List ℕ → RequestError
 
--- a number that may be left out
-abbrev pub optional_whole_at : List ℕ → ℕ → ℕ → Members → Result ⊤ Fault
-optional_whole_at field least most ms = if has_key field ms then (whole_at field least most ms >>= λ n. Ok tt) else Ok tt
-
--- an item of a list, an object; one of another kind is a fault of the list's field
-abbrev pub item_at : {X : Type 0} → List ℕ → (Members → Result X Fault) → Data → Result X Fault
-item_at field read d = of_kind field (as_object d) >>= read
-
-abbrev pub items_at : {X : Type 0} → List ℕ → (Members → Result X Fault) → Items → Result (List X) Fault
-items_at field read no_items = Ok []
-items_at field read (item d ds) = item_at field read d >>= λ x. items_at field read ds >>= λ xs. Ok (x ∷ xs)
-
-abbrev pub list_of : {X : Type 0} → List ℕ → (Members → Result X Fault) → Members → Result (List X) Fault
-list_of field read ms = list_at field ms >>= items_at field read
+-- ---- a report
 
 -- a running attempt: slot and version
 abbrev pub attempt_keys : List (List ℕ)
@@ -58,22 +52,54 @@ report_at ms =
     list_of (codes "done") done_at ms >>= λ done. others_at report_keys ms >>= λ none.
     Ok (record { host = host; boot = boot; seq = seq; running = running; done = done })
 
+-- ---- the submit of a job
+
+abbrev pub submit_keys : List (List ℕ)
+submit_keys = codes "job" ∷ codes "op" ∷ []
+
+-- a field that isn't expected beside the spec comes after the faults of the spec's form, and before those of its amounts
+abbrev pub after_others : Result JobSpec SpecError → Result ⊤ Fault → Result JobSpec SpecError
+after_others (Err (Field fault)) others = Err (Field fault)
+after_others read (Ok none) = read
+after_others read (Err fault) = Err (Field fault)
+
+unfoldable pub submit_at : Members → Result JobSpec SpecError
+submit_at ms = after_others (formed (object_at (codes "job") ms) >>= spec_at) (others_at submit_keys ms)
+
+-- ---- a line
+
+-- what is asked, or the name of the field at fault
+abbrev pub asked : {X : Type 0} → (X → Request) → Result X Fault → Result Request RequestError
+asked asks (Ok x) = Ok (asks x)
+asked asks (Err fault) = Err (BadLine (field_of fault))
+
+abbrev pub error_of : SpecError → RequestError
+error_of (Field fault) = BadLine (field_of fault)
+error_of (Range layer fault) = BadRange layer fault
+error_of (Amount field) = BadAmount field
+
+abbrev pub submitted : Result JobSpec SpecError → Result Request RequestError
+submitted (Ok spec) = Ok (request.Submit spec)
+submitted (Err error) = Err (error_of error)
+
 -- the request that `op` names
-abbrev pub by_op : Members → List ℕ → Result Report Fault
-by_op ms op = if bytes_eq op (codes "report") then report_at ms else Err (WrongKind (codes "op"))
+abbrev pub by_op : Members → List ℕ → Result Request RequestError
+by_op ms op =
+    if bytes_eq op (codes "report") then asked request.Report (report_at ms)
+    else (if bytes_eq op (codes "submit") then submitted (submit_at ms)
+    else Err (BadLine (codes "op")))
 
-abbrev pub request_at : Members → Result Report Fault
-request_at ms = text_at (codes "op") ms >>= by_op ms
+abbrev pub after_op : Members → Result (List ℕ) Fault → Result Request RequestError
+after_op ms (Ok op) = by_op ms op
+after_op ms (Err fault) = Err (BadLine (field_of fault))
 
--- the request of an object, or the name of the field at fault
-abbrev pub or_field : Result Report Fault → Result Report (List ℕ)
-or_field (Ok report) = Ok report
-or_field (Err fault) = Err (field_of fault)
+abbrev pub request_at : Members → Result Request RequestError
+request_at ms = after_op ms (text_at (codes "op") ms)
 
-abbrev pub request_in : Option Members → Result Report (List ℕ)
-request_in None = Err []
-request_in (Some ms) = or_field (request_at ms)
+abbrev pub request_in : Option Members → Result Request RequestError
+request_in None = Err (BadLine [])
+request_in (Some ms) = request_at ms
 
--- what the line asks; where it is no JSON object, the field at fault is the empty one
-unfoldable pub request_of : List ℕ → Result Report (List ℕ)
+-- what the line asks, or its first fault
+unfoldable pub request_of : List ℕ → Result Request RequestError
 request_of line = request_in (object_in line)

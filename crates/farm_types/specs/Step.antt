@@ -6,10 +6,11 @@ use Rattle.farm_types.specs.declared.attempt.Exit.{Exit}
 use Rattle.farm_types.specs.declared.attempt.ProcRow.{ProcRow}
 use Rattle.farm_types.specs.declared.entry.Entry.{Entry}
 use Rattle.farm_types.specs.declared.entry.Act.{Act}
-use Rattle.farm_types.specs.declared.entry.Act.TheVariants.{Opened, Heard, Book}
+use Rattle.farm_types.specs.declared.entry.Act.TheVariants.{Opened, Heard, Submit, Book}
 use Rattle.farm_types.specs.declared.entry.HeardAct.{HeardAct}
 use Rattle.farm_types.specs.declared.refusal.Refusal.{Refusal}
 use Rattle.farm_types.specs.declared.refusal.Refusal.TheVariants.{Unknown, WrongBoot, Stale}
+use Rattle.farm_types.specs.declared.job.JobSpec.{JobSpec}
 use Rattle.farm_types.specs.declared.rows.HostRow.{HostRow}
 use Rattle.farm_types.specs.declared.rows.JobRow.{JobRow}
 use Rattle.farm_types.specs.declared.rows.LayerRow.{LayerRow}
@@ -19,9 +20,11 @@ use Rattle.farm_types.specs.declared.states.FrameState.TheVariants as frame_stat
 use Rattle.farm_types.specs.declared.states.HostState.TheVariants as host_state
 use Rattle.farm_types.specs.declared.verdict.Verdict.{Verdict}
 use Rattle.farm_types.specs.declared.verdict.Verdict.TheVariants as verdict
-use Rattle.farm_types.specs.Farm.{Farm, for_some, changed_at, job_at, layer_at, sub_of, host_named}
+use Rattle.farm_types.specs.Farm.{Farm, for_some, changed_at, job_at, layer_at, sub_of, host_named, show_named, has_facility}
 use Rattle.farm_types.specs.Verdict.{verdict_of}
 use Rattle.farm_types.specs.Booking.{is_up, may_record}
+use Rattle.farm_types.specs.Jobs.{JobLists, with_job, job_refusal}
+use Rattle.farm_types.specs.SpecLimits.{JobKeepsLimits}
 
 -- ---- refusals
 
@@ -34,10 +37,23 @@ abbrev pub host_refusal : Farm → HeardAct → Option ℕ → Option Refusal
 host_refusal f act None = Some (Unknown act.host)
 host_refusal f act (Some host) = row_refusal act.host act.boot act.seq (slice_get f.hosts host)
 
+-- the farm's jobs, layers and slots, and the farm with others
+abbrev pub lists_of : Farm → JobLists
+lists_of f = record { jobs = f.jobs; layers = f.layers; slots = f.slots; next_job = f.next_job }
+
+abbrev pub with_lists : Farm → JobLists → Farm
+with_lists f b = record f { jobs = b.jobs; layers = b.layers; slots = b.slots; next_job = b.next_job }
+
+-- the job's show is there, then its facility; then its names are new, and there is room for its frames
+abbrev pub submit_refusal : Farm → JobSpec → Option ℕ → Option Refusal
+submit_refusal f spec None = Some (Unknown spec.show)
+submit_refusal f spec (Some show) = if has_facility f spec.facility then job_refusal (lists_of f) spec else Some (Unknown spec.facility)
+
 -- the first refusal that the farm gives, or none
 abbrev pub act_refusal : Farm → Act → Option Refusal
 act_refusal f Opened = None
 act_refusal f (Heard act) = host_refusal f act (host_named f act.host)
+act_refusal f (Submit spec) = submit_refusal f spec (show_named f spec.show)
 act_refusal f (Book slot host) = None
 
 abbrev pub refusal_of : Farm → Entry → Option Refusal
@@ -47,7 +63,13 @@ refusal_of f e = act_refusal f e.act
 abbrev pub HasCondition : Farm → Act → Type 0
 HasCondition f Opened = Unit {0}
 HasCondition f (Heard act) = Unit {0}
+HasCondition f (Submit spec) = Unit {0}
 HasCondition f (Book slot host) = may_record f slot host ≡ true
+
+-- a submitted job keeps its limits
+abbrev pub KeepsLimits : Act → Type 0
+KeepsLimits (Submit spec) = JobKeepsLimits spec
+KeepsLimits act = Unit {0}
 
 -- ---- hosts
 
@@ -131,9 +153,15 @@ abbrev pub after_heard : Farm → HeardAct → ℕ → Option ℕ → Farm
 after_heard f act moment None = f
 after_heard f act moment (Some host) = end_all (record f { hosts = changed_at f.hosts host (heard_row act.seq moment) }) host act.boot act.done
 
+-- the farm with the job, of the show of that name
+abbrev pub after_submit : Farm → JobSpec → Option ℕ → Farm
+after_submit f spec None = f
+after_submit f spec (Some show) = with_lists f (with_job (lists_of f) show spec)
+
 abbrev pub after_act : Farm → ℕ → Act → Farm
 after_act f moment Opened = record f { hosts = map (reopened_row moment) f.hosts }
 after_act f moment (Heard act) = after_heard f act moment (host_named f act.host)
+after_act f moment (Submit spec) = after_submit f spec (show_named f spec.show)
 after_act f moment (Book slot host) = with_proc f slot (new_proc f slot host moment)
 
 -- the farm at a moment, marked as one that an entry made

@@ -3,15 +3,18 @@ use Rattle.std.specs.Prelude.{ℕ, List, [], ◌∷◌, ◌++◌, map, take, len
 use Rattle.serde_json.specs.Data.{Data}
 use Rattle.serde_json.specs.Written.{compact_text}
 use Rattle.farm_types.specs.declared.entry.Entry.{Entry}
-use Rattle.farm_types.specs.declared.entry.Act.TheVariants.{Heard}
+use Rattle.farm_types.specs.declared.entry.Act.TheVariants.{Heard, Submit}
+use Rattle.farm_types.specs.declared.job.JobSpec.{JobSpec}
 use Rattle.farm_types.specs.declared.refusal.Refusal.{Refusal}
 use Rattle.farm_types.specs.declared.report.Report.{Report}
+use Rattle.farm_types.specs.declared.request.Request.{Request}
+use Rattle.farm_types.specs.declared.request.Request.TheVariants as request
 use Rattle.farm_types.specs.Farm.{Farm, host_named}
 use Rattle.farm_types.specs.Step.{refusal_of, after}
 use Rattle.farm_types.specs.Run.{run_of}
 use Rattle.farm_types.specs.Dispatch.{round_for}
-use Rattle.farm_types.specs.Request.{request_of}
-use Rattle.farm_types.specs.Reply.{no_memory, bad_line, refusal_data, report_reply}
+use Rattle.farm_types.specs.Request.{RequestError, request_of}
+use Rattle.farm_types.specs.Reply.{no_memory, too_long, error_data, refusal_data, report_reply, submit_reply}
 
 -- What the outside did while a line was answered: nothing; memory was wanting before anything was recorded; memory was wanting after so
 -- many bookings of the round; or it was wanting for the reply's text, after the whole round or after so many bookings.
@@ -58,10 +61,23 @@ abbrev pub report_answer : Farm → Report → ℕ → Mark → Option Refusal �
 report_answer f report moment mark (Some why) = only_reply (refusal_data why)
 report_answer f report moment mark None = accepted_answer f report moment mark (host_named f report.host)
 
--- a line that isn't a request, and one that is
-abbrev pub request_answer : Farm → ℕ → Mark → Result Report (List ℕ) → Answered
-request_answer f moment mark (Err field) = only_reply (bad_line [])
-request_answer f moment mark (Ok report) = report_answer f report moment mark (refusal_of f (heard_entry report moment))
+-- the entry of a submit
+abbrev pub submit_entry : JobSpec → ℕ → Entry
+submit_entry spec moment = record { moment = moment; act = Submit spec }
+
+abbrev pub submit_answer : JobSpec → ℕ → Option Refusal → Answered
+submit_answer spec moment (Some why) = only_reply (refusal_data why)
+submit_answer spec moment None = record { entries = submit_entry spec moment ∷ []; reply = compact_text (submit_reply spec) }
+
+-- what a request makes
+abbrev pub asked_answer : Farm → ℕ → Mark → Request → Answered
+asked_answer f moment mark (request.Report report) = report_answer f report moment mark (refusal_of f (heard_entry report moment))
+asked_answer f moment mark (request.Submit spec) = submit_answer spec moment (refusal_of f (submit_entry spec moment))
+
+-- a line that asks nothing, and one that asks something
+abbrev pub request_answer : Farm → ℕ → Mark → Result Request RequestError → Answered
+request_answer f moment mark (Err error) = only_reply (error_data error)
+request_answer f moment mark (Ok asked) = asked_answer f moment mark asked
 
 abbrev pub unless_memory : Mark → Answered → Answered
 unless_memory Memory answered = only_reply no_memory
@@ -74,7 +90,7 @@ line_limit = 1048576
 -- what a line makes of the farm at a moment, by what the outside did
 unfoldable pub answer_to : Farm → List ℕ → ℕ → Mark → Answered
 answer_to f line moment mark =
-    if nat_lt line_limit (length line) then only_reply (bad_line [])
+    if nat_lt line_limit (length line) then only_reply too_long
     else unless_memory mark (request_answer f moment mark (request_of line))
 
 -- one line with the clock's reading and its mark

@@ -2,6 +2,7 @@
 
 use crate::attempt::DoneItem;
 use crate::items::Items;
+use crate::job::JobSpec;
 use crate::numbers::{HostNo, Slot};
 use crate::text::Text;
 
@@ -12,11 +13,13 @@ pub struct Entry {
     pub act: Act,
 }
 
-/// What an entry does: the scheduler was opened, a host was heard, or a waiting frame is booked on a host.
+/// What an entry does: the scheduler was opened, a host was heard, a job is submitted, or a waiting frame is booked on
+/// a host. A submitted job is within its limits.
 #[derive(Debug, Drop)]
 pub enum Act {
     Opened,
     Heard(HeardAct),
+    Submit(JobSpec),
     Book { slot: Slot, host: HostNo },
 }
 

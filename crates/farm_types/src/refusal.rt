@@ -1,5 +1,8 @@
 //! Why the farm refuses an entry.
 
+ghost use Rattle.std.specs.Prelude.{◌≡◌};
+ghost use Rattle.farm_types.specs.Reply.{counted_word};
+
 use crate::text::Text;
 
 /// A refusal of the farm, with what its reply shows.
@@ -7,8 +10,31 @@ use crate::text::Text;
 pub enum Refusal {
     /// Nothing of that name is there.
     Unknown { name: Text },
+    /// The name to be made is there.
+    Exists { name: Text },
     /// The host's boot number is another.
     WrongBoot { boot: u32 },
     /// The report's sequence number isn't above the last one.
     Stale { last: u64 },
+    /// The job has more frames than there are free slots, of which there are so many.
+    FarmFull { free: u32 },
+    /// The count of such things is at its limit.
+    Full { limit: u64, what: Counted },
+}
+
+/// What is counted up to a limit: the numbers that were given to jobs.
+#[derive(Clone, Copy, Debug, PartialEq, Eq)]
+pub enum Counted {
+    Jobs,
+}
+
+impl Counted {
+    /// The word of a reply for it.
+    pub fn as_str(self) -> &'static str
+        ensures { result.now ≡ counted_word self }
+    {
+        match self {
+            Counted::Jobs => "jobs",
+        }
+    }
 }

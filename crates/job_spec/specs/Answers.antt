@@ -5,7 +5,7 @@ use Rattle.cue_json.specs.declared.fault.FieldFault.{FieldFault}
 use Rattle.cue_json.specs.declared.fault.FieldFault.TheVariants as field_fault
 use Rattle.frame_range.specs.declared.fault.RangeFault.{RangeFault}
 use Rattle.frame_range.specs.declared.fault.RangeFault.TheVariants as range_fault
-use Rattle.job_spec.specs.Spec.{SpecError, Field, Range, Amount}
+use Rattle.farm_types.specs.Spec.{SpecError, Field, Range, Amount}
 use Rattle.job_spec.specs.declared.fault.SpecFault.{SpecFault}
 use Rattle.job_spec.specs.declared.fault.SpecFault.TheVariants as spec_fault
 

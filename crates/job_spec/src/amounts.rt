@@ -2,8 +2,8 @@
 
 ghost use Rattle.std.specs.Prelude.{IfOk, OnOk};
 ghost use Rattle.farm_types.specs.Forms.{cores_of};
-ghost use Rattle.job_spec.specs.Spec.{layer_cores, within};
-ghost use Rattle.job_spec.specs.SpecLimits.{IsBetween};
+ghost use Rattle.farm_types.specs.Spec.{layer_cores, within};
+ghost use Rattle.farm_types.specs.SpecLimits.{IsBetween};
 ghost use Rattle.job_spec.specs.Answers.{GivesSpec};
 
 use crate::fault::SpecFault;

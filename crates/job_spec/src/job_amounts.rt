@@ -1,19 +1,19 @@
 //! Judging the amounts of a job.
 
 ghost use Rattle.std.specs.Prelude.{◌≡◌, IfOk};
-ghost use Rattle.job_spec.specs.Spec.{frames_in, job_of};
-ghost use Rattle.job_spec.specs.SpecLimits.{JobKeepsLimits};
+ghost use Rattle.farm_types.specs.Spec.{frames_in, job_of};
+ghost use Rattle.farm_types.specs.SpecLimits.{JobKeepsLimits};
 ghost use Rattle.job_spec.specs.Answers.{GivesSpec};
 
 use crate::amounts::within;
 use crate::fault::SpecFault;
-use crate::forms::JobForm;
-use crate::job::{JobSpec, LayerSpec};
+use farm_types::JobForm;
+use farm_types::{JobSpec, LayerSpec};
 use crate::layer_amounts::judge_layers;
 use std::alloc::Global;
 
 /// A job's amounts in order: priority, retries, the number of layers, each layer's, and the number of frames.
-#[tactic(auto, unfolding(crate::specs::Spec::job_of))]
+#[tactic(auto, unfolding(farm_types::specs::Spec::job_of))]
 pub fn judge_job(alloc: Global, form: JobForm) -> Result<JobSpec, SpecFault>
     ensures gives { GivesSpec result (job_of form) }
     ensures limits { IfOk result JobKeepsLimits }

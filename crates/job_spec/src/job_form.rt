@@ -2,16 +2,16 @@
 
 ghost use Rattle.serde_json.specs.View.{members_view};
 ghost use Rattle.cue_json.specs.Fields.{Gives};
-ghost use Rattle.job_spec.specs.Spec.{job_form_at};
+ghost use Rattle.farm_types.specs.Spec.{job_form_at};
 
-use crate::forms::JobForm;
+use farm_types::JobForm;
 use crate::layer_form::read_layers;
 use crate::{defaults, words};
 use cue_json::{FieldFault, Map};
 use std::alloc::Global;
 
 /// A job's fields in order, and no others. Depends can't be asked for yet.
-#[tactic(auto, unfolding(crate::specs::Spec::job_form_at))]
+#[tactic(auto, unfolding(farm_types::specs::Spec::job_form_at))]
 pub fn read_job(alloc: Global, object: &Map) -> Result<JobForm, FieldFault>
     ensures { Gives (λ job. job) result (job_form_at (members_view object.now.entries)) }
 {

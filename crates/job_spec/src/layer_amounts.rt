@@ -5,14 +5,14 @@ ghost use Rattle.std.specs.List.{All, IsDistinct};
 ghost use Rattle.std.specs.Ordering.{int_eq};
 ghost use Rattle.frame_range.specs.Printed.{printed};
 ghost use Rattle.frame_range.specs.Sets.{numbers_of, set_of};
-ghost use Rattle.job_spec.specs.Spec.{layer_of, layer_with, layers_of, range_of};
-ghost use Rattle.job_spec.specs.SpecLimits.{LayerKeepsLimits};
+ghost use Rattle.farm_types.specs.Spec.{layer_of, layer_with, layers_of, range_of};
+ghost use Rattle.farm_types.specs.SpecLimits.{LayerKeepsLimits};
 ghost use Rattle.job_spec.specs.Answers.{GivesSpec};
 
 use crate::amounts::{read_layer_cores, within};
 use crate::fault::SpecFault;
-use crate::forms::LayerForm;
-use crate::job::LayerSpec;
+use farm_types::LayerForm;
+use farm_types::LayerSpec;
 use crate::tags::copied_tags;
 use farm_types::{Cores, Items, Kb, Text};
 use frame_range::{FrameSet, RangeFault, parse_set};
@@ -32,7 +32,7 @@ pub fn judge_layers(alloc: Global, forms: &[LayerForm]) -> Result<Items<LayerSpe
 }
 
 // A layer's amounts in order: the length of its range's text, its range, its command's length, cores, memory, tags.
-#[tactic(auto, unfolding(crate::specs::Spec::layer_of))]
+#[tactic(auto, unfolding(farm_types::specs::Spec::layer_of))]
 fn judge_layer(alloc: Global, form: &LayerForm) -> Result<LayerSpec, SpecFault>
     ensures gives { GivesSpec result (layer_of form.now) }
     ensures limits { IfOk result LayerKeepsLimits }

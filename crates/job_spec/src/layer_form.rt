@@ -2,10 +2,10 @@
 
 ghost use Rattle.serde_json.specs.View.{items_view, members_view, view};
 ghost use Rattle.cue_json.specs.Fields.{Gives};
-ghost use Rattle.farm_types.specs.Request.{item_at, items_at, list_of};
-ghost use Rattle.job_spec.specs.Spec.{layer_form_at};
+ghost use Rattle.farm_types.specs.Fields.{item_at, items_at, list_of};
+ghost use Rattle.farm_types.specs.Spec.{layer_form_at};
 
-use crate::forms::LayerForm;
+use farm_types::LayerForm;
 use crate::{defaults, words};
 use cue_json::{FieldFault, Map};
 use farm_types::Items;
@@ -44,7 +44,7 @@ fn read_item(alloc: Global, field: &str, value: &Value) -> Result<LayerForm, Fie
 }
 
 // A layer's fields in order, and no others.
-#[tactic(auto, unfolding(crate::specs::Spec::layer_form_at))]
+#[tactic(auto, unfolding(farm_types::specs::Spec::layer_form_at))]
 fn read_layer(alloc: Global, object: &Map) -> Result<LayerForm, FieldFault>
     ensures { Gives (λ layer. layer) result (layer_form_at (members_view object.now.entries)) }
 {

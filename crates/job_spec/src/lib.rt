@@ -4,8 +4,6 @@
 mod amounts;
 mod defaults;
 mod fault;
-mod forms;
-mod job;
 mod job_amounts;
 mod job_form;
 mod layer_amounts;
@@ -17,5 +15,4 @@ mod tests;
 mod words;
 
 pub use fault::SpecFault;
-pub use job::{JobSpec, LayerSpec};
 pub use spec::read_spec;

@@ -3,7 +3,7 @@
 ghost use Rattle.std.specs.Prelude.{◌≡◌, ◌∷◌, [], codes, IfOk};
 ghost use Rattle.serde_json.specs.View.{items_view, members_view, view};
 ghost use Rattle.cue_json.specs.Fields.{Gives};
-ghost use Rattle.job_spec.specs.Spec.{tag_item, tags_at, tags_in};
+ghost use Rattle.farm_types.specs.Spec.{tag_item, tags_at, tags_in};
 
 use crate::words::kept;
 use cue_json::{FieldFault, Map};

@@ -1,6 +1,6 @@
 //! Specs that are taken, and the first fault of those that aren't, against the rules.
 
-use crate::job::JobSpec;
+use farm_types::JobSpec;
 use crate::{SpecFault, read_spec};
 use cue_json::FieldFault;
 use farm_types::{Cores, Kb};

@@ -5,8 +5,8 @@ ghost use Rattle.std.specs.List.{list_all};
 ghost use Rattle.serde_json.specs.View.{members_view};
 ghost use Rattle.cue_json.specs.Fields.{Gives, WrongKind, text_at};
 ghost use Rattle.farm_types.specs.Forms.{is_tag_text};
-ghost use Rattle.farm_types.specs.Request.{name_at};
-ghost use Rattle.job_spec.specs.Spec.{is_command_byte, is_command_text, is_name_or_empty, text_of};
+ghost use Rattle.farm_types.specs.Fields.{name_at};
+ghost use Rattle.farm_types.specs.Spec.{is_command_byte, is_command_text, is_name_or_empty, text_of};
 
 use cue_json::{FieldFault, Map};
 use farm_types::{Text, is_name, is_tag};

@@ -4,7 +4,8 @@ ghost use Rattle.std.specs.Prelude.{◌≡◌, Result, ⊤};
 ghost use Rattle.serde_json.specs.Data.{Members};
 ghost use Rattle.serde_json.specs.View.{items_view, members_view, view};
 ghost use Rattle.cue_json.specs.Fields.{Fault, Gives};
-ghost use Rattle.farm_types.specs.Request.{attempt_at, done_at, item_at, items_at, list_of, optional_whole_at};
+ghost use Rattle.farm_types.specs.Fields.{item_at, items_at, list_of, optional_whole_at};
+ghost use Rattle.farm_types.specs.Request.{attempt_at, done_at};
 
 use cue_json::{FieldFault, Map};
 use farm_types::{Attempt, DoneItem, Exit, Items, Slot, Version};

@@ -1,6 +1,6 @@
 -- The frames so far and those of the layers that are left are all frames, and there is room for them.
 use Rattle.std.proofs.Common.{◌≡◌, ◌≤◌, ◌+◌, ◌*◌, ◌^◌, drop}
-use Rattle.job_spec.specs.Spec.{frames_in}
+use Rattle.farm_types.specs.Spec.{frames_in}
 use Rattle.job_spec.proofs.job_amounts.count_frames.Given as goal
 
 abbrev pub invariant-loop-layer : goal.invariant-loop-layer

@@ -2,7 +2,7 @@
 use Rattle.std.proofs.Common.{arith, ◌≡◌, [], ◌∷◌, ◌++◌}
 use Rattle.std.proofs.lemmas.Grind.{common_steps}
 use Rattle.std.proofs.lemmas.List.Elements.{All-push}
-use Rattle.job_spec.specs.SpecLimits.{LayerKeepsLimits}
+use Rattle.farm_types.specs.SpecLimits.{LayerKeepsLimits}
 use Rattle.job_spec.proofs.layer_amounts.judge_layers.Goals as goal
 
 pub loop-form-preserved : goal.loop-form-preserved

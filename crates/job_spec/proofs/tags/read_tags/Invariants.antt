@@ -1,7 +1,7 @@
 -- What was read so far and what is left to read give what all of the list reads as.
 use Rattle.std.proofs.Common.{◌≡◌, drop}
 use Rattle.serde_json.specs.View.{items_view}
-use Rattle.job_spec.specs.Spec.{tags_in}
+use Rattle.farm_types.specs.Spec.{tags_in}
 use Rattle.job_spec.specs.Answers.{prepend}
 use Rattle.job_spec.proofs.tags.read_tags.Given as goal
 

@@ -1,7 +1,7 @@
 -- What was read so far and what is left to read give what all of the list reads as.
 use Rattle.std.proofs.Common.{◌≡◌, drop}
 use Rattle.serde_json.specs.View.{items_view}
-use Rattle.farm_types.specs.Request.{items_at}
+use Rattle.farm_types.specs.Fields.{items_at}
 use Rattle.session.specs.Reads.{prepend}
 use Rattle.session.proofs.item.read_items.Given as goal
 

@@ -1,6 +1,7 @@
 //! What a job spec says, before its amounts are judged.
 
-use farm_types::{Items, Text};
+use crate::items::Items;
+use crate::text::Text;
 
 /// The fields of a job spec, defaults in the place of those that were left out: names, words and flags are of
 /// their form, and numbers are any of 64 bits.

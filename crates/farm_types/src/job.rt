@@ -1,6 +1,8 @@
 //! A job as it is submitted.
 
-use farm_types::{Cores, Items, Kb, Text};
+use crate::items::Items;
+use crate::numbers::{Cores, Kb};
+use crate::text::Text;
 
 /// A job: its name, show and facility, shot and user (empty where none is said), its priority from 1 to
 /// 1,000,000, its greatest number of retries from 0 to 16, and its layers, which have 1 to 10,000 frames

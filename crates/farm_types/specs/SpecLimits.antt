@@ -2,9 +2,9 @@
 use Rattle.std.specs.Prelude.{ℕ, ◌≤◌, ◌<◌, length}
 use Rattle.std.specs.List.{All, IsDistinct}
 use Rattle.std.specs.Ordering.{int_eq}
-use Rattle.job_spec.specs.declared.job.JobSpec.{JobSpec}
-use Rattle.job_spec.specs.declared.job.LayerSpec.{LayerSpec}
-use Rattle.job_spec.specs.Spec.{frames_in}
+use Rattle.farm_types.specs.declared.job.JobSpec.{JobSpec}
+use Rattle.farm_types.specs.declared.job.LayerSpec.{LayerSpec}
+use Rattle.farm_types.specs.Spec.{frames_in}
 
 -- a number from the least to the most
 abbrev pub IsBetween : ℕ → ℕ → ℕ → Type 0

@@ -8,12 +8,12 @@ use Rattle.frame_range.specs.declared.fault.RangeFault.{RangeFault}
 use Rattle.frame_range.specs.declared.section.Section.{Section}
 use Rattle.frame_range.specs.Printed.{printed}
 use Rattle.frame_range.specs.Sets.{set_of, numbers_of}
-use Rattle.job_spec.specs.declared.job.JobSpec.{JobSpec}
-use Rattle.job_spec.specs.declared.job.LayerSpec.{LayerSpec}
-use Rattle.job_spec.specs.declared.forms.JobForm.{JobForm}
-use Rattle.job_spec.specs.declared.forms.LayerForm.{LayerForm}
+use Rattle.farm_types.specs.declared.job.JobSpec.{JobSpec}
+use Rattle.farm_types.specs.declared.job.LayerSpec.{LayerSpec}
+use Rattle.farm_types.specs.declared.job_form.JobForm.{JobForm}
+use Rattle.farm_types.specs.declared.job_form.LayerForm.{LayerForm}
 use Rattle.farm_types.specs.Forms.{is_name_text, is_tag_text, is_between, cores_of}
-use Rattle.farm_types.specs.Request.{name_at, list_of}
+use Rattle.farm_types.specs.Fields.{name_at, list_of}
 
 -- why a spec isn't taken: a field is missing or not of its form, a layer's range has a fault, or the amount of a field is outside its limits
 pub data SpecError : Type 0 where
