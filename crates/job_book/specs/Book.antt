@@ -1,0 +1,118 @@
+-- What the calls of the job book answer and change.
+use Rattle.std.specs.Prelude.{◌≡◌, ℕ, ◌==◌, ◌&&◌, ◌+◌, Bool, true, false, not, is_some, List, [], ◌∷◌, option_map, option_and_then, sum_by, Option, None, Some, find, slice_get, bytes_eq, Result, Ok, Err, if◌then◌else◌}
+use Rattle.std.specs.List.{prefix_len}
+use Rattle.farm_types.specs.declared.attempt.ProcRow.{ProcRow}
+use Rattle.farm_types.specs.declared.job.JobSpec.{JobSpec}
+use Rattle.farm_types.specs.declared.rows.JobRow.{JobRow}
+use Rattle.farm_types.specs.declared.slot_row.FrameRow.{FrameRow}
+use Rattle.farm_types.specs.declared.slot_row.SlotRow.{SlotRow}
+use Rattle.farm_types.specs.declared.states.FrameState.{FrameState}
+use Rattle.farm_types.specs.declared.states.FrameState.TheVariants as frame_state
+use Rattle.farm_types.specs.Farm.{for_some}
+use Rattle.farm_types.specs.Jobs.{JobLists, is_free, job_refusal}
+use Rattle.farm_types.specs.Spec.{frames_in}
+use Rattle.job_book.specs.declared.counts.Counts.{Counts}
+use Rattle.job_book.specs.declared.frame_view.FrameView.{FrameView}
+use Rattle.job_book.specs.declared.placing.JobFault.{JobFault}
+use Rattle.job_book.specs.declared.placing.JobFault.TheVariants as fault
+use Rattle.job_book.specs.declared.placing.Placing.{Placing}
+
+-- no jobs, no slot used, and 1 the next job's number
+abbrev pub no_jobs : JobLists
+no_jobs = record { jobs = []; layers = []; slots = []; next_job = 1 }
+
+-- ---- placing
+
+-- the lowest free slot: the first free one of those that were used, and else the first that never was
+abbrev pub first_free : List SlotRow → ℕ
+first_free slots = prefix_len (λ s. not (is_free s)) slots
+
+-- where a job is placed: its number and show, its lowest slot, and how many frames it has
+abbrev pub placing_of : JobLists → ℕ → JobSpec → Placing
+placing_of b show spec = record { job = b.next_job; show = show; first = first_free b.slots; frames = frames_in spec.layers }
+
+-- the place of a job that isn't refused, or exactly its refusal; want of memory needs no cause
+abbrev pub Checks : JobLists → ℕ → JobSpec → Result Placing JobFault → Type 0
+Checks b show spec (Ok placing) = (job_refusal b spec ≡ None) × (placing ≡ placing_of b show spec)
+Checks b show spec (Err (fault.Refused why)) = job_refusal b spec ≡ Some why
+Checks b show spec (Err fault.NoMemory) = Unit {0}
+
+-- ---- changes of one slot
+
+-- whether there is a frame in the slot
+abbrev pub has_frame : JobLists → ℕ → Bool
+has_frame b slot = for_some (slice_get b.slots slot) (λ (s : SlotRow). is_some s.frame)
+
+-- the slot at that version, its frame in that state with so many retries
+abbrev pub turned_row : FrameState → ℕ → ℕ → SlotRow → SlotRow
+turned_row state version retries s =
+    record { version = version; frame = option_map (λ (x : FrameRow). record x { state = state; retries = retries }) s.frame; proc = s.proc }
+
+-- the slot with that live attempt, or with none
+abbrev pub attempted_row : Option ProcRow → SlotRow → SlotRow
+attempted_row proc s = record s { proc = proc }
+
+-- ---- what is read
+
+-- the number of the first job of that name
+abbrev pub job_named : JobLists → List ℕ → Option ℕ
+job_named b name = option_map (λ (j : JobRow). j.job) (find (λ j. bytes_eq j.name name) b.jobs)
+
+abbrev pub frame_view : ℕ → FrameRow → FrameView
+frame_view version x =
+    record { job = x.job; layer = x.layer; position = x.position; number = x.number; state = x.state; version = version; retries = x.retries }
+
+-- the frame in the slot
+abbrev pub frame_at : JobLists → ℕ → Option FrameView
+frame_at b slot = option_and_then (λ (s : SlotRow). option_map (frame_view s.version) s.frame) (slice_get b.slots slot)
+
+-- the state of the frame in the slot, and the slot's version, which is 0 where it was never used
+abbrev pub state_in : Option SlotRow → Option FrameState × ℕ
+state_in None = (None, 0)
+state_in (Some s) = (option_map (λ (x : FrameRow). x.state) s.frame, s.version)
+
+abbrev pub state_at : JobLists → ℕ → Option FrameState × ℕ
+state_at b slot = state_in (slice_get b.slots slot)
+
+-- whether the frame is that of the job, its layer and its position
+abbrev pub is_placed : ℕ → ℕ → ℕ → FrameRow → Bool
+is_placed job layer position x = x.job == job && x.layer == layer && x.position == position
+
+-- the first slot with that frame, counted from a place
+abbrev pub slot_from : ℕ → (FrameRow → Bool) → List SlotRow → Option ℕ
+slot_from place test [] = None
+slot_from place test (s ∷ ss) = if for_some s.frame test then Some place else slot_from (place + 1) test ss
+
+-- ---- counts
+
+abbrev pub number_of : FrameState → ℕ
+number_of frame_state.Waiting = 0
+number_of frame_state.Setup = 1
+number_of frame_state.Running = 2
+number_of frame_state.Succeeded = 3
+number_of frame_state.Depend = 4
+number_of frame_state.Dead = 5
+number_of frame_state.Eaten = 6
+
+abbrev pub is_in : ℕ → FrameState → FrameRow → Bool
+is_in job state x = x.job == job && number_of x.state == number_of state
+
+-- how many of the job's frames are in that state
+abbrev pub count_in : ℕ → FrameState → List SlotRow → ℕ
+count_in job state slots = sum_by (λ (s : SlotRow). if for_some s.frame (is_in job state) then 1 else 0) slots
+
+abbrev pub counts_of : ℕ → List SlotRow → Counts
+counts_of job slots =
+    record {
+      waiting = count_in job frame_state.Waiting slots;
+      setup = count_in job frame_state.Setup slots;
+      running = count_in job frame_state.Running slots;
+      succeeded = count_in job frame_state.Succeeded slots;
+      depend = count_in job frame_state.Depend slots;
+      dead = count_in job frame_state.Dead slots;
+      eaten = count_in job frame_state.Eaten slots;
+    }
+
+-- whether there is a job of that number
+abbrev pub has_job : JobLists → ℕ → Bool
+has_job b job = is_some (find (λ j. j.job == job) b.jobs)

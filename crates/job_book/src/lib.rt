@@ -1,0 +1,16 @@
+//! The book of jobs: their rows, their layers, the frame slots, and how many frames of each job are in which state.
+#![tactic(auto)]
+
+mod change;
+mod check;
+mod counts;
+mod frame_view;
+mod jobs;
+mod place;
+mod placing;
+mod read;
+
+pub use counts::Counts;
+pub use frame_view::FrameView;
+pub use jobs::Jobs;
+pub use placing::{JobFault, JobSpare, Placing};
