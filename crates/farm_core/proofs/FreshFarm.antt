@@ -16,7 +16,7 @@ use Rattle.farm_core.specs.Consistent.{IsConsistent, is_host_within, is_sub_with
 use Rattle.farm_core.specs.Fresh.{waits, is_fresh}
 use Rattle.farm_core.proofs.Lists.{and_both, list_all-at}
 
-waiting_attempt : (place version : ℕ) (state : FrameState) → is_waiting state ≡ true → IsAttemptOf place version state None
+pub waiting_attempt : (place version : ℕ) (state : FrameState) → is_waiting state ≡ true → IsAttemptOf place version state None
 waiting_attempt place version Waiting h = tt
 waiting_attempt place version Setup h = tt
 waiting_attempt place version Running h = absurd (false≢true h)

@@ -9,6 +9,7 @@ pub mod Keeps
 pub mod Lists
 pub mod Once
 pub mod Ordered
+pub mod Placed
 pub mod Ranks
 pub mod SafeRuns
 pub mod Spent

@@ -7,11 +7,11 @@ use Rattle.farm_types.specs.declared.attempt.Attempt.{Attempt}
 use Rattle.farm_types.specs.declared.attempt.ProcRow.{ProcRow}
 use Rattle.farm_types.specs.declared.entry.Entry.{Entry}
 use Rattle.farm_types.specs.declared.entry.Act.{Act}
-use Rattle.farm_types.specs.declared.entry.Act.TheVariants.{Opened, Heard, Book}
+use Rattle.farm_types.specs.declared.entry.Act.TheVariants.{Opened, Heard, Submit, Book}
 use Rattle.farm_types.specs.declared.entry.HeardAct.{HeardAct}
 use Rattle.farm_types.specs.declared.rows.SubRow.{SubRow}
 use Rattle.farm_types.specs.declared.slot_row.SlotRow.{SlotRow}
-use Rattle.farm_types.specs.Farm.{Farm, changed_at, sub_of, host_named}
+use Rattle.farm_types.specs.Farm.{Farm, changed_at, sub_of, host_named, show_named}
 use Rattle.farm_types.specs.Sums.{booked_in}
 use Rattle.farm_types.specs.Booking.{may_record}
 use Rattle.farm_types.specs.Run.{IsSound, HasItsHosts, IsLegal, IsSafe, EachStepSafe, ActsSafely, BooksSafely, IsWithinBurst, AllDiffer, counted, counted_by, counted_of}
@@ -21,6 +21,7 @@ use Rattle.farm_core.proofs.CanBook.{Rows, CanBook, can_book, new_proc_is}
 use Rattle.farm_core.proofs.Hosts.{moment_sound, heard_sound, opened_sound}
 use Rattle.farm_core.proofs.Booked.{added, booked, booked_sound, booked_hosts, booked_of}
 use Rattle.farm_core.proofs.Ended.{end_all_sound, end_all_hosts}
+use Rattle.farm_core.proofs.Placed.{submit_sound, submit_hosts, submit_spent}
 use Rattle.farm_core.proofs.Spent.{IsSpent, spent_end_all, spent_booked}
 use Rattle.farm_core.proofs.Once.{AreSpent, HasNoSpent, differ_joined, none_joined, none_in, spent_in, differ_in}
 
@@ -42,6 +43,7 @@ book_step f slot host moment allowed ok =
 act_step : (f : Farm) (moment : ℕ) (act : Act) → HasCondition f act → IsSound f → IsSound (after_act (at_moment f moment) moment act)
 act_step f moment Opened allowed ok = opened_sound (at_moment f moment) moment (moment_sound f moment ok)
 act_step f moment (Heard heard) allowed ok = heard_step (at_moment f moment) heard moment (host_named f heard.host) (moment_sound f moment ok)
+act_step f moment (Submit spec) allowed ok = submit_sound (at_moment f moment) spec (show_named f spec.show) (moment_sound f moment ok)
 act_step f moment (Book slot host) allowed ok = book_step (at_moment f moment) slot host moment allowed (moment_sound f moment ok)
 
 heard_hosts : (f : Farm) (heard : HeardAct) (moment : ℕ) (o : Option ℕ) → HasItsHosts f → HasItsHosts (after_heard f heard moment o)
@@ -56,6 +58,7 @@ book_hosts f slot host moment allowed ok there =
 act_hosts : (f : Farm) (moment : ℕ) (act : Act) → HasCondition f act → IsSound f → HasItsHosts f → HasItsHosts (after_act (at_moment f moment) moment act)
 act_hosts f moment Opened allowed ok there = rw (length-map f.hosts (reopened_row moment)) there
 act_hosts f moment (Heard heard) allowed ok there = heard_hosts (at_moment f moment) heard moment (host_named f heard.host) there
+act_hosts f moment (Submit spec) allowed ok there = submit_hosts (at_moment f moment) spec (show_named f spec.show) there
 act_hosts f moment (Book slot host) allowed ok there = book_hosts (at_moment f moment) slot host moment allowed (moment_sound f moment ok) there
 
 -- ---- each booking is safe
@@ -87,6 +90,7 @@ book_safely f slot host moment allowed ok =
 act_safely : (f : Farm) (moment : ℕ) (act : Act) → HasCondition f act → IsSound f → ActsSafely (at_moment f moment) (after_act (at_moment f moment) moment act) act
 act_safely f moment Opened allowed ok = tt
 act_safely f moment (Heard heard) allowed ok = tt
+act_safely f moment (Submit spec) allowed ok = tt
 act_safely f moment (Book slot host) allowed ok = book_safely (at_moment f moment) slot host moment allowed (moment_sound f moment ok)
 
 pub each_step_safe : (f : Farm) (es : List Entry) → IsSound f → HasItsHosts f → IsLegal f es → EachStepSafe f es
@@ -114,6 +118,7 @@ spent_book f slot host moment a allowed spent =
 spent_act : (f : Farm) (moment : ℕ) (act : Act) (a : Attempt) → HasCondition f act → IsSpent f a → IsSpent (after_act (at_moment f moment) moment act) a
 spent_act f moment Opened a allowed spent = spent
 spent_act f moment (Heard heard) a allowed spent = spent_heard (at_moment f moment) heard moment (host_named f heard.host) a spent
+spent_act f moment (Submit spec) a allowed spent = submit_spent (at_moment f moment) spec (show_named f spec.show) a spent
 spent_act f moment (Book slot host) a allowed spent = spent_book (at_moment f moment) slot host moment a allowed spent
 
 none_heard : (f : Farm) (heard : HeardAct) (moment : ℕ) (o : Option ℕ) → IsSound f → HasNoSpent f (counted_of f heard moment o)
@@ -123,6 +128,7 @@ none_heard f heard moment (Some host) ok = λ a spent. none_in _ host heard.boot
 none_act : (f : Farm) (moment : ℕ) (act : Act) → IsSound f → HasNoSpent f (counted_by (at_moment f moment) moment act)
 none_act f moment Opened ok = λ a spent. refl
 none_act f moment (Heard heard) ok = λ a spent. none_heard (at_moment f moment) heard moment (host_named f heard.host) (moment_sound f moment ok) a spent
+none_act f moment (Submit spec) ok = λ a spent. refl
 none_act f moment (Book slot host) ok = λ a spent. refl
 
 are_heard : (f : Farm) (heard : HeardAct) (moment : ℕ) (o : Option ℕ) → IsSound f → AreSpent (after_heard f heard moment o) (counted_of f heard moment o)
@@ -132,6 +138,7 @@ are_heard f heard moment (Some host) ok = spent_in _ host heard.boot heard.done 
 are_act : (f : Farm) (moment : ℕ) (act : Act) → IsSound f → AreSpent (after_act (at_moment f moment) moment act) (counted_by (at_moment f moment) moment act)
 are_act f moment Opened ok = tt
 are_act f moment (Heard heard) ok = are_heard (at_moment f moment) heard moment (host_named f heard.host) (moment_sound f moment ok)
+are_act f moment (Submit spec) ok = tt
 are_act f moment (Book slot host) ok = tt
 
 differ_heard : (f : Farm) (heard : HeardAct) (moment : ℕ) (o : Option ℕ) → IsSound f → AllDiffer (counted_of f heard moment o)
@@ -141,6 +148,7 @@ differ_heard f heard moment (Some host) ok = differ_in _ host heard.boot heard.d
 differ_act : (f : Farm) (moment : ℕ) (act : Act) → IsSound f → AllDiffer (counted_by (at_moment f moment) moment act)
 differ_act f moment Opened ok = tt
 differ_act f moment (Heard heard) ok = differ_heard (at_moment f moment) heard moment (host_named f heard.host) (moment_sound f moment ok)
+differ_act f moment (Submit spec) ok = tt
 differ_act f moment (Book slot host) ok = tt
 
 none_counted : (f : Farm) (es : List Entry) → IsSound f → IsLegal f es → HasNoSpent f (counted f es)

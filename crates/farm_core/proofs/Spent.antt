@@ -1,7 +1,7 @@
--- Attempts that are spent: of a version below their slot's, or of the slot's while it has no live attempt.
-use Rattle.std.proofs.Common.{◌≡◌, ℕ, ◌<◌, Bool, true, false, cond, eqb, ◌&&◌, List, [], ◌∷◌, Option, Some, None, refl, sym, ap, subst, ◌∙◌, arith, ◌⊎◌, inl, inr}
+-- Attempts that are spent: their slot was used, and they are of a version below its own, or of its own while it has no live attempt.
+use Rattle.std.proofs.Common.{◌≡◌, ℕ, ◌<◌, Bool, true, false, cond, eqb, ◌&&◌, List, [], ◌∷◌, length, Option, Some, None, refl, sym, ap, subst, ◌∙◌, arith, ◌⊎◌, inl, inr}
 use Rattle.std.specs.List.{slice_get}
-use Rattle.std.proofs.lemmas.Option.{none-some, same_Some}
+use Rattle.std.proofs.lemmas.Option.{none-some, same_Some, slice_get_within}
 use Rattle.std.proofs.lemmas.Bool.{eqb-true}
 use Rattle.farm_types.specs.declared.attempt.Attempt.{Attempt}
 use Rattle.farm_types.specs.declared.attempt.DoneItem.{DoneItem}
@@ -15,13 +15,13 @@ use Rattle.farm_types.specs.Farm.{Farm, changed_at}
 use Rattle.farm_types.specs.Run.{IsSound, HasItsAttempt, IsAttemptOf, is_same}
 use Rattle.farm_types.specs.Step.{is_live, ended_row, end_attempt, end_all, booked_row}
 use Rattle.farm_core.proofs.Lists.{and_both, for_some_true}
-use Rattle.farm_core.proofs.Changed.{changed_at_each}
+use Rattle.farm_core.proofs.Changed.{changed_at_each, length-changed_at}
 
 abbrev pub IsSpentAt : Attempt → SlotRow → Type 0
 IsSpentAt a s = (a.version < s.version) ⊎ ((a.version ≡ s.version) × (s.proc ≡ None))
 
 abbrev pub IsSpent : Farm → Attempt → Type 0
-IsSpent f a = (s : SlotRow) → slice_get f.slots a.slot ≡ Some s → IsSpentAt a s
+IsSpent f a = (a.slot < length f.slots) × ((s : SlotRow) → slice_get f.slots a.slot ≡ Some s → IsSpentAt a s)
 
 -- ---- a live attempt has its slot's version
 
@@ -70,7 +70,7 @@ spent_or_live a s p e v (inr h) = none-some p (sym h.1 ∙ e)
 not_live_by : (f : Farm) (host boot : ℕ) (a : Attempt) (b : Bool) → IsSound f → IsSpent f a → is_live f host boot a.slot a.version ≡ b → b ≡ false
 not_live_by f host boot a true ok spent e =
     let l = live_in f host boot a ok e in
-    absurd (spent_or_live a l.slot l.live l.live_is l.version (spent l.slot l.slot_is))
+    absurd (spent_or_live a l.slot l.live l.live_is l.version (spent.1 l.slot l.slot_is))
 not_live_by f host boot a false ok spent e = refl
 
 -- a spent attempt is never live
@@ -91,7 +91,10 @@ ended_stays f exit a s (inl below) = inl below
 ended_stays f exit a s (inr h) = inr (h.0, refl)
 
 spent_ended : (f : Farm) (slot : ℕ) (exit : Exit) (a : Attempt) → IsSpent f a → IsSpent (record f { slots = changed_at f.slots slot (ended_row f exit) }) a
-spent_ended f slot exit a spent = spent_changed f.slots slot (ended_row f exit) a (λ s at h. ended_stays f exit a s h) spent
+spent_ended f slot exit a spent = (
+  omega (arith, length-changed_at f.slots slot (ended_row f exit), spent.0),
+  spent_changed f.slots slot (ended_row f exit) a (λ s at h. ended_stays f exit a s h) spent.1,
+)
 
 spent_by : (b : Bool) (f g : Farm) (a : Attempt) → IsSpent f a → IsSpent g a → IsSpent (cond b f g) a
 spent_by true f g a x y = x
@@ -110,16 +113,22 @@ booked_stays p a s above (inr h) = inl (omega (arith, h.0))
 
 -- a booking raises its slot's version
 pub spent_booked : (f : Farm) (slot : ℕ) (p : ProcRow) (a : Attempt) → ((s : SlotRow) → slice_get f.slots slot ≡ Some s → s.version < p.version) → IsSpent f a → IsSpent (record f { slots = changed_at f.slots slot (booked_row p) }) a
-spent_booked f slot p a above spent = spent_changed f.slots slot (booked_row p) a (λ s at h. booked_stays p a s (above s at) h) spent
+spent_booked f slot p a above spent = (
+  omega (arith, length-changed_at f.slots slot (booked_row p), spent.0),
+  spent_changed f.slots slot (booked_row p) a (λ s at h. booked_stays p a s (above s at) h) spent.1,
+)
 
 -- ---- what counts is spent
 
 live_ends : (f : Farm) (d : DoneItem) → LiveIn f d.attempt → IsSpent (record f { slots = changed_at f.slots d.attempt.slot (ended_row f d.exit) }) d.attempt
-live_ends f d l s at =
-    changed_at_each (λ k y. d.attempt.slot ≡ k → IsSpentAt d.attempt y) f.slots d.attempt.slot (ended_row f d.exit)
-    (λ x here e. inr (l.version ∙ ap (λ (r : SlotRow). r.version) (same_Some l.slot x (sym l.slot_is ∙ here)), refl))
-    (λ k x apart there e. absurd (apart (sym e)))
-    d.attempt.slot s at refl
+live_ends f d l = (
+  omega (arith, length-changed_at f.slots d.attempt.slot (ended_row f d.exit), slice_get_within f.slots d.attempt.slot l.slot l.slot_is),
+  λ s at.
+      changed_at_each (λ k y. d.attempt.slot ≡ k → IsSpentAt d.attempt y) f.slots d.attempt.slot (ended_row f d.exit)
+      (λ x here e. inr (l.version ∙ ap (λ (r : SlotRow). r.version) (same_Some l.slot x (sym l.slot_is ∙ here)), refl))
+      (λ k x apart there e. absurd (apart (sym e)))
+      d.attempt.slot s at refl,
+)
 
 -- a completion that counts leaves its attempt spent
 pub counted_spent : (f : Farm) (host boot : ℕ) (d : DoneItem) → IsSound f → is_live f host boot d.attempt.slot d.attempt.version ≡ true → IsSpent (end_attempt f host boot d) d.attempt
@@ -137,6 +146,8 @@ at_version a b s e (inr h) = inr (sym e ∙ h.0, h.1)
 
 -- an attempt of the same slot and version is spent with it
 pub spent_same : (f : Farm) (a b : Attempt) → is_same a b ≡ true → IsSpent f a → IsSpent f b
-spent_same f a b h spent s at =
-    let same = same_slot a b h in
-    at_version a b s same.1 (spent s (subst (λ (n : ℕ). slice_get f.slots n ≡ Some s) (sym same.0) at))
+spent_same f a b h spent =
+    let same = same_slot a b h in (
+      omega (arith, same.0, spent.0),
+      λ s at. at_version a b s same.1 (spent.1 s (subst (λ (n : ℕ). slice_get f.slots n ≡ Some s) (sym same.0) at)),
+    )

@@ -4,10 +4,16 @@ use Rattle.farm_types.specs.declared.entry.Entry.{Entry}
 use Rattle.farm_types.specs.declared.entry.Act.{Act}
 use Rattle.farm_types.specs.declared.entry.Act.TheVariants as act
 use Rattle.farm_types.specs.declared.attempt.ProcRow.{ProcRow}
+use Rattle.farm_types.specs.declared.job.JobSpec.{JobSpec}
 use Rattle.farm_types.specs.declared.refusal.Refusal.TheVariants.{Unknown}
 use Rattle.farm_types.specs.Farm.{Farm, changed_at, host_named}
 use Rattle.farm_types.specs.Booking.{may_record}
-use Rattle.farm_types.specs.Step.{refusal_of, reopened_row, heard_row, booked_row, end_all, new_proc, at_moment, after}
+use Rattle.farm_types.specs.Jobs.{job_refusal, with_job}
+use Rattle.farm_types.specs.Spec.{frames_in}
+use Rattle.farm_types.specs.SpecLimits.{JobKeepsLimits}
+use Rattle.farm_types.specs.Step.{refusal_of, reopened_row, heard_row, booked_row, end_all, new_proc, lists_of, with_lists, at_moment, after}
+use Rattle.job_book.specs.Book.{placing_of}
+use Rattle.job_book.specs.declared.placing.Placing.{Placing}
 use Rattle.farm_core.specs.declared.change.Change.{Change}
 use Rattle.farm_core.specs.declared.change.Effect.{Effect}
 use Rattle.farm_core.specs.declared.change.Effect.TheVariants as effect
@@ -21,6 +27,7 @@ use Rattle.farm_core.specs.declared.fault.PrepareFault.TheVariants.{Refused, NoM
 abbrev pub after_effect : Farm → ℕ → Effect → Farm
 after_effect f moment effect.Opened = record f { hosts = map (reopened_row moment) f.hosts }
 after_effect f moment (effect.Heard host boot seq done) = end_all (record f { hosts = changed_at f.hosts host (heard_row seq moment) }) host boot done
+after_effect f moment (effect.Submit placing spec) = with_lists f (with_job (lists_of f) placing.show spec)
 after_effect f moment (effect.Book slot p) = record f { slots = changed_at f.slots slot (booked_row p) }
 
 -- the farm after the change
@@ -34,9 +41,16 @@ pub record IsBooking (f : Farm) (slot : ℕ) (p : ProcRow) : Type 0 where
   pub allowed : may_record f slot p.host ≡ true
   pub made : new_proc f slot p.host p.since ≡ Some p
 
+-- the job keeps its limits, the farm doesn't refuse it, and it is placed where the farm places it
+pub record IsPlacement (f : Farm) (placing : Placing) (spec : JobSpec) : Type 0 where
+  pub limits : JobKeepsLimits spec
+  pub accepted : job_refusal (lists_of f) spec ≡ None
+  pub placed : placing ≡ placing_of (lists_of f) placing.show spec
+
 abbrev pub Fits : Farm → Effect → Type 0
 Fits f effect.Opened = Unit {0}
 Fits f (effect.Heard host boot seq done) = host < length f.hosts
+Fits f (effect.Submit placing spec) = IsPlacement f placing spec
 Fits f (effect.Book slot p) = IsBooking f slot p
 
 -- the farm isn't past the change's moment, and the change fits it
@@ -44,24 +58,32 @@ pub record IsReady (f : Farm) (change : Change) : Type 0 where
   pub ahead : f.moment ≤ change.moment
   pub fits : Fits f change.effect
 
--- whether room was reserved for the change
-abbrev pub is_reserved : Change → Bool
-is_reserved change = change.reserved
+-- the memory that a job needs, for a change that places one
+abbrev pub spare_of : Effect → Option JobSpec
+spare_of (effect.Submit placing spec) = Some spec
+spare_of other = None
 
--- the same change, with its room reserved
+-- the memory that the change needs was taken
+pub record IsReserved (change : Change) : Type 0 where
+  pub taken : change.reserved ≡ true
+  pub spare : change.spare ≡ spare_of change.effect
+
+-- the same change, with its memory taken
 abbrev pub reserved_of : Change → Change
-reserved_of change = record change { reserved = true }
+reserved_of change = record change { reserved = true; spare = spare_of change.effect }
 
 -- ---- answers
 
 abbrev pub answer_to : Act → Answer
 answer_to act.Opened = answer.Opened
 answer_to (act.Heard heard) = answer.Heard
+answer_to (act.Submit spec) = answer.Submitted (frames_in spec.layers)
 answer_to (act.Book slot host) = answer.Booked
 
 abbrev pub answer_by : Effect → Answer
 answer_by effect.Opened = answer.Opened
 answer_by (effect.Heard host boot seq done) = answer.Heard
+answer_by (effect.Submit placing spec) = answer.Submitted placing.frames
 answer_by (effect.Book slot p) = answer.Booked
 
 -- what the farm answers to the change
@@ -81,12 +103,12 @@ HasHeard f (act.Heard heard) = IsThere f (host_named f heard.host)
 HasHeard f act = Unit {0}
 
 -- The farm doesn't refuse the entry. The change fits the farm, makes the farm that the entry makes, and has the entry's answer.
--- Its room isn't reserved yet.
+-- Its memory isn't taken yet.
 pub record Makes (f : Farm) (e : Entry) (change : Change) : Type 0 where
   pub accepted : refusal_of f e ≡ None
   pub heard : HasHeard f e.act
   pub ready : IsReady f change
-  pub unreserved : is_reserved change ≡ false
+  pub unreserved : change.reserved ≡ false
   pub farm : after_change f change ≡ after f e
   pub answer : answer_of change ≡ answer_to e.act
 

@@ -1,11 +1,11 @@
 //! Reserves and applies a change that was prepared.
 
-ghost use Rattle.std.specs.Prelude.{◌≡◌, ◌<◌, length, map, option_map, slice_set, true, IsOk};
+ghost use Rattle.std.specs.Prelude.{◌≡◌, ◌<◌, length, map, option_map, slice_set, OnOk, OnErr};
 ghost use Rattle.farm_types.specs.declared.slot_row.FrameRow.{FrameRow};
 ghost use Rattle.farm_types.specs.declared.states.FrameState.TheVariants as frame_state;
 ghost use Rattle.farm_types.specs.Farm.{changed_at};
 ghost use Rattle.farm_types.specs.Step.{at_moment, reopened_row, heard_row, booked_row, end_attempt, end_all};
-ghost use Rattle.farm_core.specs.Change.{IsReady, IsBooking, is_reserved, reserved_of, after_change, answer_of};
+ghost use Rattle.farm_core.specs.Change.{IsReady, IsBooking, IsReserved, reserved_of, after_change, answer_of};
 
 use crate::change::{Answer, Change, Effect};
 use crate::farm::Farm;
@@ -15,22 +15,25 @@ use farm_types::{
 use std::alloc::{AllocError, Global};
 
 impl Farm {
-    /// Reserves the room that the change needs, so that applying it takes no memory. Changes nothing else. No
-    /// change of today needs room.
+    /// Takes the memory that the change needs, so that applying it takes none. The farm is as before.
     pub fn reserve(&mut self, alloc: Global, change: &mut Change) -> Result<(), AllocError>
         ensures farm { self.new ≡ self.old }
-        ensures change { change.new ≡ reserved_of change.old }
-        ensures reserves { IsOk result }
+        ensures ok { OnOk result (change.new ≡ reserved_of change.old) }
+        ensures err { OnErr result (change.new ≡ change.old) }
     {
-        let _alloc = alloc;
+        if let Effect::Submit { .. } = &change.effect {
+            let _alloc = alloc;
+            return Err(AllocError);
+        }
         change.reserved = true;
+        change.spare = None;
         Ok(())
     }
 
-    /// Applies a change that fits the farm and whose room is reserved. It takes no memory.
+    /// Applies a change that fits the farm and whose memory was taken. It takes no memory.
     pub fn apply(&mut self, change: Change) -> Answer
         requires ready { IsReady self.old change }
-        requires reserved { is_reserved change ≡ true }
+        requires reserved { IsReserved change }
         ensures farm { self.new ≡ after_change self.old change }
         ensures answer { result ≡ answer_of change }
         ensures hosts { length self.new.hosts ≡ length self.old.hosts }
@@ -39,6 +42,7 @@ impl Farm {
             moment,
             effect,
             reserved: _,
+            spare,
         } = change;
         self.come_to(moment);
         match effect {
@@ -55,6 +59,13 @@ impl Farm {
                 self.hear(host, seq, moment);
                 self.end_all(host, boot, done.as_slice());
                 Answer::Heard
+            }
+            Effect::Submit {
+                placing: _,
+                spec: _,
+            } => {
+                let Some(_spare) = spare else { unreachable!() };
+                unreachable!()
             }
             Effect::Book { slot, proc } => {
                 self.book(slot, proc);

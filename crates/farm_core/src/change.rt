@@ -1,6 +1,7 @@
 //! Changes of the farm that were prepared, and its answers.
 
-use farm_types::{DoneItem, HostNo, Items, ProcRow, Slot};
+use farm_types::{DoneItem, HostNo, Items, JobSpec, ProcRow, Slot};
+use job_book::{JobSpare, Placing};
 
 /// A change that the farm prepared for an entry, at its moment (seconds). It is applied once its room is reserved.
 #[derive(Debug, Drop)]
@@ -8,10 +9,11 @@ pub struct Change {
     pub(crate) moment: u64,
     pub(crate) effect: Effect,
     pub(crate) reserved: bool,
+    pub(crate) spare: Option<JobSpare>,
 }
 
 /// What a change does: every host that is up counts as heard; a host is heard and the attempts that it says are
-/// done end; or a slot's frame gets an attempt.
+/// done end; a job is placed; or a slot's frame gets an attempt.
 #[derive(Debug, Drop)]
 pub(crate) enum Effect {
     Opened,
@@ -20,6 +22,10 @@ pub(crate) enum Effect {
         boot: u32,
         seq: u64,
         done: Items<DoneItem>,
+    },
+    Submit {
+        placing: Placing,
+        spec: JobSpec,
     },
     Book {
         slot: Slot,
@@ -32,5 +38,7 @@ pub(crate) enum Effect {
 pub enum Answer {
     Opened,
     Heard,
+    /// How many frames the job has.
+    Submitted { frames: u32 },
     Booked,
 }

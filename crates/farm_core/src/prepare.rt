@@ -2,7 +2,7 @@
 
 ghost use Rattle.std.specs.Prelude.{◌≡◌, true, IfOk, Some};
 ghost use Rattle.farm_types.specs.Booking.{may_record};
-ghost use Rattle.farm_types.specs.Step.{HasCondition, moment_of, new_proc};
+ghost use Rattle.farm_types.specs.Step.{HasCondition, KeepsLimits, moment_of, new_proc};
 ghost use Rattle.farm_types.specs.declared.entry.Act.TheVariants as act;
 ghost use Rattle.farm_core.specs.Change.{Prepares, Makes, IsUnknown};
 
@@ -15,9 +15,11 @@ use farm_types::{
 use std::alloc::{AllocError, Global};
 
 impl Farm {
-    /// Prepares what the entry does, and changes nothing. An entry to book is one whose booking may be recorded.
+    /// Prepares what the entry does, and changes nothing. An entry to book is one whose booking may be recorded, and a
+    /// job to submit is within its limits.
     pub fn prepare(&self, alloc: Global, entry: &Entry) -> Result<Change, PrepareFault>
-        requires { HasCondition self.now entry.now.act }
+        requires condition { HasCondition self.now entry.now.act }
+        requires limits { KeepsLimits entry.now.act }
         ensures { Prepares self.now entry.now result }
     {
         match &entry.act {
@@ -25,8 +27,10 @@ impl Farm {
                 moment: self.moment_of(entry.moment),
                 effect: Effect::Opened,
                 reserved: false,
+                spare: None,
             }),
             Act::Heard(heard) => self.prepare_heard(alloc, entry.moment, heard),
+            Act::Submit(_) => Err(PrepareFault::NoMemory),
             Act::Book { slot, host } => Ok(self.prepare_book(entry.moment, *slot, *host)),
         }
     }
@@ -65,6 +69,7 @@ impl Farm {
                 done: copy_of(alloc, &heard.done)?,
             },
             reserved: false,
+            spare: None,
         })
     }
 
@@ -81,6 +86,7 @@ impl Farm {
                 proc: self.new_proc(slot, host, moment),
             },
             reserved: false,
+            spare: None,
         }
     }
 
