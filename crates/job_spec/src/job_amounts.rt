@@ -7,9 +7,8 @@ ghost use Rattle.job_spec.specs.Answers.{GivesSpec};
 
 use crate::amounts::within;
 use crate::fault::SpecFault;
-use farm_types::JobForm;
-use farm_types::{JobSpec, LayerSpec};
 use crate::layer_amounts::judge_layers;
+use farm_types::{JobForm, JobSpec, LayerSpec};
 use std::alloc::Global;
 
 /// A job's amounts in order: priority, retries, the number of layers, each layer's, and the number of frames.

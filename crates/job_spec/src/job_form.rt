@@ -4,10 +4,10 @@ ghost use Rattle.serde_json.specs.View.{members_view};
 ghost use Rattle.cue_json.specs.Fields.{Gives};
 ghost use Rattle.farm_types.specs.Spec.{job_form_at};
 
-use farm_types::JobForm;
 use crate::layer_form::read_layers;
 use crate::{defaults, words};
 use cue_json::{FieldFault, Map};
+use farm_types::{JobForm, read_name};
 use std::alloc::Global;
 
 /// A job's fields in order, and no others. Depends can't be asked for yet.
@@ -15,8 +15,8 @@ use std::alloc::Global;
 pub fn read_job(alloc: Global, object: &Map) -> Result<JobForm, FieldFault>
     ensures { Gives (λ job. job) result (job_form_at (members_view object.now.entries)) }
 {
-    let name = words::name(alloc, object, "name")?;
-    let show = words::name(alloc, object, "show")?;
+    let name = read_name(alloc, object, "name")?;
+    let show = read_name(alloc, object, "show")?;
     let facility = words::facility(alloc, object, "facility")?;
     let shot = defaults::name(alloc, object, "shot")?;
     let user = defaults::name(alloc, object, "user")?;

@@ -11,10 +11,8 @@ ghost use Rattle.job_spec.specs.Answers.{GivesSpec};
 
 use crate::amounts::{read_layer_cores, within};
 use crate::fault::SpecFault;
-use farm_types::LayerForm;
-use farm_types::LayerSpec;
 use crate::tags::copied_tags;
-use farm_types::{Cores, Items, Kb, Text};
+use farm_types::{Cores, Items, Kb, LayerForm, LayerSpec, Text};
 use frame_range::{FrameSet, RangeFault, parse_set};
 use std::alloc::{AllocError, Global};
 

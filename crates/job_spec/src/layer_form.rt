@@ -5,10 +5,9 @@ ghost use Rattle.cue_json.specs.Fields.{Gives};
 ghost use Rattle.farm_types.specs.Fields.{item_at, items_at, list_of};
 ghost use Rattle.farm_types.specs.Spec.{layer_form_at};
 
-use farm_types::LayerForm;
 use crate::{defaults, words};
 use cue_json::{FieldFault, Map};
-use farm_types::Items;
+use farm_types::{Items, LayerForm, read_name};
 use serde_json::Value;
 use std::alloc::Global;
 
@@ -48,7 +47,7 @@ fn read_item(alloc: Global, field: &str, value: &Value) -> Result<LayerForm, Fie
 fn read_layer(alloc: Global, object: &Map) -> Result<LayerForm, FieldFault>
     ensures { Gives (λ layer. layer) result (layer_form_at (members_view object.now.entries)) }
 {
-    let name = words::name(alloc, object, "name")?;
+    let name = read_name(alloc, object, "name")?;
     let range = words::text(alloc, object, "range")?;
     let command = words::command(alloc, object, "command")?;
     let cores = defaults::text(alloc, object, "cores", "1")?;

@@ -7,10 +7,10 @@ ghost use Rattle.farm_types.specs.SpecLimits.{JobKeepsLimits};
 ghost use Rattle.job_spec.specs.Answers.{GivesSpec};
 
 use crate::fault::SpecFault;
-use farm_types::JobSpec;
 use crate::job_amounts::judge_job;
 use crate::job_form::read_job;
 use cue_json::Map;
+use farm_types::JobSpec;
 use std::alloc::Global;
 
 /// The job that the object says, or its first fault. The form of every field is tried first, in order; then

@@ -1,9 +1,8 @@
 //! Specs that are taken, and the first fault of those that aren't, against the rules.
 
-use farm_types::JobSpec;
 use crate::{SpecFault, read_spec};
 use cue_json::FieldFault;
-use farm_types::{Cores, Kb};
+use farm_types::{Cores, JobSpec, Kb};
 use frame_range::RangeFault;
 use std::alloc::{AllocError, Global};
 use std::test::Fail;

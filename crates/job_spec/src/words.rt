@@ -5,22 +5,11 @@ ghost use Rattle.std.specs.List.{list_all};
 ghost use Rattle.serde_json.specs.View.{members_view};
 ghost use Rattle.cue_json.specs.Fields.{Gives, WrongKind, text_at};
 ghost use Rattle.farm_types.specs.Forms.{is_tag_text};
-ghost use Rattle.farm_types.specs.Fields.{name_at};
 ghost use Rattle.farm_types.specs.Spec.{is_command_byte, is_command_text, is_name_or_empty, text_of};
 
 use cue_json::{FieldFault, Map};
 use farm_types::{Text, is_name, is_tag};
 use std::alloc::Global;
-
-/// The field's name.
-pub fn name(alloc: Global, object: &Map, field: &str) -> Result<Text, FieldFault>
-    ensures { Gives (λ name. name) result (name_at field.now (members_view object.now.entries)) }
-{
-    match cue_json::text(alloc, object, field) {
-        Ok(text) => kept(alloc, field, text, is_name(text)),
-        Err(fault) => Err(fault),
-    }
-}
 
 /// The field's name or empty text.
 pub fn name_or_empty(alloc: Global, object: &Map, field: &str) -> Result<Text, FieldFault>
