@@ -1,18 +1,22 @@
 -- Worked examples over the farm of the demonstration.
-use Rattle.std.specs.Prelude.{ℕ, List, [], ◌∷◌, codes, map}
+use Rattle.std.specs.Prelude.{ℕ, ℤ, pos, List, [], ◌∷◌, codes, map, false, Option, option_map}
 use Rattle.serde_json.specs.Written.{compact_text}
 use Rattle.farm_types.specs.declared.attempt.Attempt.{Attempt}
 use Rattle.farm_types.specs.declared.attempt.DoneItem.{DoneItem}
+use Rattle.farm_types.specs.declared.dispatch.Candidate.{Candidate}
+use Rattle.farm_types.specs.declared.job.JobSpec.{JobSpec}
+use Rattle.farm_types.specs.declared.job.LayerSpec.{LayerSpec}
 use Rattle.farm_types.specs.declared.launch.Launch.{Launch}
 use Rattle.farm_types.specs.declared.report.Report.{Report}
+use Rattle.farm_types.specs.declared.slot_row.FrameRow.{FrameRow}
 use Rattle.farm_types.specs.declared.slot_row.SlotRow.{SlotRow}
 use Rattle.farm_types.specs.Farm.{Farm}
 use Rattle.farm_types.specs.Demo.{demo_farm}
-use Rattle.farm_types.specs.Dispatch.{round_for}
+use Rattle.farm_types.specs.Dispatch.{plan_for, round_for}
 use Rattle.farm_types.specs.Step.{after}
 use Rattle.farm_types.specs.Run.{run_of}
 use Rattle.farm_types.specs.Reply.{launches_of, report_reply}
-use Rattle.farm_types.specs.Transcript.{heard_entry}
+use Rattle.farm_types.specs.Transcript.{heard_entry, submit_entry}
 
 -- a report of the demonstration's host
 abbrev pub report : ℕ → List Attempt → List DoneItem → Report
@@ -70,3 +74,44 @@ late_again = report 3 (attempt 0 2 ∷ attempt 1 1 ∷ attempt 2 1 ∷ attempt 3
 -- the text of the reply to a report, where nothing of the outside fails
 abbrev pub reply_text : Farm → Report → List ℕ
 reply_text f r = compact_text (report_reply (after_report f r) 0 r [])
+
+-- ---- a job more
+
+-- three frames, the highest number first, at a higher priority than the demonstration's job
+abbrev pub high_layer : LayerSpec
+high_layer =
+    record {
+      name = codes "x";
+      range = codes "3-1";
+      numbers = pos 3 ∷ pos 2 ∷ pos 1 ∷ [];
+      command = codes "echo #FRAME#";
+      cores = 100;
+      memory = 3355443;
+      tags = codes "general" ∷ [];
+    }
+
+abbrev pub high : JobSpec
+high =
+    record {
+      name = codes "hi";
+      show = codes "demo";
+      facility = codes "farm";
+      shot = [];
+      user = [];
+      priority = 200;
+      max_retries = 3;
+      auto_eat = false;
+      paused = false;
+      layers = high_layer ∷ [];
+    }
+
+abbrev pub farm_with_high : Farm
+farm_with_high = after farm_one (submit_entry high 0)
+
+-- the slots that the first report is offered, in the order of dispatch
+abbrev pub offered_by : Farm → Report → List ℕ
+offered_by f r = map (λ (c : Candidate). c.slot) (plan_for (after f (heard_entry r 0)) 0)
+
+-- the numbers of the frames, by slot
+abbrev pub numbers_in : Farm → List (Option ℤ)
+numbers_in f = map (λ (s : SlotRow). option_map (λ (x : FrameRow). x.number) s.frame) f.slots

@@ -1,12 +1,12 @@
 //! Worked examples of the rules over the farm of the demonstration, proved by computing them. The public functions here do nothing.
 
-ghost use Rattle.std.specs.Prelude.{◌≡◌, ◌∷◌, [], codes, Some};
-ghost use Rattle.farm_types.specs.declared.refusal.Refusal.TheVariants.{Unknown, WrongBoot, Stale};
-ghost use Rattle.farm_types.specs.Examples.{attempt, done, first, second, third, farm_one, farm_two, farm_three, farm_four, launched_by, versions_in, after_report, requeued, late_again, reply_text};
+ghost use Rattle.std.specs.Prelude.{◌≡◌, ◌∷◌, [], pos, codes, drop, Some};
+ghost use Rattle.farm_types.specs.declared.refusal.Refusal.TheVariants.{Unknown, Exists, WrongBoot, Stale};
+ghost use Rattle.farm_types.specs.Examples.{attempt, done, first, second, third, farm_one, farm_two, farm_three, farm_four, launched_by, versions_in, after_report, requeued, late_again, reply_text, high, high_layer, farm_with_high, offered_by, numbers_in};
 ghost use Rattle.farm_types.specs.Run.{counted};
 ghost use Rattle.farm_types.specs.Step.{refusal_of, after};
 ghost use Rattle.farm_types.specs.Sums.{used_on, booked_in};
-ghost use Rattle.farm_types.specs.Transcript.{heard_entry};
+ghost use Rattle.farm_types.specs.Transcript.{heard_entry, submit_entry};
 
 /// The host has room for eight frames; the burst of 400 stops the first round at four. A completion makes room for one more, and the same
 /// completion once more makes none.
@@ -36,6 +36,21 @@ pub fn old_completions_count_nothing()
     ensures requeued { versions_in (after_report farm_two requeued) ≡ 2 ∷ 1 ∷ 1 ∷ 1 ∷ 0 ∷ 0 ∷ 0 ∷ 0 ∷ 0 ∷ 0 ∷ [] }
     ensures counted_once { counted farm_two (heard_entry requeued 0 ∷ []) ≡ attempt 0 1 ∷ [] }
     ensures counted_no_more { counted (after_report farm_two requeued) (heard_entry late_again 0 ∷ []) ≡ [] }
+{}
+
+/// A submitted job's frames wait in the lowest free slots in range order, and a job of a higher priority is offered first.
+pub fn higher_jobs_come_first()
+    ensures placed { drop 9 (numbers_in farm_with_high) ≡ Some (pos 10) ∷ Some (pos 3) ∷ Some (pos 2) ∷ Some (pos 1) ∷ [] }
+    ensures offered { offered_by farm_with_high first ≡ 10 ∷ 11 ∷ 12 ∷ 0 ∷ 1 ∷ 2 ∷ 3 ∷ 4 ∷ 5 ∷ 6 ∷ 7 ∷ 8 ∷ 9 ∷ [] }
+    ensures launched { launched_by farm_with_high first ≡ 0 ∷ 10 ∷ 11 ∷ 12 ∷ [] }
+{}
+
+/// A job is refused by a show, then a facility that isn't there, then by its own name, then by a layer's that stands twice.
+pub fn submits_are_refused_in_order()
+    ensures show { refusal_of farm_with_high (submit_entry (record high { show = codes "zz"; facility = codes "zz" }) 0) ≡ Some (Unknown (codes "zz")) }
+    ensures facility { refusal_of farm_with_high (submit_entry (record high { facility = codes "far" }) 0) ≡ Some (Unknown (codes "far")) }
+    ensures job { refusal_of farm_with_high (submit_entry (record high { layers = high_layer ∷ high_layer ∷ [] }) 0) ≡ Some (Exists (codes "hi")) }
+    ensures layer { refusal_of farm_one (submit_entry (record high { layers = high_layer ∷ high_layer ∷ [] }) 0) ≡ Some (Exists (codes "x")) }
 {}
 
 /// What is written for the first and the third of these reports.

@@ -29,8 +29,9 @@ pub use depend::{DependEnd, DependKind, DependRow, MetRow};
 pub use dispatch::{Candidate, Rank};
 pub use entry::{Act, Entry, HeardAct};
 pub use examples::{
-    burst_stops_at_four, old_completions_count_nothing, stale_reports_are_refused,
-    sums_follow_attempts, texts_of_the_demonstration,
+    burst_stops_at_four, higher_jobs_come_first, old_completions_count_nothing,
+    stale_reports_are_refused, submits_are_refused_in_order, sums_follow_attempts,
+    texts_of_the_demonstration,
 };
 pub use items::Items;
 pub use job::{JobSpec, LayerSpec};
