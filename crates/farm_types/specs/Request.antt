@@ -1,7 +1,7 @@
 -- What a line asks: a report or the submit of a job, read field by field, or its first fault.
 use Rattle.std.specs.Prelude.{ℕ, List, [], ◌∷◌, codes, Option, None, Some, Result, Ok, Err, ⊤, bytes_eq, if◌then◌else◌}
 use Rattle.serde_json.specs.Data.{Members}
-use Rattle.cue_json.specs.Fields.{Fault, WrongKind, field_of, ◌>>=◌, text_at, whole_at, object_at, others_at}
+use Rattle.cue_json.specs.Fields.{Fault, field_of, ◌>>=◌, text_at, whole_at, object_at, others_at}
 use Rattle.cue_json.specs.Lines.{object_in}
 use Rattle.frame_range.specs.declared.fault.RangeFault.{RangeFault}
 use Rattle.farm_types.specs.declared.attempt.Attempt.{Attempt}
