@@ -3,10 +3,12 @@
 
 mod change;
 mod check;
+mod counting;
 mod counts;
 mod frame_view;
 mod jobs;
 mod place;
+mod place_of;
 mod placing;
 mod read;
 

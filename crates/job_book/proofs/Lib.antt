@@ -1,0 +1,4 @@
+pub mod Changed
+pub mod Lists
+pub mod Places
+pub mod Turned
