@@ -1,3 +1,4 @@
 pub mod Book
 pub mod Counting
 pub mod Inside
+pub mod Puts

@@ -10,6 +10,7 @@ mod jobs;
 mod place;
 mod place_of;
 mod placing;
+mod put;
 mod read;
 
 pub use counts::Counts;
