@@ -12,6 +12,7 @@ mod place_of;
 mod placing;
 mod put;
 mod read;
+mod reserve;
 
 pub use counts::Counts;
 pub use frame_view::FrameView;

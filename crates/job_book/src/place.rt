@@ -19,7 +19,7 @@ impl Jobs {
         ensures book { self.new ≡ with_job self.old placing.show spare }
         ensures job { result ≡ self.old.next_job }
     {
-        let JobSpare { spec: _ } = spare;
+        let _spare = spare;
         self.next_job = 0;
         unreachable!()
     }
