@@ -1,10 +1,14 @@
 -- The names of layers that stood before, the last one first.
-use Rattle.std.proofs.Common.{◌≡◌, ℕ, ◌+◌, ◌<◌, ◌≤◌, ◌||◌, Bool, true, false, cond, List, [], ◌∷◌, ◌++◌, length, take, drop, get_or, Option, None, Some, refl, sym, ap, ◌∙◌, arith}
+use Rattle.std.proofs.Common.{◌≡◌, ℕ, ◌+◌, ◌<◌, ◌≤◌, ◌||◌, Bool, true, false, cond, List, [], ◌∷◌, ◌++◌, length, take, drop, get_or, Option, None, Some, Err, option_map, refl, sym, ap, ◌∙◌, arith}
 use Rattle.std.specs.Prelude.{bytes_eq}
 use Rattle.std.specs.List.{list_any}
-use Rattle.std.proofs.lemmas.List.{take_more, drop_more, drop_all}
+use Rattle.std.proofs.lemmas.List.{take_more, drop_more}
 use Rattle.farm_types.specs.declared.job.LayerSpec.{LayerSpec}
+use Rattle.farm_types.specs.declared.refusal.Refusal.TheVariants.{Exists}
 use Rattle.farm_types.specs.Jobs.{repeated_name}
+use Rattle.job_book.specs.declared.placing.JobFault.{JobFault}
+use Rattle.job_book.specs.declared.placing.JobFault.TheVariants.{Refused, NoMemory}
+use Rattle.job_book.specs.Refused.{Refuses, IsExisting}
 
 abbrev pub names_onto : List LayerSpec → List (List ℕ) → List (List ℕ)
 names_onto [] names = names
@@ -54,5 +58,7 @@ module _ (ls : List LayerSpec) (i : ℕ) (l : LayerSpec) (within : i < length ls
   pub repeated_later : repeated_name (names_onto (take i ls) []) (drop i ls) ≡ repeated_name [] ls → list_any (λ (k : LayerSpec). bytes_eq l.name k.name) (take i ls) ≡ false → repeated_name (names_onto (take (i + 1) ls) []) (drop (i + 1) ls) ≡ repeated_name [] ls
   repeated_later so_far has = sym (ap (λ b. cond b (Some l.name) (repeated_name (names_onto (take (i + 1) ls) []) (drop (i + 1) ls))) has) ∙ sym repeated_at ∙ so_far
 
-pub repeated_none : (ls : List LayerSpec) (i : ℕ) → length ls ≤ i → repeated_name (names_onto (take i ls) []) (drop i ls) ≡ repeated_name [] ls → repeated_name [] ls ≡ None
-repeated_none ls i past so_far = sym so_far ∙ ap (repeated_name (names_onto (take i ls) [])) (drop_all i ls past)
+-- a fault that says that the name is there is the refusal by that name
+pub existing_refuses : (X : Type 0) (o : Option (List ℕ)) (name : List ℕ) (fault : JobFault) → o ≡ Some name → IsExisting name fault → Refuses {X = X} (option_map Exists o) (Err fault)
+existing_refuses X o name (Refused why) is h = rw (is, h) refl
+existing_refuses X o name NoMemory is h = tt

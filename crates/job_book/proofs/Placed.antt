@@ -20,7 +20,7 @@ use Rattle.farm_types.specs.Spec.{frames_in}
 use Rattle.farm_types.specs.SpecLimits.{JobKeepsLimits, LayerKeepsLimits}
 use Rattle.job_book.specs.declared.counts.Counts.{Counts}
 use Rattle.job_book.specs.Book.{is_in, count_in, counts_of, number_of}
-use Rattle.job_book.specs.Counting.{part, one}
+use Rattle.job_book.specs.Counting.{part, new_counts}
 use Rattle.job_book.specs.Inside.{IsBook, IsRising, job_key, layer_key, is_below, counts_for}
 use Rattle.job_book.proofs.FreeSlots.{free_cons}
 use Rattle.job_book.proofs.Lists.{and_both}
@@ -239,10 +239,6 @@ all_later (s ∷ ss) next h =
     let both = and_both (is_below next s) (list_all (is_below next) ss) h in
     and_from (is_below (next + 1) s) _ (below_later s.frame next both.0) (all_later ss next both.1)
 
--- how many frames wait in a new job
-abbrev pub new_counts : ℕ → Counts
-new_counts frames = record { waiting = frames; setup = 0; running = 0; succeeded = 0; depend = 0; dead = 0; eaten = 0 }
-
 module _ (b : JobLists) (show : ℕ) (spec : JobSpec) (limits : JobKeepsLimits spec) (none : job_refusal b spec ≡ None) (ok : IsBook b) where
   abbrev pub placed : JobLists
   placed = with_job b show spec
@@ -320,3 +316,8 @@ module _ (b : JobLists) (show : ℕ) (spec : JobSpec) (limits : JobKeepsLimits s
   placed_counts =
       map_push (λ (j : JobRow). counts_of j.job placed.slots) b.jobs (job_row b.next_job show spec)
       ∙ ap (λ cs. cs ++ counts_of b.next_job placed.slots ∷ []) (counts_kept 0 b.jobs ok.jobs_rise) ∙ ap (λ c. counts_for b.jobs b.slots ++ c ∷ []) counts_new
+
+-- lists that are those of a book
+pub book_from : (b : JobLists) (jobs : List JobRow) (layers : List LayerRow) (slots : List SlotRow) (next : ℕ) → jobs ≡ b.jobs → layers ≡ b.layers → slots ≡ b.slots → next ≡ b.next_job
+    → IsBook b → IsBook (record { jobs = jobs; layers = layers; slots = slots; next_job = next })
+book_from b jobs layers slots next e0 e1 e2 e3 ok = rw (e0, e1, e2, e3) ok

@@ -52,3 +52,7 @@ moved old new c = raised new (lowered old c)
 -- some frame is counted in the old state, and no state counts more frames than there are slots
 abbrev pub CanMove : FrameState → FrameState → Counts → Type 0
 CanMove old new c = (0 < part old c) × (part new c ≤ 65536)
+
+-- the counts of a job whose frames all wait
+abbrev pub new_counts : ℕ → Counts
+new_counts frames = record { waiting = frames; setup = 0; running = 0; succeeded = 0; depend = 0; dead = 0; eaten = 0 }

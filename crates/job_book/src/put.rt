@@ -7,13 +7,13 @@ ghost use Rattle.farm_types.specs.Spec.{frames_in};
 ghost use Rattle.job_book.specs.Book.{first_free};
 ghost use Rattle.job_book.specs.Puts.{HasRoom, Puts};
 
-use farm_types::{FrameRow, FrameState, JobNo, LayerSpec, SlotRow, Version};
+use farm_types::{FrameRow, FrameState, JobNo, LayerSpec, Slot, SlotRow, Version};
 
 /// The last version of a slot, at which it takes no frame more.
 const LAST_VERSION: u32 = 16777215;
 
 /// Puts the frames of a job's layers into the lowest free slots, the first of which is said. It takes no memory.
-pub(crate) fn put_layers(slots: &mut Vec<SlotRow>, first: usize, job: JobNo, layers: &[LayerSpec])
+pub(crate) fn put_layers(slots: &mut Vec<SlotRow>, first: Slot, job: JobNo, layers: &[LayerSpec])
     requires room { slot_limit ≤ vec_capacity slots.old }
     requires slot_count { length slots.old.items ≤ slot_limit }
     requires first { first ≡ first_free slots.old.items }
@@ -23,7 +23,7 @@ pub(crate) fn put_layers(slots: &mut Vec<SlotRow>, first: usize, job: JobNo, lay
     ensures slots { slots.new.items ≡ place_frames slots.old.items (frames_of job 0 layers.now) }
     ensures room { vec_capacity slots.new ≡ vec_capacity slots.old }
 {
-    let mut next = first;
+    let mut next = first.0 as usize;
     for (place, layer) in layers.iter().enumerate() {
         next = put_layer(slots, next, job, place as u32, layer.numbers.as_slice());
     }
@@ -70,7 +70,8 @@ fn row_at(slots: &[SlotRow], place: usize) -> Option<SlotRow>
 /// The first free slot from a place on, and where none of those used is free, the first that never was.
 pub(crate) fn next_free(slots: &[SlotRow], from: usize) -> usize
     requires { from ≤ length slots.now }
-    ensures { result ≡ from + first_free (drop from slots.now) }
+    ensures value { result ≡ from + first_free (drop from slots.now) }
+    ensures bound { result ≤ length slots.now }
 {
     for place in from..slots.len() {
         if is_free(&slots[place]) {

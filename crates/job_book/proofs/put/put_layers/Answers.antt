@@ -1,4 +1,4 @@
-use Rattle.std.proofs.Common.{◌≡◌, ◌+◌, ◌<◌, ◌≤◌, ◌∙◌, ◌∷◌, [], ◌++◌, List, length, drop, take, refl, sym, ap, subst, arith}
+use Rattle.std.proofs.Common.{◌≡◌, ℕ, ◌+◌, ◌<◌, ◌≤◌, ◌∙◌, ◌∷◌, [], ◌++◌, List, length, drop, take, refl, sym, ap, subst, arith}
 use Rattle.std.proofs.lemmas.List.{take_all}
 use Rattle.farm_types.specs.declared.slot_row.FrameRow.{FrameRow}
 use Rattle.farm_types.specs.Jobs.{frames_from, frames_of}
@@ -11,7 +11,8 @@ pub loop-place-init : goal.loop-place-init
 loop-place-init c =
     let slots = c.args.slots.now.items in
     let start : c.args.first ≡ 0 + first_free (drop 0 slots) = omega (arith, c.requires.first) in
-    record { puts = puts_none c.args.first slots (found_within slots 0 c.args.first (omega arith) start) c.requires.slot_count; room = refl }
+    let none = puts_none c.args.first slots (found_within slots 0 c.args.first (omega arith) start) c.requires.slot_count in
+    record { puts = subst (λ (n : ℕ). Puts [] c.args.first slots n slots) (sym c.first.view_is) none; room = refl }
 
 pub put_layer-next-requires-clause-fits : goal.put_layer-next-requires-clause-fits
 put_layer-next-requires-clause-fits c =
