@@ -70,7 +70,6 @@ module _ {X : Type 0} (P : ℕ → X → Type 0) (xs : List X) (i : ℕ) (change
   pub changed_at_each : (k : ℕ) (y : X) → slice_get (changed_at xs i change) k ≡ Some y → P k y
   changed_at_each k y at = changed_there k y (places k i) at
 
-
 changed_by_suc : {X : Type 0} (x : X) (xs : List X) (i : ℕ) (change : X → X) (o : Option X) → changed_by (x ∷ xs) (suc i) change o ≡ x ∷ changed_by xs i change o
 changed_by_suc x xs i change None = refl
 changed_by_suc x xs i change (Some y) = refl

@@ -138,6 +138,7 @@ module _ (front back : List SlotRow) (x : FrameRow) (q n : ℕ) (is : q ≡ firs
       take_whole : (ss : List SlotRow) → take (length ss) ss ≡ ss
       take_whole [] = refl
       take_whole (s ∷ ss) = ap (λ rs. s ∷ rs) (take_whole ss)
+
       drop_whole : (ss : List SlotRow) → drop (length ss) ss ≡ []
       drop_whole [] = refl
       drop_whole (s ∷ ss) = drop_whole ss

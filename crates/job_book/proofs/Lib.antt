@@ -1,4 +1,5 @@
 pub mod Changed
+pub mod Distinct
 pub mod FreeSlots
 pub mod Lists
 pub mod Names

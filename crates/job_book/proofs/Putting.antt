@@ -34,7 +34,7 @@ module _ (slots : List SlotRow) (place found : ℕ) (x : FrameRow) (within : pla
       let h = set_in (take place slots) (drop place slots) x q place refl count fits s (read ∙ at) in
       let from : found - place ≡ q = omega arith in
       let set_is : slice_set slots found (slot_with x s) ≡ take place slots ++ slice_set (drop place slots) q (slot_with x s) =
-          ap (λ ss. slice_set ss found (slot_with x s)) (sym whole) ∙ set-append_right (take place slots) (drop place slots) place found (slot_with x s) (sym count) (omega arith) ∙ ap (λ k. take place slots ++ slice_set (drop place slots) k (slot_with x s)) from in
+      ap (λ ss. slice_set ss found (slot_with x s)) (sym whole) ∙ set-append_right (take place slots) (drop place slots) place found (slot_with x s) (sym count) (omega arith) ∙ ap (λ k. take place slots ++ slice_set (drop place slots) k (slot_with x s)) from in
       subst (λ ss. Puts (x ∷ []) place slots (found + 1) ss) (sym set_is)
       (subst (λ k. Puts (x ∷ []) place slots (k + 1) (take place slots ++ slice_set (drop place slots) q (slot_with x s))) (sym is)
       (subst (λ ss. Puts (x ∷ []) place ss (place + q + 1) (take place slots ++ slice_set (drop place slots) q (slot_with x s))) whole h))

@@ -65,16 +65,18 @@ changed_book b slots i s change at e free below ok =
     let sum = changed_at_sum (λ (r : SlotRow). cond (is_free r) 1 0) slots i change s at in
     let same : free_among (changed_at slots i change) ≡ free_among slots = omega (arith, rw free at sum) in
     let as_free : free_in (changed_at slots i change) ≡ free_in slots = rw (long, same) refl in
-    let was : list_all (is_below b.next_job) slots ≡ true = rw (← e) ok.frames_below in
-    (record {
-      slot_count = rw (long, ← e) ok.slot_count;
-      next_within = ok.next_within;
-      jobs_rise = ok.jobs_rise;
-      layers_rise = ok.layers_rise;
-      frames_below = list_all-changed (is_below b.next_job) slots i change was (λ x is. subst (λ (r : SlotRow). is_below b.next_job (change r) ≡ true) (same_Some s x (sym at ∙ is)) (below ∙ list_all-at (is_below b.next_job) slots i s was at));
-      jobs_fit = rw (as_free, ← e) ok.jobs_fit;
-      layers_fit = rw (as_free, ← e) ok.layers_fit;
-    }, as_free)
+    let was : list_all (is_below b.next_job) slots ≡ true = rw (← e) ok.frames_below in (
+      record {
+        slot_count = rw (long, ← e) ok.slot_count;
+        next_within = ok.next_within;
+        jobs_rise = ok.jobs_rise;
+        layers_rise = ok.layers_rise;
+        frames_below = list_all-changed (is_below b.next_job) slots i change was (λ x is. subst (λ (r : SlotRow). is_below b.next_job (change r) ≡ true) (same_Some s x (sym at ∙ is)) (below ∙ list_all-at (is_below b.next_job) slots i s was at));
+        jobs_fit = rw (as_free, ← e) ok.jobs_fit;
+        layers_fit = rw (as_free, ← e) ok.layers_fit;
+      },
+      as_free,
+    )
 
 difference : (t s a b : ℕ) → t + a ≡ s + b → a ≤ s → t ≡ s - a + b
 difference t s a b e h = omega arith

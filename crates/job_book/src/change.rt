@@ -51,7 +51,13 @@ fn set_row(slots: &mut Vec<SlotRow>, slot: Slot, row: SlotRow)
 }
 
 // The slot at that version, its frame in that state with so many retries.
-fn turned_row(row: &SlotRow, frame: &FrameRow, state: FrameState, version: Version, retries: u32) -> SlotRow
+fn turned_row(
+    row: &SlotRow,
+    frame: &FrameRow,
+    state: FrameState,
+    version: Version,
+    retries: u32,
+) -> SlotRow
     requires { row.now.frame ≡ Some frame.now }
     ensures { result ≡ turned_row state version retries row.now }
 {

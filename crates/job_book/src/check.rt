@@ -13,7 +13,9 @@ ghost use Rattle.job_book.specs.Refused.{Refuses, IsExisting};
 use crate::jobs::Jobs;
 use crate::placing::{JobFault, Placing};
 use crate::put::next_free;
-use farm_types::{Counted, JobNo, JobRow, JobSpec, JobState, LayerSpec, Refusal, ShowNo, Slot, Text};
+use farm_types::{
+    Counted, JobNo, JobRow, JobSpec, JobState, LayerSpec, Refusal, ShowNo, Slot, Text,
+};
 use std::alloc::Global;
 
 /// The greatest number that is given to a job.
@@ -74,7 +76,8 @@ fn check_name(alloc: Global, jobs: &[JobRow], name: &Text) -> Result<(), JobFaul
 fn is_pending_named(jobs: &[JobRow], name: &Text) -> bool
     ensures { result ≡ list_any (is_pending_named name.now) jobs.now }
 {
-    jobs.iter().any(|j| is_pending(j.state) && j.name.is(name.as_str()))
+    jobs.iter()
+        .any(|j| is_pending(j.state) && j.name.is(name.as_str()))
 }
 
 // Whether the job isn't finished.

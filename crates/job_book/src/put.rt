@@ -30,7 +30,13 @@ pub(crate) fn put_layers(slots: &mut Vec<SlotRow>, first: Slot, job: JobNo, laye
 }
 
 // Puts the frames of a layer's numbers, and says the place after the last one.
-fn put_layer(slots: &mut Vec<SlotRow>, first: usize, job: JobNo, layer: u32, numbers: &[i32]) -> usize
+fn put_layer(
+    slots: &mut Vec<SlotRow>,
+    first: usize,
+    job: JobNo,
+    layer: u32,
+    numbers: &[i32],
+) -> usize
     requires room { slot_limit ≤ vec_capacity slots.old }
     requires fits { HasRoom first slots.old.items (length numbers.now) }
     requires frame_count { length numbers.now ≤ 10000 }

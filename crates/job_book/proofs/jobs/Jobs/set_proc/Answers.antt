@@ -14,7 +14,7 @@ invariant_of-self c =
     let slots = c.self.inside.slots.items in
     let at : slice_get slots c.args.slot ≡ Some c.in-Some.row = ap (λ (b : JobLists). slice_get b.slots c.args.slot) c.self.view_is ∙ sym c.in-Some.ensures in
     let new : c.set_row.new.slots.items ≡ changed_at slots c.args.slot (attempted_row c.args.proc) =
-        c.set_row.ensures.items ∙ ap (slice_set slots c.args.slot) c.attempted_row-attempted.ensures ∙ sym (changed_at_is slots c.args.slot (attempted_row c.args.proc) c.in-Some.row at) in
+    c.set_row.ensures.items ∙ ap (slice_set slots c.args.slot) c.attempted_row-attempted.ensures ∙ sym (changed_at_is slots c.args.slot (attempted_row c.args.proc) c.in-Some.row at) in
     let kept = attempted_book (book_of c.self.inside) c.args.slot c.in-Some.row c.args.proc at c.self.invariant.book in
     record {
       book = subst (λ (ss : List SlotRow). IsBook (record (book_of c.self.inside) { slots = ss })) (sym new) kept.0;

@@ -36,7 +36,7 @@ invariant_of-self c =
     let at : slice_get slots c.args.slot ≡ Some row = ap (λ (b : JobLists). slice_get b.slots c.args.slot) c.self.view_is ∙ sym c.in-Some.ensures in
     let place = c.place_of-place.ensures ∙ ap (position_or_len (λ (j : JobRow). eqb j.job frame.job)) c.as_slice.ensures.value in
     let new : c.set_row.new.slots.items ≡ changed_at slots c.args.slot change =
-        c.set_row.ensures.items ∙ ap (slice_set slots c.args.slot) c.turned_row-turned.ensures ∙ sym (changed_at_is slots c.args.slot change row at) in
+    c.set_row.ensures.items ∙ ap (slice_set slots c.args.slot) c.turned_row-turned.ensures ∙ sym (changed_at_is slots c.args.slot change row at) in
     let kept = turned_book slots c.args.slot row frame at c.in-Some-frame.is c.args.state c.args.version c.args.retries (book_of c.self.inside) refl c.self.invariant.book in
     let counted = counts_turned slots c.args.slot row frame at c.in-Some-frame.is c.args.state c.args.version c.args.retries jobs c.self.inside.next_job c.self.invariant.book.jobs_rise in
     let recounted = c.recount.ensures.items ∙ rw (place, c.self.invariant.counts_are) refl in
