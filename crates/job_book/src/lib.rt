@@ -3,6 +3,7 @@
 
 mod change;
 mod check;
+mod copy;
 mod counting;
 mod counts;
 mod frame_view;
