@@ -1,1 +1,5 @@
 pub mod Book
+pub mod Counting
+pub mod Inside
+pub mod Puts
+pub mod Refused

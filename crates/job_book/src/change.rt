@@ -1,11 +1,14 @@
 //! Changes of one slot.
 
-ghost use Rattle.std.specs.Prelude.{◌≡◌, true};
+ghost use Rattle.std.specs.Prelude.{◌≡◌, ◌<◌, length, slice_set, true, Some};
+ghost use Rattle.std.specs.Vec.{vec_capacity};
 ghost use Rattle.farm_types.specs.Farm.{changed_at};
 ghost use Rattle.job_book.specs.Book.{has_frame, turned_row, attempted_row};
 
+use crate::counting::recount;
 use crate::jobs::Jobs;
-use farm_types::{FrameState, ProcRow, Slot, SlotRow, Version};
+use crate::place_of::place_of;
+use farm_types::{FrameRow, FrameState, ProcRow, Slot, SlotRow, Version};
 
 impl Jobs {
     /// The slot's frame goes into a state, with so many retries, and the slot to a version.
@@ -19,14 +22,10 @@ impl Jobs {
         let Some(frame) = &row.frame else {
             unreachable!()
         };
-        let mut turned = *frame;
-        turned.state = state;
-        turned.retries = retries;
-        self.slots[slot.0 as usize] = SlotRow {
-            version,
-            frame: Some(turned),
-            proc: row.proc,
-        };
+        let place = place_of(self.jobs.as_slice(), frame.job);
+        let turned = turned_row(&row, frame, state, version, retries);
+        recount(&mut self.counts, place, frame.state, state);
+        set_row(&mut self.slots, slot, turned);
     }
 
     /// The slot has that live attempt, or none.
@@ -37,10 +36,48 @@ impl Jobs {
         let Some(row) = self.row(slot) else {
             unreachable!()
         };
-        self.slots[slot.0 as usize] = SlotRow {
-            version: row.version,
-            frame: row.frame,
-            proc,
-        };
+        let attempted = attempted_row(&row, proc);
+        set_row(&mut self.slots, slot, attempted);
+    }
+}
+
+// What stands in the slot is set.
+fn set_row(slots: &mut Vec<SlotRow>, slot: Slot, row: SlotRow)
+    requires { slot < length slots.old.items }
+    ensures items { slots.new.items ≡ slice_set slots.old.items slot row }
+    ensures room { vec_capacity slots.new ≡ vec_capacity slots.old }
+{
+    slots[slot.0 as usize] = row;
+}
+
+// The slot at that version, its frame in that state with so many retries.
+fn turned_row(
+    row: &SlotRow,
+    frame: &FrameRow,
+    state: FrameState,
+    version: Version,
+    retries: u32,
+) -> SlotRow
+    requires { row.now.frame ≡ Some frame.now }
+    ensures { result ≡ turned_row state version retries row.now }
+{
+    let mut turned = *frame;
+    turned.state = state;
+    turned.retries = retries;
+    SlotRow {
+        version,
+        frame: Some(turned),
+        proc: row.proc,
+    }
+}
+
+// The slot with that attempt, or with none.
+fn attempted_row(row: &SlotRow, proc: Option<ProcRow>) -> SlotRow
+    ensures { result ≡ attempted_row proc row.now }
+{
+    SlotRow {
+        version: row.version,
+        frame: row.frame,
+        proc,
     }
 }

@@ -3,16 +3,24 @@
 ghost use Rattle.std.specs.Prelude.{◌≡◌, IfOk};
 ghost use Rattle.job_book.specs.Book.{no_jobs};
 
+use crate::counts::Counts;
 use farm_types::{JobRow, LayerRow, SlotRow};
 use std::alloc::{AllocError, Global};
 use std::marker::Model;
 
+/// How many slots there are, those past the last used one too. Each job and each layer takes one at least.
+pub(crate) const SLOT_LIMIT: usize = 65536;
+
 /// The jobs with their layers, in the order of their numbers, and the frame slots, up to the last that was ever used.
+/// Beside them are kept each job's counts, at its place in `jobs`, and how many slots are free, those that were never
+/// used too.
 #[derive(Debug, Drop)]
 pub struct Jobs {
     pub(crate) jobs: Vec<JobRow>,
+    pub(crate) counts: Vec<Counts>,
     pub(crate) layers: Vec<LayerRow>,
     pub(crate) slots: Vec<SlotRow>,
+    pub(crate) free: u32,
     pub(crate) next_job: u64,
 }
 
@@ -21,11 +29,11 @@ impl Model for Jobs {
 
     ghost Value = { types.JobLists };
 
-    ghost view = { λ a. record { jobs = a.jobs.items; layers = a.layers.items; slots = a.slots.items; next_job = a.next_job } };
+    ghost use Rattle.job_book.specs.Inside.{book_of, KeepsBook};
 
-    ghost use Rattle.std.specs.Prelude.{length, ◌≤◌};
+    ghost view = { book_of };
 
-    ghost invariant = { λ a. length a.slots.items ≤ 65536 };
+    ghost invariant = { KeepsBook };
 }
 
 impl Jobs {
@@ -33,7 +41,13 @@ impl Jobs {
     pub fn make(alloc: Global) -> Result<Jobs, AllocError>
         ensures { IfOk result (λ b. b ≡ no_jobs) }
     {
-        let _alloc = alloc;
-        Err(AllocError)
+        Ok(Jobs {
+            jobs: Vec::with_capacity(alloc, SLOT_LIMIT)?,
+            counts: Vec::with_capacity(alloc, SLOT_LIMIT)?,
+            layers: Vec::with_capacity(alloc, SLOT_LIMIT)?,
+            slots: Vec::with_capacity(alloc, SLOT_LIMIT)?,
+            free: SLOT_LIMIT as u32,
+            next_job: 1,
+        })
     }
 }

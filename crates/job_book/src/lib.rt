@@ -3,14 +3,22 @@
 
 mod change;
 mod check;
+mod copy;
+mod counting;
 mod counts;
 mod frame_view;
 mod jobs;
 mod place;
+mod place_of;
 mod placing;
+mod put;
 mod read;
+mod reserve;
 
 pub use counts::Counts;
 pub use frame_view::FrameView;
 pub use jobs::Jobs;
 pub use placing::{JobFault, JobSpare, Placing};
+
+#[cfg(test)]
+mod tests;

@@ -1,13 +1,18 @@
 //! Placing a job.
 
-ghost use Rattle.std.specs.Prelude.{◌≡◌, None};
-ghost use Rattle.farm_types.specs.Jobs.{job_refusal, with_job};
+ghost use Rattle.std.specs.Prelude.{◌≡◌, ◌≤◌, ◌+◌, ◌++◌, length, None};
+ghost use Rattle.std.specs.Vec.{vec_capacity};
+ghost use Rattle.farm_types.specs.Jobs.{job_refusal, job_row, layer_row, layer_rows, with_job};
+ghost use Rattle.farm_types.specs.Spec.{frames_in};
 ghost use Rattle.farm_types.specs.SpecLimits.{JobKeepsLimits};
 ghost use Rattle.job_book.specs.Book.{placing_of};
+ghost use Rattle.job_book.specs.Counting.{new_counts};
 
+use crate::counts::Counts;
 use crate::jobs::Jobs;
 use crate::placing::{JobSpare, Placing};
-use farm_types::JobNo;
+use crate::put::put_layers;
+use farm_types::{JobNo, JobRow, JobState, LayerRow, LayerSpec};
 
 impl Jobs {
     /// Places a job that isn't refused where `check` said, with the memory that was taken for it: its frames wait in the
@@ -19,8 +24,85 @@ impl Jobs {
         ensures book { self.new ≡ with_job self.old placing.show spare }
         ensures job { result ≡ self.old.next_job }
     {
-        let JobSpare { spec: _ } = spare;
-        self.next_job = 0;
-        unreachable!()
+        let job = placing.job;
+        let (row, layers) = taken_apart(spare, &placing);
+        put_layers(&mut self.slots, placing.first, job, layers.as_slice());
+        add_layers(&mut self.layers, job, layers);
+        self.jobs.push_reserved(row);
+        self.counts.push_reserved(all_waiting(placing.frames));
+        self.free -= placing.frames;
+        self.next_job += 1;
+        job
+    }
+}
+
+// The job's row and its layers, of the texts that were taken for it.
+fn taken_apart(spare: JobSpare, placing: &Placing) -> (JobRow, Vec<LayerSpec>)
+    requires { placing.now.frames ≡ frames_in spare.layers }
+    ensures row { result.0 ≡ job_row placing.now.job placing.now.show spare }
+    ensures layers { result.1.items ≡ spare.layers }
+{
+    let row = JobRow {
+        job: placing.job,
+        name: spare.name,
+        show: placing.show,
+        facility: spare.facility,
+        shot: spare.shot,
+        user: spare.user,
+        priority: spare.priority,
+        max_retries: spare.max_retries,
+        auto_eat: spare.auto_eat,
+        paused: spare.paused,
+        state: JobState::Pending,
+        frames: placing.frames,
+        finish: 0,
+        eaten: 0,
+        succeeded: 0,
+    };
+    (row, spare.layers)
+}
+
+// The rows of a job's layers, behind the others.
+fn add_layers(rows: &mut Vec<LayerRow>, job: JobNo, layers: Vec<LayerSpec>)
+    requires room { length rows.old.items + length layers.items ≤ vec_capacity rows.old }
+    requires count { length layers.items ≤ 64 }
+    ensures rows { rows.new.items ≡ rows.old.items ++ layer_rows job 0 layers.items }
+    ensures room { vec_capacity rows.new ≡ vec_capacity rows.old }
+{
+    let mut place = 0;
+    for layer in layers {
+        rows.push_reserved(layer_row(job, place, layer));
+        place += 1;
+    }
+}
+
+// The row of a layer, whose texts are moved.
+fn layer_row(job: JobNo, place: u32, layer: LayerSpec) -> LayerRow
+    ensures { result ≡ layer_row job place layer }
+{
+    LayerRow {
+        job,
+        place,
+        name: layer.name,
+        range: layer.range,
+        command: layer.command,
+        cores: layer.cores,
+        memory: layer.memory,
+        tags: layer.tags,
+    }
+}
+
+// The counts of a job of so many frames, all of which wait.
+fn all_waiting(frames: u32) -> Counts
+    ensures { result ≡ new_counts frames }
+{
+    Counts {
+        waiting: frames,
+        setup: 0,
+        running: 0,
+        succeeded: 0,
+        depend: 0,
+        dead: 0,
+        eaten: 0,
     }
 }

@@ -1,6 +1,6 @@
 //! Where a job is to be placed, and the room for it.
 
-use farm_types::{JobNo, JobSpec, Refusal, ShowNo, Slot};
+use farm_types::{JobNo, LayerSpec, Refusal, ShowNo, Slot, Text};
 use std::alloc::AllocError;
 use std::marker::Model;
 
@@ -14,10 +14,20 @@ pub struct Placing {
     pub frames: u32,
 }
 
-/// The memory that a job needs, taken before the job is placed: its rows, which contracts see as its spec.
+/// The memory that a job needs, taken before the job is placed: its texts, numbers and tags, which contracts see as its
+/// spec.
 #[derive(Debug, Drop)]
 pub struct JobSpare {
-    pub(crate) spec: JobSpec,
+    pub(crate) name: Text,
+    pub(crate) show: Text,
+    pub(crate) facility: Text,
+    pub(crate) shot: Text,
+    pub(crate) user: Text,
+    pub(crate) priority: u32,
+    pub(crate) max_retries: u32,
+    pub(crate) auto_eat: bool,
+    pub(crate) paused: bool,
+    pub(crate) layers: Vec<LayerSpec>,
 }
 
 impl Model for JobSpare {
@@ -25,9 +35,18 @@ impl Model for JobSpare {
 
     ghost Value = { types.JobSpec };
 
-    ghost view = { λ a. a.spec };
-
-    ghost invariant = { λ a. ⊥ };
+    ghost view = { λ a. record {
+      name = a.name;
+      show = a.show;
+      facility = a.facility;
+      shot = a.shot;
+      user = a.user;
+      priority = a.priority;
+      max_retries = a.max_retries;
+      auto_eat = a.auto_eat;
+      paused = a.paused;
+      layers = a.layers.items;
+    } };
 }
 
 /// Why a job can't be placed.

@@ -1,11 +1,14 @@
 //! What is read of the book.
 
 ghost use Rattle.std.specs.Prelude.{◌≡◌, ◌==◌, ◌&&◌, ◌≤◌, length, slice_get, find, option_copied, true, Some};
-ghost use Rattle.job_book.specs.Book.{job_named, frame_at, state_at, is_placed, slot_from, has_frame};
+ghost use Rattle.farm_types.specs.Farm.{for_some};
+ghost use Rattle.job_book.specs.Book.{job_named, frame_at, frame_view, state_at, is_placed, slot_from, has_frame, has_job, counts_of};
 
+use crate::counts::Counts;
 use crate::frame_view::FrameView;
 use crate::jobs::Jobs;
-use farm_types::{FrameState, JobNo, JobRow, LayerRow, Slot, SlotRow, Version};
+use crate::place_of::place_of;
+use farm_types::{FrameRow, FrameState, JobNo, JobRow, LayerRow, Slot, SlotRow, Version};
 
 impl Jobs {
     /// The slots, each at its number, up to the last that was ever used.
@@ -38,4 +41,101 @@ impl Jobs {
             .iter()
             .find(|l| l.job == job && l.place == place)
     }
+
+    /// The number of the first job of that name, finished ones too.
+    pub fn find(&self, name: &str) -> Option<JobNo>
+        ensures { result ≡ job_named self.now name.now }
+    {
+        match self.jobs.iter().find(|j| j.name.is(name)) {
+            None => None,
+            Some(job) => Some(job.job),
+        }
+    }
+
+    /// The frame in a slot that has one.
+    pub fn frame(&self, slot: Slot) -> FrameView
+        requires { has_frame self.now slot ≡ true }
+        ensures { frame_at self.now slot ≡ Some result }
+    {
+        let Some(row) = self.row(slot) else {
+            unreachable!()
+        };
+        let Some(frame) = &row.frame else {
+            unreachable!()
+        };
+        frame_view(row.version, frame)
+    }
+
+    /// The state of the frame in a slot, none where there is no frame, and the slot's version, 0 where it was never used.
+    pub fn state(&self, slot: Slot) -> (Option<FrameState>, Version)
+        ensures { result ≡ state_at self.now slot }
+    {
+        match self.row(slot) {
+            None => (None, Version(0)),
+            Some(row) => match &row.frame {
+                None => (None, row.version),
+                Some(frame) => (Some(frame.state), row.version),
+            },
+        }
+    }
+
+    /// The first slot with the frame of a job, at a position (from 0) of the layer at that place (from 0).
+    pub fn slot(&self, job: JobNo, layer: u32, position: u32) -> Option<Slot>
+        ensures { result ≡ slot_from 0 (is_placed job layer position) self.now.slots }
+    {
+        slot_in(self.slots(), job, layer, position)
+    }
+
+    /// How many frames of a job are in each state.
+    pub fn counts(&self, job: JobNo) -> Counts
+        requires { has_job self.now job ≡ true }
+        ensures { result ≡ counts_of job self.now.slots }
+    {
+        self.counts[place_of(self.jobs.as_slice(), job)]
+    }
+}
+
+// The frame, with its slot's version.
+fn frame_view(version: Version, frame: &FrameRow) -> FrameView
+    ensures { result ≡ frame_view version frame.now }
+{
+    FrameView {
+        job: frame.job,
+        layer: frame.layer,
+        position: frame.position,
+        number: frame.number,
+        state: frame.state,
+        version,
+        retries: frame.retries,
+    }
+}
+
+// The first of the slots with the frame.
+fn slot_in(slots: &[SlotRow], job: JobNo, layer: u32, position: u32) -> Option<Slot>
+    requires { length slots.now ≤ 65536 }
+    ensures { result ≡ slot_from 0 (is_placed job layer position) slots.now }
+{
+    for (place, row) in slots.iter().enumerate() {
+        if is_at(row, job, layer, position) {
+            return Some(Slot(place as u32));
+        }
+    }
+    None
+}
+
+// Whether the slot has the frame.
+fn is_at(row: &SlotRow, job: JobNo, layer: u32, position: u32) -> bool
+    ensures { result ≡ for_some row.now.frame (is_placed job layer position) }
+{
+    match &row.frame {
+        None => false,
+        Some(frame) => is_placed(frame, job, layer, position),
+    }
+}
+
+// Whether the frame is that of the job, its layer and its position.
+fn is_placed(frame: &FrameRow, job: JobNo, layer: u32, position: u32) -> bool
+    ensures { result ≡ is_placed job layer position frame.now }
+{
+    frame.job == job && frame.layer == layer && frame.position == position
 }

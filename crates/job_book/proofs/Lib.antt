@@ -1,0 +1,9 @@
+pub mod Changed
+pub mod Distinct
+pub mod FreeSlots
+pub mod Lists
+pub mod Names
+pub mod Placed
+pub mod Places
+pub mod Putting
+pub mod Turned

@@ -1,0 +1,51 @@
+use Rattle.std.proofs.Common.{◌≡◌, ◌<◌, ◌∙◌, List, length, eqb, Some, refl, sym, ap, subst, arith}
+use Rattle.std.specs.List.{slice_get, slice_set, position_or_len}
+use Rattle.std.proofs.lemmas.Option.{slice_get_within}
+use Rattle.farm_types.specs.declared.rows.JobRow.{JobRow}
+use Rattle.farm_types.specs.declared.slot_row.SlotRow.{SlotRow}
+use Rattle.farm_types.specs.Farm.{changed_at}
+use Rattle.farm_types.specs.Jobs.{JobLists}
+use Rattle.job_book.specs.Book.{turned_row}
+use Rattle.job_book.specs.Counting.{moved}
+use Rattle.job_book.specs.Inside.{IsBook, book_of}
+use Rattle.job_book.proofs.Changed.{changed_at_is}
+use Rattle.job_book.proofs.Turned.{can_move, counts_turned, turned_book}
+use Rattle.job_book.proofs.jobs.Jobs.set_state.Goals as goal
+
+pub recount-requires : goal.recount-requires
+recount-requires c =
+    let slots = c.self.inside.slots.items in
+    let at : slice_get slots c.args.slot ≡ Some c.in-Some.row = ap (λ (b : JobLists). slice_get b.slots c.args.slot) c.self.view_is ∙ sym c.in-Some.ensures in
+    let place = c.place_of-place.ensures ∙ ap (position_or_len (λ (j : JobRow). eqb j.job c.in-Some-frame.frame.job)) c.as_slice.ensures.value in
+    can_move slots c.args.slot c.in-Some.row c.in-Some-frame.frame at c.in-Some-frame.is c.args.state c.self.inside.jobs.items c.self.inside.counts.items c.place_of-place.result
+    c.self.invariant.counts_are place c.self.invariant.book.slot_count
+
+pub set_row-requires : goal.set_row-requires
+set_row-requires c =
+    let slots = c.self.inside.slots.items in
+    let at : slice_get slots c.args.slot ≡ Some c.in-Some.row = ap (λ (b : JobLists). slice_get b.slots c.args.slot) c.self.view_is ∙ sym c.in-Some.ensures in
+    slice_get_within slots c.args.slot c.in-Some.row at
+
+pub invariant_of-self : goal.invariant_of-self
+invariant_of-self c =
+    let slots = c.self.inside.slots.items in
+    let jobs = c.self.inside.jobs.items in
+    let row = c.in-Some.row in
+    let frame = c.in-Some-frame.frame in
+    let change = turned_row c.args.state c.args.version c.args.retries in
+    let at : slice_get slots c.args.slot ≡ Some row = ap (λ (b : JobLists). slice_get b.slots c.args.slot) c.self.view_is ∙ sym c.in-Some.ensures in
+    let place = c.place_of-place.ensures ∙ ap (position_or_len (λ (j : JobRow). eqb j.job frame.job)) c.as_slice.ensures.value in
+    let new : c.set_row.new.slots.items ≡ changed_at slots c.args.slot change =
+    c.set_row.ensures.items ∙ ap (slice_set slots c.args.slot) c.turned_row-turned.ensures ∙ sym (changed_at_is slots c.args.slot change row at) in
+    let kept = turned_book slots c.args.slot row frame at c.in-Some-frame.is c.args.state c.args.version c.args.retries (book_of c.self.inside) refl c.self.invariant.book in
+    let counted = counts_turned slots c.args.slot row frame at c.in-Some-frame.is c.args.state c.args.version c.args.retries jobs c.self.inside.next_job c.self.invariant.book.jobs_rise in
+    let recounted = c.recount.ensures.items ∙ rw (place, c.self.invariant.counts_are) refl in
+    record {
+      book = subst (λ (ss : List SlotRow). IsBook (record (book_of c.self.inside) { slots = ss })) (sym new) kept.0;
+      free_is = rw new (c.self.invariant.free_is ∙ sym kept.1);
+      counts_are = rw new (recounted ∙ sym counted);
+      jobs_room = c.self.invariant.jobs_room;
+      layers_room = c.self.invariant.layers_room;
+      slots_room = rw c.set_row.ensures.room c.self.invariant.slots_room;
+      counts_room = rw c.recount.ensures.room c.self.invariant.counts_room;
+    }

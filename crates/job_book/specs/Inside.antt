@@ -1,0 +1,56 @@
+-- What the job book keeps true of its fields.
+use Rattle.std.specs.Prelude.{ℕ, ◌≡◌, ◌≤◌, ◌+◌, ◌*◌, List, [], ◌∷◌, map, length, Bool, true, not, nat_le}
+use Rattle.std.specs.List.{list_all}
+use Rattle.std.specs.Vec.{vec_capacity}
+use Rattle.farm_types.specs.declared.rows.JobRow.{JobRow}
+use Rattle.farm_types.specs.declared.rows.LayerRow.{LayerRow}
+use Rattle.farm_types.specs.declared.slot_row.SlotRow.{SlotRow}
+use Rattle.farm_types.specs.Farm.{for_some}
+use Rattle.farm_types.specs.Jobs.{JobLists, slot_limit, free_in}
+use Rattle.job_book.specs.declared.counts.Counts.{Counts}
+use Rattle.job_book.specs.declared.jobs.Jobs.TheInside.{Inside}
+use Rattle.job_book.specs.Book.{counts_of}
+
+-- the lists of the book
+abbrev pub book_of : Inside → JobLists
+book_of a = record { jobs = a.jobs.items; layers = a.layers.items; slots = a.slots.items; next_job = a.next_job }
+
+-- the keys rise strictly, from `low` and below `high`
+abbrev pub IsRising : {X : Type 0} → (X → ℕ) → ℕ → List X → ℕ → Type 0
+IsRising key low [] high = low ≤ high
+IsRising key low (x ∷ xs) high = (low ≤ key x) × IsRising key (key x + 1) xs high
+
+abbrev pub job_key : JobRow → ℕ
+job_key j = j.job
+
+-- layers are in the order of their jobs, those of a job by their places
+abbrev pub layer_key : LayerRow → ℕ
+layer_key l = 4294967296 * l.job + l.place
+
+-- the slot has no frame of a job of that number or a later one
+abbrev pub is_below : ℕ → SlotRow → Bool
+is_below next s = not (for_some s.frame (λ x. nat_le next x.job))
+
+-- the counts of the jobs, in their order
+abbrev pub counts_for : List JobRow → List SlotRow → List Counts
+counts_for jobs slots = map (λ (j : JobRow). counts_of j.job slots) jobs
+
+-- Jobs and layers are in order, frames are of jobs that were placed, and each job and each layer has taken a slot at least.
+pub record IsBook (b : JobLists) : Type 0 where
+  pub slot_count : length b.slots ≤ slot_limit
+  pub next_within : b.next_job ≤ 4294967296
+  pub jobs_rise : IsRising job_key 0 b.jobs b.next_job
+  pub layers_rise : IsRising layer_key 0 b.layers (4294967296 * b.next_job)
+  pub frames_below : list_all (is_below b.next_job) b.slots ≡ true
+  pub jobs_fit : length b.jobs + free_in b.slots ≤ slot_limit
+  pub layers_fit : length b.layers + free_in b.slots ≤ slot_limit
+
+-- the kept counts and the kept number of free slots are those of the slots, and there is room for all that is ever placed
+pub record KeepsBook (a : Inside) : Type 0 where
+  pub book : IsBook (book_of a)
+  pub free_is : a.free ≡ free_in a.slots.items
+  pub counts_are : a.counts.items ≡ counts_for a.jobs.items a.slots.items
+  pub jobs_room : slot_limit ≤ vec_capacity a.jobs
+  pub layers_room : slot_limit ≤ vec_capacity a.layers
+  pub slots_room : slot_limit ≤ vec_capacity a.slots
+  pub counts_room : slot_limit ≤ vec_capacity a.counts

@@ -1,0 +1,131 @@
+//! Frames into the lowest free slots.
+
+ghost use Rattle.std.specs.Prelude.{◌≡◌, ◌≤◌, ◌+◌, ◌∷◌, [], length, drop, slice_get};
+ghost use Rattle.std.specs.Vec.{vec_capacity};
+ghost use Rattle.farm_types.specs.Jobs.{slot_limit, is_free, free_in, new_frame, fresh_slot, slot_with, frames_from, frames_of, place_frames};
+ghost use Rattle.farm_types.specs.Spec.{frames_in};
+ghost use Rattle.job_book.specs.Book.{first_free};
+ghost use Rattle.job_book.specs.Puts.{HasRoom, Puts};
+
+use farm_types::{FrameRow, FrameState, JobNo, LayerSpec, Slot, SlotRow, Version};
+
+/// The last version of a slot, at which it takes no frame more.
+const LAST_VERSION: u32 = 16777215;
+
+/// Puts the frames of a job's layers into the lowest free slots, the first of which is said. It takes no memory.
+pub(crate) fn put_layers(slots: &mut Vec<SlotRow>, first: Slot, job: JobNo, layers: &[LayerSpec])
+    requires room { slot_limit ≤ vec_capacity slots.old }
+    requires slot_count { length slots.old.items ≤ slot_limit }
+    requires first { first ≡ first_free slots.old.items }
+    requires enough { frames_in layers.now ≤ free_in slots.old.items }
+    requires layer_count { length layers.now ≤ 64 }
+    requires frame_count { frames_in layers.now ≤ 10000 }
+    ensures slots { slots.new.items ≡ place_frames slots.old.items (frames_of job 0 layers.now) }
+    ensures room { vec_capacity slots.new ≡ vec_capacity slots.old }
+{
+    let mut next = first.0 as usize;
+    for (place, layer) in layers.iter().enumerate() {
+        next = put_layer(slots, next, job, place as u32, layer.numbers.as_slice());
+    }
+}
+
+// Puts the frames of a layer's numbers, and says the place after the last one.
+fn put_layer(
+    slots: &mut Vec<SlotRow>,
+    first: usize,
+    job: JobNo,
+    layer: u32,
+    numbers: &[i32],
+) -> usize
+    requires room { slot_limit ≤ vec_capacity slots.old }
+    requires fits { HasRoom first slots.old.items (length numbers.now) }
+    requires frame_count { length numbers.now ≤ 10000 }
+    ensures puts { Puts (frames_from job layer 0 numbers.now) first slots.old.items result slots.new.items }
+    ensures room { vec_capacity slots.new ≡ vec_capacity slots.old }
+{
+    let mut next = first;
+    for (position, number) in numbers.iter().enumerate() {
+        next = put(slots, next, new_frame(job, layer, position as u32, *number));
+    }
+    next
+}
+
+// Puts a frame into the first free slot from a place on, and says the place after it.
+fn put(slots: &mut Vec<SlotRow>, from: usize, frame: FrameRow) -> usize
+    requires room { slot_limit ≤ vec_capacity slots.old }
+    requires fits { HasRoom from slots.old.items 1 }
+    ensures puts { Puts (frame ∷ []) from slots.old.items result slots.new.items }
+    ensures room { vec_capacity slots.new ≡ vec_capacity slots.old }
+{
+    let place = next_free(slots.as_slice(), from);
+    let Some(row) = row_at(slots.as_slice(), place) else {
+        slots.push_reserved(fresh_slot(frame));
+        return place + 1;
+    };
+    slots[place] = slot_with(frame, &row);
+    place + 1
+}
+
+// What stands at a place.
+fn row_at(slots: &[SlotRow], place: usize) -> Option<SlotRow>
+    ensures { result ≡ slice_get slots.now place }
+{
+    slots.get(place).copied()
+}
+
+/// The first free slot from a place on, and where none of those used is free, the first that never was.
+pub(crate) fn next_free(slots: &[SlotRow], from: usize) -> usize
+    requires { from ≤ length slots.now }
+    ensures value { result ≡ from + first_free (drop from slots.now) }
+    ensures bound { result ≤ length slots.now }
+{
+    for place in from..slots.len() {
+        if is_free(&slots[place]) {
+            return place;
+        }
+    }
+    slots.len()
+}
+
+// Whether the slot has no frame and may still rise in version.
+fn is_free(row: &SlotRow) -> bool
+    ensures { result ≡ is_free row.now }
+{
+    row.frame.is_none() && row.version.0 < LAST_VERSION
+}
+
+// A frame that waits.
+fn new_frame(job: JobNo, layer: u32, position: u32, number: i32) -> FrameRow
+    ensures { result ≡ new_frame job layer position number }
+{
+    FrameRow {
+        job,
+        layer,
+        position,
+        number,
+        retries: 0,
+        state: FrameState::Waiting,
+    }
+}
+
+// The slot with that frame, at its version.
+fn slot_with(frame: FrameRow, row: &SlotRow) -> SlotRow
+    ensures { result ≡ slot_with frame row.now }
+{
+    SlotRow {
+        version: row.version,
+        frame: Some(frame),
+        proc: row.proc,
+    }
+}
+
+// A slot that was never used, with that frame.
+fn fresh_slot(frame: FrameRow) -> SlotRow
+    ensures { result ≡ fresh_slot frame }
+{
+    SlotRow {
+        version: Version(0),
+        frame: Some(frame),
+        proc: None,
+    }
+}
