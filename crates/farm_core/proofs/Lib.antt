@@ -2,6 +2,7 @@ pub mod Booked
 pub mod CanBook
 pub mod Changed
 pub mod Count
+pub mod DemoLimits
 pub mod Ended
 pub mod FreshFarm
 pub mod Hosts
@@ -13,4 +14,5 @@ pub mod Placed
 pub mod Ranks
 pub mod SafeRuns
 pub mod Spent
+pub mod Turned
 pub mod Within

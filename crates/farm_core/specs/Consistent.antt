@@ -17,12 +17,12 @@ most_burst = 2000000000
 abbrev pub most_memory : ℕ
 most_memory = 1000000000000
 
--- how many hosts and slots there are at most
+-- how many shows and hosts there are at most
+abbrev pub most_shows : ℕ
+most_shows = 64
+
 abbrev pub most_hosts : ℕ
 most_hosts = 4096
-
-abbrev pub most_slots : ℕ
-most_slots = 65536
 
 -- the host's amounts are within the greatest
 abbrev pub is_host_within : HostRow → Bool
@@ -39,5 +39,5 @@ pub record IsConsistent (f : Farm) : Type 0 where
   pub hosts_within : list_all is_host_within f.hosts ≡ true
   pub subs_within : list_all is_sub_within f.subs ≡ true
   pub booked_within : (sub : ℕ) → booked_in f sub ≤ most_burst
+  pub show_count : length f.shows ≤ most_shows
   pub host_count : length f.hosts ≤ most_hosts
-  pub slot_count : length f.slots ≤ most_slots

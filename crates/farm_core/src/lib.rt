@@ -4,6 +4,7 @@
 mod apply;
 mod booking;
 mod change;
+mod copies;
 mod demo;
 mod farm;
 mod fault;

@@ -12,7 +12,7 @@ impl Farm {
         requires { host < length self.now.hosts }
         ensures { result ≡ used_on self.now host }
     {
-        let slots = self.slots.as_slice();
+        let slots = self.jobs.slots();
         (Cores(cores_used(slots, host)), Kb(memory_used(slots, host)))
     }
 
@@ -20,7 +20,7 @@ impl Farm {
     pub fn booked(&self, sub: SubNo) -> Cores
         ensures { result ≡ booked_in self.now sub }
     {
-        Cores(cores_booked(self.slots.as_slice(), sub))
+        Cores(cores_booked(self.jobs.slots(), sub))
     }
 }
 

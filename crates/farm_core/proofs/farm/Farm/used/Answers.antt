@@ -5,8 +5,8 @@ use Rattle.farm_core.proofs.farm.Farm.used.Goals as goal
 
 pub cores_used-requires : goal.cores_used-requires
 cores_used-requires c =
-    rw c.as_slice-slots.ensures.value (omega (arith, used_cores_within _ c.args.host c.self.invariant (subst (λ (f : Farm). c.args.host < length f.hosts) (sym c.self.view_is) c.requires)))
+    rw c.slots-slots.ensures.value (omega (arith, used_cores_within _ c.args.host c.self.invariant (subst (λ (f : Farm). c.args.host < length f.hosts) (sym c.self.view_is) c.requires)))
 
 pub memory_used-requires : goal.memory_used-requires
 memory_used-requires c =
-    rw c.as_slice-slots.ensures.value (omega (arith, used_memory_within _ c.args.host c.self.invariant (subst (λ (f : Farm). c.args.host < length f.hosts) (sym c.self.view_is) c.requires)))
+    rw c.slots-slots.ensures.value (omega (arith, used_memory_within _ c.args.host c.self.invariant (subst (λ (f : Farm). c.args.host < length f.hosts) (sym c.self.view_is) c.requires)))
