@@ -35,7 +35,7 @@ waits_alone None proc h = absurd (false≢true h)
 waits_alone (Some frame) None h = refl
 waits_alone (Some frame) (Some p) h = absurd (false≢true h)
 
-fresh_sum : (weight : Option ProcRow → ℕ) → weight None ≡ 0 → (ss : List SlotRow) → list_all is_fresh ss ≡ true → sum_by (λ (s : SlotRow). weight s.proc) ss ≡ 0
+pub fresh_sum : (weight : Option ProcRow → ℕ) → weight None ≡ 0 → (ss : List SlotRow) → list_all is_fresh ss ≡ true → sum_by (λ (s : SlotRow). weight s.proc) ss ≡ 0
 fresh_sum weight none [] all = refl
 fresh_sum weight none (s ∷ ss) all =
     let both = and_both (is_fresh s) (list_all is_fresh ss) all in

@@ -17,7 +17,7 @@ use Rattle.farm_core.specs.declared.change.Effect.{Effect}
 use Rattle.farm_core.specs.declared.change.Effect.TheVariants.{Opened, Heard, Submit, Book}
 use Rattle.farm_core.specs.Change.{IsBooking, Fits}
 use Rattle.farm_core.specs.Consistent.{IsConsistent, is_host_within, is_sub_within, most_burst}
-use Rattle.farm_core.proofs.Lists.{list_all-at, list_all-from_at, find_passes}
+use Rattle.farm_core.proofs.Lists.{and_both, list_all-at, list_all-from_at, find_passes}
 use Rattle.farm_core.proofs.Changed.{changed_at_each, mapped_each, length-changed_at}
 use Rattle.farm_core.proofs.CanBook.{Rows, CanBook, can_book, new_proc_is}
 use Rattle.farm_core.proofs.Hosts.{moment_sound, heard_sound, opened_sound, reopened_amounts}
@@ -90,7 +90,7 @@ module _ (f : Farm) (slot host moment : ℕ) (r : Rows) (can : CanBook f slot ho
   burst_within : (n : ℕ) (same : Bool) → eqb (sub_of r.job.show r.host.alloc) n ≡ same → booked_in f n + cond same r.layer.cores 0 ≤ most_burst
   burst_within n true e =
       let here : sub_of r.job.show r.host.alloc ≡ n = eqb-true (sub_of r.job.show r.host.alloc) n e in
-      let within : r.sub.burst ≤ most_burst = leb-true _ _ (find_passes (λ s. eqb s.sub (sub_of r.job.show r.host.alloc)) is_sub_within f.subs r.sub ok.subs_within can.sub_is) in
+      let within : r.sub.burst ≤ most_burst = leb-true _ _ (and_both _ _ (find_passes (λ s. eqb s.sub (sub_of r.job.show r.host.alloc)) is_sub_within f.subs r.sub ok.subs_within can.sub_is)).0 in
       subst (λ (k : ℕ). booked_in f k + r.layer.cores ≤ most_burst) here (omega (arith, can.burst, within))
   burst_within n false e = omega (arith, ok.booked_within n)
 

@@ -5,4 +5,5 @@ pub mod Fresh
 pub mod Inside
 pub mod Order
 pub mod Reads
+pub mod Totals
 pub mod Turned

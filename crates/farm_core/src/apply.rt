@@ -130,7 +130,11 @@ impl Farm {
         let Some(frame) = &row.frame else {
             unreachable!()
         };
+        let Some(live) = &row.proc else {
+            unreachable!()
+        };
         let judged = self.judged_frame(item.exit, frame);
+        self.sums.remove(live);
         turn(&mut self.jobs, slot, &judged, row.version, None);
     }
 
@@ -154,7 +158,9 @@ impl Farm {
             unreachable!()
         };
         let running = running(frame);
-        turn(&mut self.jobs, slot, &running, proc.version, Some(proc));
+        let version = proc.version;
+        self.sums.add(&proc);
+        turn(&mut self.jobs, slot, &running, version, Some(proc));
     }
 }
 

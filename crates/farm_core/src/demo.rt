@@ -6,6 +6,7 @@ ghost use Rattle.farm_types.specs.Demo.{demo_farm, demo_host};
 ghost use Rattle.farm_core.specs.DemoJob.{demo_lists, demo_spec, demo_layer_spec, demo_numbers};
 
 use crate::farm::Farm;
+use crate::sums::Sums;
 use farm_types::{
     AllocNo, AllocRow, Cores, HostRow, HostState, Items, JobNo, JobSpec, Kb, LayerSpec, LockState,
     ShowNo, ShowRow, Slot, SubNo, SubRow, Text,
@@ -32,6 +33,7 @@ pub fn demo_farm(alloc: Global, moment: u64) -> Result<Farm, AllocError>
         )?,
         hosts: Vec::from_array(alloc, [host_of(alloc, moment)?])?,
         jobs: jobs_of(alloc)?,
+        sums: Sums::make(alloc, 1)?,
         next_depend: 1,
         next_finish: 1,
         moment,

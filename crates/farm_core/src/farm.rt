@@ -5,6 +5,7 @@ ghost use Rattle.farm_types.specs.Farm.{job_at, layer_at, sub_at};
 ghost use Rattle.farm_types.specs.Step.{lists_of};
 ghost use Rattle.farm_core.specs.Reads.{live_at};
 
+use crate::sums::Sums;
 use farm_types::{
     AllocNo, AllocRow, HostNo, HostRow, JobNo, JobRow, LayerRow, ProcRow, ShowNo, ShowRow, Slot,
     SlotRow, SubNo, SubRow,
@@ -13,6 +14,7 @@ use job_book::Jobs;
 use std::marker::Model;
 
 /// The farm's rows, each list in the order of its numbers, its jobs with their layers and slots, and its counters.
+/// Beside them are kept the sums of what live attempts use.
 #[derive(Debug, Drop)]
 pub struct Farm {
     pub(crate) shows: Vec<ShowRow>,
@@ -20,6 +22,7 @@ pub struct Farm {
     pub(crate) subs: Vec<SubRow>,
     pub(crate) hosts: Vec<HostRow>,
     pub(crate) jobs: Jobs,
+    pub(crate) sums: Sums,
     pub(crate) next_depend: u64,
     pub(crate) next_finish: u64,
     pub(crate) moment: u64,
@@ -31,11 +34,11 @@ impl Model for Farm {
 
     ghost Value = { types.Farm };
 
-    ghost use Rattle.farm_core.specs.Inside.{farm_of, KeepsConsistent};
+    ghost use Rattle.farm_core.specs.Inside.{farm_of, KeepsFarm};
 
     ghost view = { farm_of };
 
-    ghost invariant = { KeepsConsistent };
+    ghost invariant = { KeepsFarm };
 }
 
 impl Farm {

@@ -16,6 +16,7 @@ mod rank;
 mod sums;
 #[cfg(test)]
 mod tests;
+mod used;
 mod verdict;
 
 pub use change::{Answer, Change};
