@@ -12,7 +12,7 @@ use Rattle.farm_types.specs.Farm.{Farm}
 use Rattle.farm_types.specs.Sums.{cores_on, memory_on, cores_in}
 use Rattle.farm_types.specs.Booking.{is_waiting}
 use Rattle.farm_types.specs.Run.{IsAttemptOf, HasItsAttempt, OnHostOf}
-use Rattle.farm_core.specs.Consistent.{IsConsistent, is_host_within, is_sub_within, most_hosts, most_slots}
+use Rattle.farm_core.specs.Consistent.{IsConsistent, is_host_within, is_sub_within, most_shows, most_hosts}
 use Rattle.farm_core.specs.Fresh.{waits, is_fresh}
 use Rattle.farm_core.proofs.Lists.{and_both, list_all-at}
 
@@ -35,15 +35,15 @@ waits_alone None proc h = absurd (false≢true h)
 waits_alone (Some frame) None h = refl
 waits_alone (Some frame) (Some p) h = absurd (false≢true h)
 
-fresh_sum : (weight : Option ProcRow → ℕ) → weight None ≡ 0 → (ss : List SlotRow) → list_all is_fresh ss ≡ true → sum_by (λ (s : SlotRow). weight s.proc) ss ≡ 0
+pub fresh_sum : (weight : Option ProcRow → ℕ) → weight None ≡ 0 → (ss : List SlotRow) → list_all is_fresh ss ≡ true → sum_by (λ (s : SlotRow). weight s.proc) ss ≡ 0
 fresh_sum weight none [] all = refl
 fresh_sum weight none (s ∷ ss) all =
     let both = and_both (is_fresh s) (list_all is_fresh ss) all in
     let first : weight s.proc ≡ 0 = ap weight (waits_alone s.frame s.proc both.0) ∙ none in
     omega (arith, sum_by-cons (λ (x : SlotRow). weight x.proc) s ss, first, fresh_sum weight none ss both.1)
 
-pub fresh_consistent : (f : Farm) → list_all is_fresh f.slots ≡ true → list_all is_host_within f.hosts ≡ true → list_all is_sub_within f.subs ≡ true → length f.hosts ≤ most_hosts → length f.slots ≤ most_slots → IsConsistent f
-fresh_consistent f fresh hosts subs host_count slot_count =
+pub fresh_consistent : (f : Farm) → list_all is_fresh f.slots ≡ true → list_all is_host_within f.hosts ≡ true → list_all is_sub_within f.subs ≡ true → length f.shows ≤ most_shows → length f.hosts ≤ most_hosts → IsConsistent f
+fresh_consistent f fresh hosts subs show_count host_count =
     record {
       sound = record {
         cores = λ n h at. omega (arith, fresh_sum (cores_on n) refl f.slots fresh);
@@ -54,6 +54,6 @@ fresh_consistent f fresh hosts subs host_count slot_count =
       hosts_within = hosts;
       subs_within = subs;
       booked_within = λ sub. omega (arith, fresh_sum (cores_in sub) refl f.slots fresh);
+      show_count = show_count;
       host_count = host_count;
-      slot_count = slot_count;
     }

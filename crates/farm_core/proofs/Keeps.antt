@@ -1,24 +1,29 @@
 -- Each change keeps the farm consistent.
 use Rattle.std.proofs.Common.{◌≡◌, ℕ, ◌+◌, ◌≤◌, Bool, true, false, cond, eqb, map, List, Some, refl, sym, subst, ◌∙◌, arith}
-use Rattle.std.specs.List.{slice_get, slice_set}
+use Rattle.std.specs.List.{slice_get}
 use Rattle.std.proofs.lemmas.Bool.{leb-true, eqb-true}
 use Rattle.std.proofs.lemmas.List.{length-map}
 use Rattle.std.proofs.lemmas.Option.{same_Some}
 use Rattle.farm_types.specs.declared.attempt.Exit.{Exit}
 use Rattle.farm_types.specs.declared.attempt.ProcRow.{ProcRow}
+use Rattle.farm_types.specs.declared.job.JobSpec.{JobSpec}
 use Rattle.farm_types.specs.declared.rows.HostRow.{HostRow}
 use Rattle.farm_types.specs.declared.slot_row.SlotRow.{SlotRow}
 use Rattle.farm_types.specs.Farm.{Farm, changed_at, sub_of}
+use Rattle.farm_types.specs.Jobs.{with_job, frames_of}
 use Rattle.farm_types.specs.Sums.{booked_in, cores_in}
-use Rattle.farm_types.specs.Step.{heard_row, reopened_row, booked_row, proc_of, at_moment, ended_row}
-use Rattle.farm_core.specs.Change.{IsBooking}
+use Rattle.farm_types.specs.Step.{heard_row, reopened_row, booked_row, proc_of, at_moment, ended_row, lists_of, with_lists}
+use Rattle.farm_core.specs.declared.change.Effect.{Effect}
+use Rattle.farm_core.specs.declared.change.Effect.TheVariants.{Opened, Heard, Submit, Book}
+use Rattle.farm_core.specs.Change.{IsBooking, Fits}
 use Rattle.farm_core.specs.Consistent.{IsConsistent, is_host_within, is_sub_within, most_burst}
-use Rattle.farm_core.proofs.Lists.{list_all-at, list_all-from_at, find_passes}
-use Rattle.farm_core.proofs.Changed.{changed_at_each, mapped_each, length-changed_at, changed_at_is}
+use Rattle.farm_core.proofs.Lists.{and_both, list_all-at, list_all-from_at, find_passes}
+use Rattle.farm_core.proofs.Changed.{changed_at_each, mapped_each, length-changed_at}
 use Rattle.farm_core.proofs.CanBook.{Rows, CanBook, can_book, new_proc_is}
 use Rattle.farm_core.proofs.Hosts.{moment_sound, heard_sound, opened_sound, reopened_amounts}
 use Rattle.farm_core.proofs.Booked.{booked_sound, booked_hosts, booked_of}
 use Rattle.farm_core.proofs.Ended.{ended_sound, ended_hosts, ended_sum}
+use Rattle.farm_core.proofs.Placed.{placed_sum, submit_sound, submit_hosts}
 
 pub moment_consistent : (f : Farm) (moment : ℕ) → IsConsistent f → IsConsistent (at_moment f moment)
 moment_consistent f moment ok =
@@ -29,7 +34,7 @@ moment_consistent f moment ok =
       subs_within = ok.subs_within;
       booked_within = ok.booked_within;
       host_count = ok.host_count;
-      slot_count = ok.slot_count;
+      show_count = ok.show_count;
     }
 
 pub heard_consistent : (f : Farm) (host seq moment : ℕ) → IsConsistent f → IsConsistent (record f { hosts = changed_at f.hosts host (heard_row seq moment) })
@@ -46,7 +51,7 @@ heard_consistent f host seq moment ok =
       subs_within = ok.subs_within;
       booked_within = ok.booked_within;
       host_count = omega (arith, count, ok.host_count);
-      slot_count = ok.slot_count;
+      show_count = ok.show_count;
     }
 
 reopened_within : (moment : ℕ) (h : HostRow) → is_host_within h ≡ true → is_host_within (reopened_row moment h) ≡ true
@@ -66,7 +71,7 @@ opened_consistent f moment ok =
       subs_within = ok.subs_within;
       booked_within = ok.booked_within;
       host_count = omega (arith, count, ok.host_count);
-      slot_count = ok.slot_count;
+      show_count = ok.show_count;
     }
 
 pub ended_consistent : (f : Farm) (slot : ℕ) (exit : Exit) → IsConsistent f → IsConsistent (record f { slots = changed_at f.slots slot (ended_row f exit) })
@@ -78,14 +83,14 @@ ended_consistent f slot exit ok =
       subs_within = ok.subs_within;
       booked_within = λ sub. omega (arith, ended_sum f slot exit (cores_in sub) refl, ok.booked_within sub);
       host_count = ok.host_count;
-      slot_count = omega (arith, length-changed_at f.slots slot (ended_row f exit), ok.slot_count);
+      show_count = ok.show_count;
     }
 
 module _ (f : Farm) (slot host moment : ℕ) (r : Rows) (can : CanBook f slot host r) (ok : IsConsistent f) where
   burst_within : (n : ℕ) (same : Bool) → eqb (sub_of r.job.show r.host.alloc) n ≡ same → booked_in f n + cond same r.layer.cores 0 ≤ most_burst
   burst_within n true e =
       let here : sub_of r.job.show r.host.alloc ≡ n = eqb-true (sub_of r.job.show r.host.alloc) n e in
-      let within : r.sub.burst ≤ most_burst = leb-true _ _ (find_passes (λ s. eqb s.sub (sub_of r.job.show r.host.alloc)) is_sub_within f.subs r.sub ok.subs_within can.sub_is) in
+      let within : r.sub.burst ≤ most_burst = leb-true _ _ (and_both _ _ (find_passes (λ s. eqb s.sub (sub_of r.job.show r.host.alloc)) is_sub_within f.subs r.sub ok.subs_within can.sub_is)).0 in
       subst (λ (k : ℕ). booked_in f k + r.layer.cores ≤ most_burst) here (omega (arith, can.burst, within))
   burst_within n false e = omega (arith, ok.booked_within n)
 
@@ -98,7 +103,7 @@ module _ (f : Farm) (slot host moment : ℕ) (r : Rows) (can : CanBook f slot ho
         subs_within = ok.subs_within;
         booked_within = λ n. subst (λ (k : ℕ). k ≤ most_burst) (sym (booked_of f slot host moment r can ok.sound n)) (burst_within n (eqb (sub_of r.job.show r.host.alloc) n) refl);
         host_count = ok.host_count;
-        slot_count = omega (arith, length-changed_at f.slots slot (booked_row (proc_of slot host moment r.slot r.job r.layer r.host)), ok.slot_count);
+        show_count = ok.show_count;
       }
 
 pub book_consistent : (f : Farm) (slot : ℕ) (p : ProcRow) → IsBooking f slot p → IsConsistent f → IsConsistent (record f { slots = changed_at f.slots slot (booked_row p) })
@@ -107,13 +112,22 @@ book_consistent f slot p ready ok =
     let made : proc_of slot p.host p.since can.0.slot can.0.job can.0.layer can.0.host ≡ p = same_Some _ _ (sym (new_proc_is f slot p.host p.since can.0 can.1) ∙ ready.made) in
     subst (λ (x : ProcRow). IsConsistent (record f { slots = changed_at f.slots slot (booked_row x) })) made (booked_consistent f slot p.host p.since can.0 can.1 ok)
 
--- the same where the slot's row is set
-pub set_booked_consistent : (f : Farm) (slot : ℕ) (p : ProcRow) (row : SlotRow) → IsBooking f slot p → slice_get f.slots slot ≡ Some row → IsConsistent f → IsConsistent (record f { slots = slice_set f.slots slot (booked_row p row) })
-set_booked_consistent f slot p row ready at ok = subst (λ (ss : List SlotRow). IsConsistent (record f { slots = ss })) (changed_at_is f.slots slot (booked_row p) row at) (book_consistent f slot p ready ok)
+-- a job is placed
+pub placed_consistent : (f : Farm) (show : ℕ) (spec : JobSpec) → IsConsistent f → IsConsistent (with_lists f (with_job (lists_of f) show spec))
+placed_consistent f show spec ok =
+    record {
+      sound = submit_sound f spec (Some show) ok.sound;
+      hosted = submit_hosts f spec (Some show) ok.hosted;
+      hosts_within = ok.hosts_within;
+      subs_within = ok.subs_within;
+      booked_within = λ sub. omega (arith, placed_sum (cores_in sub) refl f.slots (frames_of f.next_job 0 spec.layers), ok.booked_within sub);
+      show_count = ok.show_count;
+      host_count = ok.host_count;
+    }
 
-pub set_ended_consistent : (f : Farm) (slot : ℕ) (exit : Exit) (row : SlotRow) → slice_get f.slots slot ≡ Some row → IsConsistent f → IsConsistent (record f { slots = slice_set f.slots slot (ended_row f exit row) })
-set_ended_consistent f slot exit row at ok = subst (λ (ss : List SlotRow). IsConsistent (record f { slots = ss })) (changed_at_is f.slots slot (ended_row f exit) row at) (ended_consistent f slot exit ok)
-
--- a booking that fits the farm fits it at another moment
-pub moment_booking : (f : Farm) (moment slot : ℕ) (p : ProcRow) → IsBooking f slot p → IsBooking (at_moment f moment) slot p
-moment_booking f moment slot p ready = record { allowed = ready.allowed; made = ready.made }
+-- what fits the farm fits it at another moment
+pub moment_fits : (f : Farm) (moment : ℕ) (e : Effect) → Fits f e → Fits (at_moment f moment) e
+moment_fits f moment Opened fits = tt
+moment_fits f moment (Heard host boot seq done) fits = fits
+moment_fits f moment (Submit placing spec) fits = record { limits = fits.limits; accepted = fits.accepted; placed = fits.placed }
+moment_fits f moment (Book slot p) fits = record { allowed = fits.allowed; made = fits.made }

@@ -2,10 +2,13 @@ pub mod Booked
 pub mod CanBook
 pub mod Changed
 pub mod Count
+pub mod DemoKept
+pub mod DemoLimits
 pub mod Ended
 pub mod FreshFarm
 pub mod Hosts
 pub mod Keeps
+pub mod Kept
 pub mod Lists
 pub mod Once
 pub mod Ordered
@@ -13,4 +16,6 @@ pub mod Placed
 pub mod Ranks
 pub mod SafeRuns
 pub mod Spent
+pub mod Totals
+pub mod Turned
 pub mod Within

@@ -30,6 +30,15 @@ slice_get_below [] n h = absurd (omega arith)
 slice_get_below (y ∷ ys) zero h = (y, refl)
 slice_get_below (y ∷ ys) (suc n) h = slice_get_below ys n (omega arith)
 
+found_step : {X : Type 0} (wanted : X → Bool) (b : Bool) (y x : X) (ys : List X) → wanted y ≡ b → (find wanted ys ≡ Some x → wanted x ≡ true) → find wanted (y ∷ ys) ≡ Some x → wanted x ≡ true
+found_step wanted true y x ys is later at = subst (λ z. wanted z ≡ true) (same_Some y x (rw is at at)) is
+found_step wanted false y x ys is later at = later (rw is at at)
+
+-- what is found is as it was wanted
+pub found_is : {X : Type 0} (wanted : X → Bool) (xs : List X) (x : X) → find wanted xs ≡ Some x → wanted x ≡ true
+found_is wanted [] x at = absurd (none-some x at)
+found_is wanted (y ∷ ys) x at = found_step wanted (wanted y) y x ys refl (found_is wanted ys x) at
+
 find_step : {X : Type 0} (wanted test : X → Bool) (b : Bool) (y x : X) (ys : List X) → wanted y ≡ b → test y ≡ true → (find wanted ys ≡ Some x → test x ≡ true) → find wanted (y ∷ ys) ≡ Some x → test x ≡ true
 find_step wanted test true y x ys is here later at = subst (λ z. test z ≡ true) (same_Some y x (rw is at at)) here
 find_step wanted test false y x ys is here later at = later (rw is at at)

@@ -18,8 +18,3 @@ pub used_cores_within : (f : Farm) (host : ℕ) → IsConsistent f → host < le
 used_cores_within f host ok there =
     let row = slice_get_below f.hosts host there in
     omega (arith, ok.sound.cores host row.0 row.1, (row_within f host row.0 ok row.1).0)
-
-pub used_memory_within : (f : Farm) (host : ℕ) → IsConsistent f → host < length f.hosts → used_memory f host ≤ 1000000000000
-used_memory_within f host ok there =
-    let row = slice_get_below f.hosts host there in
-    omega (arith, ok.sound.memory host row.0 row.1, (row_within f host row.0 ok row.1).1)

@@ -3,6 +3,7 @@ use Rattle.std.specs.Prelude.{[]}
 use Rattle.farm_types.specs.Farm.{Farm}
 use Rattle.farm_core.specs.declared.farm.Farm.TheInside.{Inside}
 use Rattle.farm_core.specs.Consistent.{IsConsistent}
+use Rattle.farm_core.specs.Totals.{Totals, KeepsTotals}
 
 -- its lists and counters, and no depends: no entry of today makes one
 abbrev pub farm_of : Inside → Farm
@@ -12,17 +13,22 @@ farm_of a =
       allocs = a.allocs.items;
       subs = a.subs.items;
       hosts = a.hosts.items;
-      jobs = a.jobs.items;
-      layers = a.layers.items;
-      slots = a.slots.items;
+      jobs = a.jobs.jobs;
+      layers = a.jobs.layers;
+      slots = a.jobs.slots;
       depends = [];
       met = [];
-      next_job = a.next_job;
+      next_job = a.jobs.next_job;
       next_depend = a.next_depend;
       next_finish = a.next_finish;
       moment = a.moment;
       marked = a.marked;
     }
 
-abbrev pub KeepsConsistent : Inside → Type 0
-KeepsConsistent a = IsConsistent (farm_of a)
+-- the farm is consistent, and the totals are its own
+pub record IsKept (f : Farm) (t : Totals) : Type 0 where
+  pub consistent : IsConsistent f
+  pub totals : KeepsTotals f t
+
+abbrev pub KeepsFarm : Inside → Type 0
+KeepsFarm a = IsKept (farm_of a) a.sums

@@ -1,17 +1,20 @@
 //! Reserves and applies a change that was prepared.
 
-ghost use Rattle.std.specs.Prelude.{◌≡◌, ◌<◌, length, map, option_map, slice_set, OnOk, OnErr};
-ghost use Rattle.farm_types.specs.declared.slot_row.FrameRow.{FrameRow};
+ghost use Rattle.std.specs.Prelude.{◌≡◌, ◌<◌, length, map, true, OnOk, OnErr};
 ghost use Rattle.farm_types.specs.declared.states.FrameState.TheVariants as frame_state;
 ghost use Rattle.farm_types.specs.Farm.{changed_at};
-ghost use Rattle.farm_types.specs.Step.{at_moment, reopened_row, heard_row, booked_row, end_attempt, end_all};
-ghost use Rattle.farm_core.specs.Change.{IsReady, IsBooking, IsReserved, reserved_of, after_change, answer_of};
+ghost use Rattle.farm_types.specs.Jobs.{with_job};
+ghost use Rattle.farm_types.specs.Step.{at_moment, reopened_row, heard_row, booked_row, end_attempt, end_all, lists_of, with_lists};
+ghost use Rattle.job_book.specs.Book.{has_frame};
+ghost use Rattle.farm_core.specs.Change.{IsReady, Fits, IsBooking, IsPlacement, IsReserved, spare_of, reserved_of, after_effect, after_change, answer_by, answer_of};
+ghost use Rattle.farm_core.specs.Turned.{row_with};
 
 use crate::change::{Answer, Change, Effect};
 use crate::farm::Farm;
 use farm_types::{
-    DoneItem, FrameRow, FrameState, HostNo, HostRow, HostState, ProcRow, Slot, SlotRow,
+    DoneItem, FrameRow, FrameState, HostNo, HostRow, HostState, ProcRow, Slot, Version,
 };
+use job_book::{JobSpare, Jobs, Placing};
 use std::alloc::{AllocError, Global};
 
 impl Farm {
@@ -21,12 +24,12 @@ impl Farm {
         ensures ok { OnOk result (change.new ≡ reserved_of change.old) }
         ensures err { OnErr result (change.new ≡ change.old) }
     {
-        if let Effect::Submit { .. } = &change.effect {
-            let _alloc = alloc;
-            return Err(AllocError);
-        }
+        let spare = match &change.effect {
+            Effect::Submit { spec, .. } => Some(self.jobs.reserve(alloc, spec)?),
+            _ => None,
+        };
         change.reserved = true;
-        change.spare = None;
+        change.spare = spare;
         Ok(())
     }
 
@@ -38,13 +41,18 @@ impl Farm {
         ensures answer { result ≡ answer_of change }
         ensures hosts { length self.new.hosts ≡ length self.old.hosts }
     {
-        let Change {
-            moment,
-            effect,
-            reserved: _,
-            spare,
-        } = change;
-        self.come_to(moment);
+        self.come_to(change.moment);
+        self.act(change.moment, change.effect, change.spare)
+    }
+
+    // What the effect does at the moment, with the memory that was taken for it.
+    fn act(&mut self, moment: u64, effect: Effect, spare: Option<JobSpare>) -> Answer
+        requires fits { Fits self.old effect }
+        requires spare { spare ≡ spare_of effect }
+        ensures farm { self.new ≡ after_effect self.old moment effect }
+        ensures answer { result ≡ answer_by effect }
+        ensures hosts { length self.new.hosts ≡ length self.old.hosts }
+    {
         match effect {
             Effect::Opened => {
                 self.reopen(moment);
@@ -61,11 +69,13 @@ impl Farm {
                 Answer::Heard
             }
             Effect::Submit {
-                placing: _,
-                spec: _,
+                placing,
+                spec: _spec,
             } => {
-                let Some(_spare) = spare else { unreachable!() };
-                unreachable!()
+                let Some(spare) = spare else { unreachable!() };
+                let frames = placing.frames;
+                self.place(spare, placing);
+                Answer::Submitted { frames }
             }
             Effect::Book { slot, proc } => {
                 self.book(slot, proc);
@@ -113,11 +123,27 @@ impl Farm {
         if !self.is_live(host, boot, item.attempt) {
             return;
         }
-        let Some(row) = self.slot(item.attempt.slot) else {
-            return;
+        let slot = item.attempt.slot;
+        let Some(row) = self.slot(slot) else {
+            unreachable!()
         };
-        let ended = self.ended_row(item.exit, &row);
-        set_row(&mut self.slots, item.attempt.slot, ended);
+        let Some(frame) = &row.frame else {
+            unreachable!()
+        };
+        let Some(live) = &row.proc else {
+            unreachable!()
+        };
+        let judged = self.judged_frame(item.exit, frame);
+        self.sums.remove(live);
+        turn(&mut self.jobs, slot, &judged, row.version, None);
+    }
+
+    // The job is placed, in the memory that was taken for it.
+    fn place(&mut self, spare: JobSpare, placing: Placing)
+        requires { IsPlacement self.old placing spare }
+        ensures { self.new ≡ with_lists self.old (with_job (lists_of self.old) placing.show spare) }
+    {
+        self.jobs.place(spare, placing);
     }
 
     // The slot's frame runs, with that attempt.
@@ -126,10 +152,15 @@ impl Farm {
         ensures { self.new ≡ record self.old { slots = changed_at self.old.slots slot (booked_row proc) } }
     {
         let Some(row) = self.slot(slot) else {
-            return;
+            unreachable!()
         };
-        let booked = booked_row(proc, &row);
-        set_row(&mut self.slots, slot, booked);
+        let Some(frame) = &row.frame else {
+            unreachable!()
+        };
+        let running = running(frame);
+        let version = proc.version;
+        self.sums.add(&proc);
+        turn(&mut self.jobs, slot, &running, version, Some(proc));
     }
 }
 
@@ -162,35 +193,20 @@ fn hear_at(hosts: &mut Vec<HostRow>, host: HostNo, seq: u64, moment: u64)
     row.state = HostState::Up;
 }
 
-// What stands in the slot is set.
-fn set_row(slots: &mut Vec<SlotRow>, slot: Slot, row: SlotRow)
-    requires { slot < length slots.old.items }
-    ensures { slots.new.items ≡ slice_set slots.old.items slot row }
+// The slot's frame goes into the state and the retries of this one, and the slot to a version, with that attempt or none.
+fn turn(jobs: &mut Jobs, slot: Slot, frame: &FrameRow, version: Version, proc: Option<ProcRow>)
+    requires { has_frame jobs.old slot ≡ true }
+    ensures { jobs.new ≡ record jobs.old { slots = changed_at jobs.old.slots slot (row_with frame.now.state frame.now.retries version proc) } }
 {
-    slots[slot.0 as usize] = row;
-}
-
-// The slot with that attempt: its version is the attempt's, and its frame runs.
-fn booked_row(proc: ProcRow, row: &SlotRow) -> SlotRow
-    ensures { result ≡ booked_row proc row.now }
-{
-    SlotRow {
-        version: proc.version,
-        frame: running(&row.frame),
-        proc: Some(proc),
-    }
+    jobs.set_state(slot, frame.state, version, frame.retries);
+    jobs.set_proc(slot, proc);
 }
 
 // The frame as one that runs.
-fn running(frame: &Option<FrameRow>) -> Option<FrameRow>
-    ensures { result ≡ option_map (λ (x : FrameRow). record x { state = frame_state.Running }) frame.now }
+fn running(frame: &FrameRow) -> FrameRow
+    ensures { result ≡ record frame.now { state = frame_state.Running } }
 {
-    match frame {
-        None => None,
-        Some(frame) => {
-            let mut running = *frame;
-            running.state = FrameState::Running;
-            Some(running)
-        }
-    }
+    let mut running = *frame;
+    running.state = FrameState::Running;
+    running
 }

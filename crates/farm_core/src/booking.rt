@@ -1,10 +1,11 @@
 //! When a frame may be booked on a host.
 
-ghost use Rattle.std.specs.Prelude.{◌≡◌, ◌<◌, ◌++◌, ◌∷◌, [], length, true, option_copied, bytes_eq, IfSome};
+ghost use Rattle.std.specs.Prelude.{◌≡◌, ◌<◌, ◌++◌, ◌∷◌, [], length, true, is_some, option_copied, bytes_eq, IfSome};
 ghost use Rattle.std.specs.List.{list_any};
 ghost use Rattle.farm_types.specs.Farm.{sub_at, sub_of};
 ghost use Rattle.farm_types.specs.Depends.{is_open};
-ghost use Rattle.farm_types.specs.Booking.{is_ready, in_facility, takes_frames, has_room, within_burst, may_place, may_record, may_book, tags_match, share_tag, tags_of};
+ghost use Rattle.farm_types.specs.Booking.{is_waiting, is_ready, in_facility, takes_frames, has_room, within_burst, may_place, may_record, may_book, tags_match, share_tag, tags_of};
+ghost use Rattle.farm_core.specs.Reads.{rows_share_tag};
 
 use crate::farm::Farm;
 use farm_types::{
@@ -20,29 +21,48 @@ impl Farm {
     pub fn may_record(&self, slot: Slot, host: HostNo) -> bool
         ensures { result ≡ may_record self.now slot host }
     {
-        let Some(row) = self.slot(slot) else {
-            return false;
-        };
-        let Some(frame) = &row.frame else {
-            return false;
-        };
-        let Some(job) = self.job(frame.job) else {
-            return false;
-        };
-        let Some(layer) = self.layer(frame.job, frame.layer) else {
-            return false;
-        };
-        let Some(h) = self.host(host) else {
-            return false;
-        };
-        self.may_place(slot, host, row.version, frame, job, layer, h)
+        self.booking(slot, host).is_some()
     }
 
     /// Whether the slot's frame may be booked on the host.
     pub fn may_book(&self, slot: Slot, host: HostNo) -> bool
         ensures { result ≡ may_book self.now slot host }
     {
-        self.may_record(slot, host) && self.tags_match(slot, host)
+        match self.booking(slot, host) {
+            None => false,
+            Some((layer, h)) => self.tags_match(layer, h),
+        }
+    }
+
+    // The layer and the host's row, where a booking of the slot's frame on the host may be recorded. A frame that
+    // doesn't wait is seen before the others are looked up.
+    fn booking(&self, slot: Slot, host: HostNo) -> Option<(&LayerRow, &HostRow)>
+        ensures allowed { is_some result ≡ may_record self.now slot host }
+        ensures tags { IfSome result (λ rows. tags_match self.now slot host ≡ rows_share_tag self.now rows.0.now rows.1.now) }
+    {
+        let Some(row) = self.slot(slot) else {
+            return None;
+        };
+        let Some(frame) = &row.frame else {
+            return None;
+        };
+        if !is_waiting(frame.state) {
+            return None;
+        }
+        let Some(job) = self.job(frame.job) else {
+            return None;
+        };
+        let Some(layer) = self.layer(frame.job, frame.layer) else {
+            return None;
+        };
+        let Some(h) = self.host(host) else {
+            return None;
+        };
+        if self.may_place(slot, host, row.version, frame, job, layer, h) {
+            Some((layer, h))
+        } else {
+            None
+        }
     }
 
     // The subscription of the show to the allocation.
@@ -117,34 +137,29 @@ impl Farm {
         }
     }
 
-    // Whether the tags of the slot's layer and those of the host share a word.
-    fn tags_match(&self, slot: Slot, host: HostNo) -> bool
-        ensures { result ≡ tags_match self.now slot host }
+    // Whether the tags of the layer and those of the host share a word.
+    fn tags_match(&self, layer: &LayerRow, h: &HostRow) -> bool
+        ensures { result ≡ rows_share_tag self.now layer.now h.now }
     {
-        let Some(row) = self.slot(slot) else {
-            return false;
-        };
-        let Some(frame) = row.frame else {
-            return false;
-        };
-        let Some(layer) = self.layer(frame.job, frame.layer) else {
-            return false;
-        };
-        let Some(h) = self.host(host) else {
-            return false;
-        };
-        let Some(a) = self.allocation(h.alloc) else {
-            return false;
-        };
-        share_tag(layer, h, a)
+        match self.allocation(h.alloc) {
+            None => false,
+            Some(a) => share_tag(layer, h, a),
+        }
     }
+}
+
+// Whether a frame of that state waits.
+fn is_waiting(state: FrameState) -> bool
+    ensures { result ≡ is_waiting state }
+{
+    matches!(state, FrameState::Waiting)
 }
 
 // Whether the frame waits below the last version, and its job is pending and not paused.
 fn is_ready(version: Version, frame: &FrameRow, job: &JobRow) -> bool
     ensures { result ≡ is_ready version frame.now job.now }
 {
-    matches!(frame.state, FrameState::Waiting)
+    is_waiting(frame.state)
         && version.0 < LAST_VERSION
         && matches!(job.state, JobState::Pending)
         && !job.paused

@@ -2,13 +2,16 @@
 
 ghost use Rattle.std.specs.Prelude.{◌≡◌, ◌<◌, IfOk};
 ghost use Rattle.farm_types.specs.Run.{IsSound, HasItsHosts};
-ghost use Rattle.farm_types.specs.Demo.{demo_farm, demo_host, demo_job, demo_layer, demo_slots, demo_slot};
+ghost use Rattle.farm_types.specs.Demo.{demo_farm, demo_host};
+ghost use Rattle.farm_core.specs.DemoJob.{demo_lists, demo_spec, demo_layer_spec, demo_numbers};
 
 use crate::farm::Farm;
+use crate::sums::Sums;
 use farm_types::{
-    AllocNo, AllocRow, Cores, FrameRow, FrameState, HostRow, HostState, Items, JobNo, JobRow,
-    JobState, Kb, LayerRow, LockState, ShowNo, ShowRow, SlotRow, SubNo, SubRow, Text, Version,
+    AllocNo, AllocRow, Cores, HostRow, HostState, Items, JobNo, JobSpec, Kb, LayerSpec, LockState,
+    ShowNo, ShowRow, Slot, SubNo, SubRow, Text,
 };
+use job_book::{Jobs, Placing};
 use std::alloc::{AllocError, Global};
 
 /// The farm of the demonstration, as it is opened at a moment (seconds): host `h1` of eight cores, and the job
@@ -29,10 +32,8 @@ pub fn demo_farm(alloc: Global, moment: u64) -> Result<Farm, AllocError>
             }],
         )?,
         hosts: Vec::from_array(alloc, [host_of(alloc, moment)?])?,
-        jobs: Vec::from_array(alloc, [job_of(alloc)?])?,
-        layers: Vec::from_array(alloc, [layer_of(alloc)?])?,
-        slots: slots_of(alloc)?,
-        next_job: 2,
+        jobs: jobs_of(alloc)?,
+        sums: Sums::make(alloc, 1)?,
         next_depend: 1,
         next_finish: 1,
         moment,
@@ -78,14 +79,32 @@ fn host_of(alloc: Global, moment: u64) -> Result<HostRow, AllocError>
     })
 }
 
-// The job.
-fn job_of(alloc: Global) -> Result<JobRow, AllocError>
-    ensures { IfOk result (λ j. j ≡ demo_job) }
+// The book with the job alone, of show 0, in slots 0 to 9.
+fn jobs_of(alloc: Global) -> Result<Jobs, AllocError>
+    ensures { IfOk result (λ b. b ≡ demo_lists) }
 {
-    Ok(JobRow {
-        job: JobNo(1),
+    let mut jobs = Jobs::make(alloc)?;
+    let spec = spec_of(alloc)?;
+    let spare = jobs.reserve(alloc, &spec)?;
+    jobs.place(
+        spare,
+        Placing {
+            job: JobNo(1),
+            show: ShowNo(0),
+            first: Slot(0),
+            frames: 10,
+        },
+    );
+    Ok(jobs)
+}
+
+// The job as it is submitted.
+fn spec_of(alloc: Global) -> Result<JobSpec, AllocError>
+    ensures { IfOk result (λ job. job ≡ demo_spec) }
+{
+    Ok(JobSpec {
         name: Text::from_str(alloc, "demo-job")?,
-        show: ShowNo(0),
+        show: Text::from_str(alloc, "demo")?,
         facility: Text::from_str(alloc, "farm")?,
         shot: Text::from_str(alloc, "")?,
         user: Text::from_str(alloc, "")?,
@@ -93,23 +112,18 @@ fn job_of(alloc: Global) -> Result<JobRow, AllocError>
         max_retries: 3,
         auto_eat: false,
         paused: false,
-        state: JobState::Pending,
-        frames: 10,
-        finish: 0,
-        eaten: 0,
-        succeeded: 0,
+        layers: Items::from_vec(Vec::from_array(alloc, [layer_of(alloc)?])?),
     })
 }
 
 // The job's layer.
-fn layer_of(alloc: Global) -> Result<LayerRow, AllocError>
-    ensures { IfOk result (λ l. l ≡ demo_layer) }
+fn layer_of(alloc: Global) -> Result<LayerSpec, AllocError>
+    ensures { IfOk result (λ layer. layer ≡ demo_layer_spec) }
 {
-    Ok(LayerRow {
-        job: JobNo(1),
-        place: 0,
+    Ok(LayerSpec {
         name: Text::from_str(alloc, "render")?,
         range: Text::from_str(alloc, "1-10")?,
+        numbers: numbers_of(alloc)?,
         command: Text::from_str(alloc, "echo #IFRAME#")?,
         cores: Cores(100),
         memory: Kb(3355443),
@@ -117,42 +131,9 @@ fn layer_of(alloc: Global) -> Result<LayerRow, AllocError>
     })
 }
 
-// The slots of the layer's ten frames.
-fn slots_of(alloc: Global) -> Result<Vec<SlotRow>, AllocError>
-    ensures { IfOk result (λ slots. slots.items ≡ demo_slots 10) }
+// The numbers of the layer's frames.
+fn numbers_of(alloc: Global) -> Result<Items<i32>, AllocError>
+    ensures { IfOk result (λ numbers. numbers ≡ demo_numbers) }
 {
-    Vec::from_slice(
-        alloc,
-        &[
-            slot_of(0),
-            slot_of(1),
-            slot_of(2),
-            slot_of(3),
-            slot_of(4),
-            slot_of(5),
-            slot_of(6),
-            slot_of(7),
-            slot_of(8),
-            slot_of(9),
-        ],
-    )
-}
-
-// The slot of the waiting frame at a position, which is numbered from 1.
-fn slot_of(position: u32) -> SlotRow
-    requires { position < 10 }
-    ensures { result ≡ demo_slot position }
-{
-    SlotRow {
-        version: Version(0),
-        frame: Some(FrameRow {
-            job: JobNo(1),
-            layer: 0,
-            position,
-            number: position as i32 + 1,
-            retries: 0,
-            state: FrameState::Waiting,
-        }),
-        proc: None,
-    }
+    Ok(Items::from_vec(Vec::from_slice(alloc, &[1, 2, 3, 4, 5, 6, 7, 8, 9, 10])?))
 }

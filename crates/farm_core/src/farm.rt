@@ -2,26 +2,27 @@
 
 ghost use Rattle.std.specs.Prelude.{◌≡◌, ◌≤◌, length, slice_get, option_copied};
 ghost use Rattle.farm_types.specs.Farm.{job_at, layer_at, sub_at};
+ghost use Rattle.farm_types.specs.Step.{lists_of};
 ghost use Rattle.farm_core.specs.Reads.{live_at};
 
+use crate::sums::Sums;
 use farm_types::{
     AllocNo, AllocRow, HostNo, HostRow, JobNo, JobRow, LayerRow, ProcRow, ShowNo, ShowRow, Slot,
     SlotRow, SubNo, SubRow,
 };
+use job_book::Jobs;
 use std::marker::Model;
 
-/// The farm's rows, each list in the order of its numbers, and its counters. `slots` ends with the last slot that
-/// was ever used.
+/// The farm's rows, each list in the order of its numbers, its jobs with their layers and slots, and its counters.
+/// Beside them are kept the sums of what live attempts use.
 #[derive(Debug, Drop)]
 pub struct Farm {
     pub(crate) shows: Vec<ShowRow>,
     pub(crate) allocs: Vec<AllocRow>,
     pub(crate) subs: Vec<SubRow>,
     pub(crate) hosts: Vec<HostRow>,
-    pub(crate) jobs: Vec<JobRow>,
-    pub(crate) layers: Vec<LayerRow>,
-    pub(crate) slots: Vec<SlotRow>,
-    pub(crate) next_job: u64,
+    pub(crate) jobs: Jobs,
+    pub(crate) sums: Sums,
     pub(crate) next_depend: u64,
     pub(crate) next_finish: u64,
     pub(crate) moment: u64,
@@ -33,11 +34,11 @@ impl Model for Farm {
 
     ghost Value = { types.Farm };
 
-    ghost use Rattle.farm_core.specs.Inside.{farm_of, KeepsConsistent};
+    ghost use Rattle.farm_core.specs.Inside.{farm_of, KeepsFarm};
 
     ghost view = { farm_of };
 
-    ghost invariant = { KeepsConsistent };
+    ghost invariant = { KeepsFarm };
 }
 
 impl Farm {
@@ -53,7 +54,14 @@ impl Farm {
         ensures value { result.now ≡ self.now.slots }
         ensures count { length result.now ≤ 65536 }
     {
-        self.slots.as_slice()
+        self.jobs.slots()
+    }
+
+    /// The jobs, their layers and the slots.
+    pub fn jobs(&self) -> &Jobs
+        ensures { result.now ≡ lists_of self.now }
+    {
+        &self.jobs
     }
 
     /// The show of that number.
@@ -88,23 +96,21 @@ impl Farm {
     pub fn job(&self, job: JobNo) -> Option<&JobRow>
         ensures { option_copied result ≡ job_at self.now job }
     {
-        self.jobs.iter().find(|j| j.job == job)
+        self.jobs.job(job)
     }
 
     /// The layer at that place (from 0) of a job.
     pub fn layer(&self, job: JobNo, place: u32) -> Option<&LayerRow>
         ensures { option_copied result ≡ layer_at self.now job place }
     {
-        self.layers
-            .iter()
-            .find(|l| l.job == job && l.place == place)
+        self.jobs.layer(job, place)
     }
 
     /// What stands in a slot, none past the last that was ever used.
     pub(crate) fn slot(&self, slot: Slot) -> Option<SlotRow>
         ensures { result ≡ slice_get self.now.slots slot }
     {
-        self.slots.get(slot.0 as usize).copied()
+        self.jobs.row(slot)
     }
 
     /// The live attempt of a slot.

@@ -4,6 +4,7 @@
 mod apply;
 mod booking;
 mod change;
+mod copies;
 mod demo;
 mod farm;
 mod fault;
@@ -15,6 +16,7 @@ mod rank;
 mod sums;
 #[cfg(test)]
 mod tests;
+mod used;
 mod verdict;
 
 pub use change::{Answer, Change};

@@ -1,11 +1,11 @@
-//! Hosts by name, and whether an attempt is live.
+//! Hosts and shows by name, facilities, and whether an attempt is live.
 
 ghost use Rattle.std.specs.Prelude.{◌≡◌, ◌<◌, ◌≤◌, length, IfSome};
-ghost use Rattle.farm_types.specs.Farm.{host_named, host_from};
+ghost use Rattle.farm_types.specs.Farm.{host_named, host_from, show_named, show_from, has_facility};
 ghost use Rattle.farm_types.specs.Step.{is_live, is_attempt};
 
 use crate::farm::Farm;
-use farm_types::{Attempt, HostNo, HostRow, ProcRow, Version};
+use farm_types::{Attempt, HostNo, HostRow, ProcRow, ShowNo, ShowRow, Text, Version};
 
 impl Farm {
     /// The number of the first host of that name.
@@ -14,6 +14,20 @@ impl Farm {
         ensures within { IfSome result (λ host. host < length self.now.hosts) }
     {
         host_in(self.hosts.as_slice(), name)
+    }
+
+    /// The number of the first show of that name.
+    pub fn show_named(&self, name: &str) -> Option<ShowNo>
+        ensures { result ≡ show_named self.now name.now }
+    {
+        show_in(self.shows.as_slice(), name)
+    }
+
+    /// Whether an allocation has the facility.
+    pub fn has_facility(&self, facility: &Text) -> bool
+        ensures { result ≡ has_facility self.now facility.now }
+    {
+        self.allocs.iter().any(|a| a.facility.is(facility.as_str()))
     }
 
     /// Whether the attempt is live, on that host in that boot of it.
@@ -39,6 +53,19 @@ fn host_in(hosts: &[HostRow], name: &str) -> Option<HostNo>
     for (place, row) in hosts.iter().enumerate() {
         if row.name.is(name) {
             return Some(HostNo(place as u16));
+        }
+    }
+    None
+}
+
+// The place of the first show of that name.
+fn show_in(shows: &[ShowRow], name: &str) -> Option<ShowNo>
+    requires { length shows.now ≤ 65536 }
+    ensures { result ≡ show_from 0 name.now shows.now }
+{
+    for (place, row) in shows.iter().enumerate() {
+        if row.name.is(name) {
+            return Some(ShowNo(place as u16));
         }
     }
     None

@@ -2,16 +2,19 @@
 
 ghost use Rattle.std.specs.Prelude.{◌≡◌, true, IfOk, Some};
 ghost use Rattle.farm_types.specs.Booking.{may_record};
+ghost use Rattle.farm_types.specs.SpecLimits.{JobKeepsLimits};
 ghost use Rattle.farm_types.specs.Step.{HasCondition, KeepsLimits, moment_of, new_proc};
 ghost use Rattle.farm_types.specs.declared.entry.Act.TheVariants as act;
 ghost use Rattle.farm_core.specs.Change.{Prepares, Makes, IsUnknown};
 
 use crate::change::{Change, Effect};
+use crate::copies::copy_of_job;
 use crate::farm::Farm;
 use crate::fault::PrepareFault;
 use farm_types::{
-    Act, DoneItem, Entry, HeardAct, HostNo, Items, ProcRow, Refusal, Slot, Text, Version,
+    Act, DoneItem, Entry, HeardAct, HostNo, Items, JobSpec, ProcRow, Refusal, Slot, Text, Version,
 };
+use job_book::JobFault;
 use std::alloc::{AllocError, Global};
 
 impl Farm {
@@ -30,7 +33,7 @@ impl Farm {
                 spare: None,
             }),
             Act::Heard(heard) => self.prepare_heard(alloc, entry.moment, heard),
-            Act::Submit(_) => Err(PrepareFault::NoMemory),
+            Act::Submit(spec) => self.prepare_submit(alloc, entry.moment, spec),
             Act::Book { slot, host } => Ok(self.prepare_book(entry.moment, *slot, *host)),
         }
     }
@@ -67,6 +70,38 @@ impl Farm {
                 boot: heard.boot,
                 seq: heard.seq,
                 done: copy_of(alloc, &heard.done)?,
+            },
+            reserved: false,
+            spare: None,
+        })
+    }
+
+    // Prepares that a job is placed, of the show and the facility that its spec names.
+    fn prepare_submit(
+        &self,
+        alloc: Global,
+        moment: u64,
+        spec: &JobSpec,
+    ) -> Result<Change, PrepareFault>
+        requires { JobKeepsLimits spec.now }
+        ensures { Prepares self.now (record { moment = moment; act = act.Submit spec.now }) result }
+    {
+        let Some(show) = self.show_named(spec.show.as_str()) else {
+            return Err(unknown(alloc, &spec.show));
+        };
+        if !self.has_facility(&spec.facility) {
+            return Err(unknown(alloc, &spec.facility));
+        }
+        let placing = match self.jobs.check(alloc, spec, show) {
+            Ok(placing) => placing,
+            Err(JobFault::Refused { why }) => return Err(PrepareFault::Refused { why }),
+            Err(JobFault::NoMemory) => return Err(PrepareFault::NoMemory),
+        };
+        Ok(Change {
+            moment: self.moment_of(moment),
+            effect: Effect::Submit {
+                placing,
+                spec: copy_of_job(alloc, spec)?,
             },
             reserved: false,
             spare: None,

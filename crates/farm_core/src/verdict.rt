@@ -2,11 +2,11 @@
 
 ghost use Rattle.std.specs.Prelude.{◌≡◌};
 ghost use Rattle.farm_types.specs.Farm.{job_at};
-ghost use Rattle.farm_types.specs.Step.{judged, verdict_for, ended_row};
+ghost use Rattle.farm_types.specs.Step.{judged, verdict_for};
 ghost use Rattle.farm_types.specs.Verdict.{verdict_of};
 
 use crate::farm::Farm;
-use farm_types::{Exit, FrameRow, FrameState, SlotRow, Verdict};
+use farm_types::{Exit, FrameRow, FrameState, Verdict};
 
 /// The status of a process that asks for another try, which counts as no retry.
 const TRY_AGAIN: u32 = 286;
@@ -15,19 +15,11 @@ const TRY_AGAIN: u32 = 286;
 const GIVEN_UP: u32 = 256;
 
 impl Farm {
-    // The slot without its attempt, its frame judged by the exit.
-    pub(crate) fn ended_row(&self, exit: Exit, row: &SlotRow) -> SlotRow
-        ensures { result ≡ ended_row self.now exit row.now }
+    // The frame as the exit of its attempt leaves it.
+    pub(crate) fn judged_frame(&self, exit: Exit, frame: &FrameRow) -> FrameRow
+        ensures { result ≡ judged frame.now (verdict_for exit frame.now (job_at self.now frame.now.job)) }
     {
-        let frame = match &row.frame {
-            None => None,
-            Some(frame) => Some(judged(frame, self.verdict_for(exit, frame))),
-        };
-        SlotRow {
-            version: row.version,
-            frame,
-            proc: None,
-        }
+        judged(frame, self.verdict_for(exit, frame))
     }
 
     // The verdict by the job's greatest number of retries and whether it eats its failures.

@@ -1,0 +1,27 @@
+//! What live attempts use of a host and of a subscription, as the kept sums say it.
+
+ghost use Rattle.std.specs.Prelude.{◌≡◌, ◌<◌, length};
+ghost use Rattle.farm_types.specs.Sums.{used_on, booked_in};
+
+use crate::farm::Farm;
+use farm_types::{Cores, HostNo, Kb, SubNo};
+
+impl Farm {
+    /// The cores and the memory that live attempts use on a host that is there.
+    pub fn used(&self, host: HostNo) -> (Cores, Kb)
+        requires { host < length self.now.hosts }
+        ensures { result ≡ used_on self.now host }
+    {
+        (
+            Cores(self.sums.cores(host) as u32),
+            Kb(self.sums.memory(host)),
+        )
+    }
+
+    /// The cores that are booked of a subscription.
+    pub fn booked(&self, sub: SubNo) -> Cores
+        ensures { result ≡ booked_in self.now sub }
+    {
+        Cores(self.sums.booked(sub) as u32)
+    }
+}
