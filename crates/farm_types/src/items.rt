@@ -34,6 +34,14 @@ impl<T> Items<T> {
         Items { vec }
     }
 
+    /// The items as a vector, with no copy.
+    pub fn into_vec(self) -> Vec<T>
+        ensures { result.items ≡ self }
+    {
+        let Items { vec } = self;
+        vec
+    }
+
     /// How many items there are.
     pub fn len(&self) -> usize
         ensures { result ≡ length self.now }

@@ -1,8 +1,11 @@
 //! A job as it is submitted.
 
+ghost use Rattle.std.specs.Prelude.{◌≡◌, IfOk};
+
 use crate::items::Items;
 use crate::numbers::{Cores, Kb};
 use crate::text::Text;
+use std::alloc::{AllocError, Global};
 
 /// A job: its name, show and facility, shot and user (empty where none is said), its priority from 1 to
 /// 1,000,000, its greatest number of retries from 0 to 16, and its layers, which have 1 to 10,000 frames
@@ -32,4 +35,52 @@ pub struct LayerSpec {
     pub cores: Cores,
     pub memory: Kb,
     pub tags: Items<Text>,
+}
+
+impl JobSpec {
+    /// An equal job.
+    pub fn copy(&self, alloc: Global) -> Result<JobSpec, AllocError>
+        ensures { IfOk result (λ copy. copy ≡ self.now) }
+    {
+        Ok(JobSpec {
+            name: self.name.copy(alloc)?,
+            show: self.show.copy(alloc)?,
+            facility: self.facility.copy(alloc)?,
+            shot: self.shot.copy(alloc)?,
+            user: self.user.copy(alloc)?,
+            priority: self.priority,
+            max_retries: self.max_retries,
+            auto_eat: self.auto_eat,
+            paused: self.paused,
+            layers: copies_of_layers(alloc, self.layers.as_slice())?,
+        })
+    }
+}
+
+impl LayerSpec {
+    /// An equal layer.
+    pub fn copy(&self, alloc: Global) -> Result<LayerSpec, AllocError>
+        ensures { IfOk result (λ copy. copy ≡ self.now) }
+    {
+        Ok(LayerSpec {
+            name: self.name.copy(alloc)?,
+            range: self.range.copy(alloc)?,
+            numbers: Items::from_vec(Vec::from_slice(alloc, self.numbers.as_slice())?),
+            command: self.command.copy(alloc)?,
+            cores: self.cores,
+            memory: self.memory,
+            tags: self.tags.copy(alloc)?,
+        })
+    }
+}
+
+// Equal layers.
+fn copies_of_layers(alloc: Global, layers: &[LayerSpec]) -> Result<Items<LayerSpec>, AllocError>
+    ensures { IfOk result (λ copies. copies ≡ layers.now) }
+{
+    let mut copies = Items::new(alloc);
+    for layer in layers {
+        copies.push(layer.copy(alloc)?)?;
+    }
+    Ok(copies)
 }

@@ -4,6 +4,7 @@ ghost use Rattle.std.specs.Prelude.{◌≡◌, ◌++◌, List, ℕ, IfOk, OnOk, 
 ghost use Rattle.std.specs.Ordering.{is_lt, nat_cmp};
 ghost use Rattle.std.specs.Cmp.Lexicographic.{slice_cmp};
 
+use crate::items::Items;
 use std::alloc::{AllocError, Global};
 use std::marker::Model;
 
@@ -63,4 +64,24 @@ impl Text {
     {
         self.as_str() < other.as_str()
     }
+}
+
+impl Items<Text> {
+    /// Equal texts.
+    pub fn copy(&self, alloc: Global) -> Result<Items<Text>, AllocError>
+        ensures { IfOk result (λ copies. copies ≡ self.now) }
+    {
+        copies_of(alloc, self.as_slice())
+    }
+}
+
+// Equal texts.
+fn copies_of(alloc: Global, texts: &[Text]) -> Result<Items<Text>, AllocError>
+    ensures { IfOk result (λ copies. copies ≡ texts.now) }
+{
+    let mut copies = Items::new(alloc);
+    for text in texts {
+        copies.push(text.copy(alloc)?)?;
+    }
+    Ok(copies)
 }
