@@ -11,7 +11,6 @@ ghost use Rattle.job_spec.specs.Answers.{GivesSpec};
 
 use crate::amounts::{read_layer_cores, within};
 use crate::fault::SpecFault;
-use crate::tags::copied_tags;
 use farm_types::{Cores, Items, Kb, LayerForm, LayerSpec, Text};
 use frame_range::{FrameSet, RangeFault, parse_set};
 use std::alloc::{AllocError, Global};
@@ -88,7 +87,7 @@ fn made_layer(
         command: form.command.copy(alloc)?,
         cores,
         memory: Kb(form.memory),
-        tags: copied_tags(alloc, form.tags.as_slice())?,
+        tags: form.tags.copy(alloc)?,
     })
 }
 

@@ -50,14 +50,3 @@ pub fn default_tags(alloc: Global) -> Result<Items<Text>, AllocError>
     tags.push(Text::from_str(alloc, "general")?)?;
     Ok(tags)
 }
-
-/// Copies of tags.
-pub fn copied_tags(alloc: Global, tags: &[Text]) -> Result<Items<Text>, AllocError>
-    ensures { IfOk result (λ copies. copies ≡ tags.now) }
-{
-    let mut copies = Items::new(alloc);
-    for tag in tags {
-        copies.push(tag.copy(alloc)?)?;
-    }
-    Ok(copies)
-}
