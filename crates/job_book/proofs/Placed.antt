@@ -4,7 +4,7 @@ use Rattle.std.specs.Prelude.{nat_le, nat_lt, bytes_eq}
 use Rattle.std.specs.List.{sum_by, list_all, list_any, All}
 use Rattle.std.proofs.lemmas.List.{map_push, length-map}
 use Rattle.std.proofs.lemmas.List.Sums.{sum_by-cons, sum_by-append}
-use Rattle.std.proofs.lemmas.Bool.{false≢true, true≢false, ltb-false, ltb-true, lt-leb, le-leb, leb-true, leb-false, eqb-true, eq-eqb, ne_eqb, and_from}
+use Rattle.std.proofs.lemmas.Bool.{false≢true, true≢false, ltb-false, lt-ltb, lt-leb, le-leb, leb-true, leb-false, eqb-true, eq-eqb, ne_eqb, and_from}
 use Rattle.farm_types.specs.declared.job.JobSpec.{JobSpec}
 use Rattle.farm_types.specs.declared.job.LayerSpec.{LayerSpec}
 use Rattle.farm_types.specs.declared.refusal.Refusal.{Refusal}
@@ -21,7 +21,7 @@ use Rattle.farm_types.specs.SpecLimits.{JobKeepsLimits, LayerKeepsLimits}
 use Rattle.job_book.specs.declared.counts.Counts.{Counts}
 use Rattle.job_book.specs.Book.{is_in, count_in, counts_of, number_of}
 use Rattle.job_book.specs.Counting.{part, new_counts}
-use Rattle.job_book.specs.Inside.{IsBook, IsRising, job_key, layer_key, is_below, counts_for}
+use Rattle.job_book.specs.Inside.{IsBook, IsRising, job_key, layer_key, has_place, is_below, counts_for}
 use Rattle.job_book.proofs.FreeSlots.{free_cons}
 use Rattle.job_book.proofs.Lists.{and_both}
 use Rattle.job_book.proofs.Putting.{length-frames_of, length-frames_from}
@@ -188,6 +188,16 @@ layers_rising job p (l ∷ ls) few =
     let next : 4294967296 * job + p + 1 ≡ 4294967296 * job + (p + 1) = omega arith in
     (omega arith, subst (λ k. IsRising layer_key k (layer_rows job (p + 1) ls) (4294967296 * (job + 1))) (sym next) (layers_rising job (p + 1) ls (omega arith)))
 
+places_joined : (xs ys : List LayerRow) → list_all has_place xs ≡ true → list_all has_place ys ≡ true → list_all has_place (xs ++ ys) ≡ true
+places_joined [] ys first second = second
+places_joined (x ∷ xs) ys first second =
+    let both = and_both (has_place x) (list_all has_place xs) first in
+    and_from (has_place x) _ both.0 (places_joined xs ys both.1 second)
+
+places_rows : (job p : ℕ) (ls : List LayerSpec) → p + length ls ≤ 4294967296 → list_all has_place (layer_rows job p ls) ≡ true
+places_rows job p [] few = refl
+places_rows job p (l ∷ ls) few = and_from (nat_lt p 4294967296) _ (lt-ltb p 4294967296 (omega arith)) (places_rows job (p + 1) ls (omega arith))
+
 length-layer_rows : (job p : ℕ) (ls : List LayerSpec) → length (layer_rows job p ls) ≡ length ls
 length-layer_rows job p [] = refl
 length-layer_rows job p (l ∷ ls) = ap suc (length-layer_rows job (p + 1) ls)
@@ -275,6 +285,7 @@ module _ (b : JobLists) (show : ℕ) (spec : JobSpec) (limits : JobKeepsLimits s
         layers_rise =
             rising-append layer_key 0 (4294967296 * b.next_job) (4294967296 * (b.next_job + 1)) b.layers (layer_rows b.next_job 0 spec.layers) ok.layers_rise
             (subst (λ k. IsRising layer_key k (layer_rows b.next_job 0 spec.layers) (4294967296 * (b.next_job + 1))) from (layers_rising b.next_job 0 spec.layers (omega (arith, limits.layers_within.1))));
+        places_within = places_joined b.layers (layer_rows b.next_job 0 spec.layers) ok.places_within (places_rows b.next_job 0 spec.layers (omega (arith, limits.layers_within.1)));
         frames_below = all_placed (λ o. not (for_some o (λ x. nat_le (b.next_job + 1) x.job))) b.slots frames (all_later b.slots b.next_job ok.frames_below) new_below;
         jobs_fit = omega (arith, free, ok.jobs_fit, length-append b.jobs (job_row b.next_job show spec ∷ []), limits.frames_within.0);
         layers_fit = omega (arith, free, ok.layers_fit, length-append b.layers (layer_rows b.next_job 0 spec.layers), long, each);

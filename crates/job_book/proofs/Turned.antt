@@ -71,6 +71,7 @@ changed_book b slots i s change at e free below ok =
         next_within = ok.next_within;
         jobs_rise = ok.jobs_rise;
         layers_rise = ok.layers_rise;
+      places_within = ok.places_within;
         frames_below = list_all-changed (is_below b.next_job) slots i change was (λ x is. subst (λ (r : SlotRow). is_below b.next_job (change r) ≡ true) (same_Some s x (sym at ∙ is)) (below ∙ list_all-at (is_below b.next_job) slots i s was at));
         jobs_fit = rw (as_free, ← e) ok.jobs_fit;
         layers_fit = rw (as_free, ← e) ok.layers_fit;
