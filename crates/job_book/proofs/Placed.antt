@@ -1,13 +1,12 @@
 -- A job that isn't refused is placed: its frames have slots, and the book stays in order.
-use Rattle.std.proofs.Common.{◌≡◌, ℕ, zero, suc, ◌+◌, ◌-◌, ◌*◌, ◌<◌, ◌≤◌, ◌&&◌, not, Bool, true, false, cond, eqb, List, [], ◌∷◌, ◌++◌, length, map, Option, Some, None, is_none, ℤ, refl, sym, ap, subst, ◌∙◌, arith, length-append}
-use Rattle.std.specs.Prelude.{nat_le, nat_lt, bytes_eq}
+use Rattle.std.proofs.Common.{◌≡◌, ℕ, suc, ◌+◌, ◌-◌, ◌*◌, ◌<◌, ◌≤◌, ◌&&◌, not, Bool, true, false, cond, eqb, List, [], ◌∷◌, ◌++◌, length, map, Option, Some, None, is_none, ℤ, refl, sym, ap, subst, ◌∙◌, arith, length-append}
+use Rattle.std.specs.Prelude.{nat_le, nat_lt}
 use Rattle.std.specs.List.{sum_by, list_all, list_any, All}
 use Rattle.std.proofs.lemmas.List.{map_push, length-map}
 use Rattle.std.proofs.lemmas.List.Sums.{sum_by-cons, sum_by-append}
-use Rattle.std.proofs.lemmas.Bool.{false≢true, true≢false, ltb-false, lt-ltb, lt-leb, le-leb, leb-true, leb-false, eqb-true, eq-eqb, ne_eqb, and_from}
+use Rattle.std.proofs.lemmas.Bool.{false≢true, ltb-false, lt-ltb, lt-leb, leb-false, eq-eqb, ne_eqb, and_from}
 use Rattle.farm_types.specs.declared.job.JobSpec.{JobSpec}
 use Rattle.farm_types.specs.declared.job.LayerSpec.{LayerSpec}
-use Rattle.farm_types.specs.declared.refusal.Refusal.{Refusal}
 use Rattle.farm_types.specs.declared.rows.JobRow.{JobRow}
 use Rattle.farm_types.specs.declared.rows.LayerRow.{LayerRow}
 use Rattle.farm_types.specs.declared.slot_row.FrameRow.{FrameRow}
@@ -15,16 +14,15 @@ use Rattle.farm_types.specs.declared.slot_row.SlotRow.{SlotRow}
 use Rattle.farm_types.specs.declared.states.FrameState.{FrameState}
 use Rattle.farm_types.specs.declared.states.FrameState.TheVariants.{Waiting, Setup, Running, Succeeded, Depend, Dead, Eaten}
 use Rattle.farm_types.specs.Farm.{for_some, last_version}
-use Rattle.farm_types.specs.Jobs.{JobLists, is_free, free_among, free_in, slot_limit, slot_with, fresh_slot, place_frames, new_frame, frames_from, frames_of, job_row, layer_row, layer_rows, with_job, job_refusal, layers_refusal, room_refusal, repeated_name, is_pending_named, last_job}
+use Rattle.farm_types.specs.Jobs.{JobLists, is_free, free_among, free_in, slot_limit, slot_with, fresh_slot, place_frames, new_frame, frames_from, frames_of, job_row, layer_rows, with_job, job_refusal, layers_refusal, room_refusal, repeated_name, is_pending_named, last_job}
 use Rattle.farm_types.specs.Spec.{frames_in}
 use Rattle.farm_types.specs.SpecLimits.{JobKeepsLimits, LayerKeepsLimits}
-use Rattle.job_book.specs.declared.counts.Counts.{Counts}
 use Rattle.job_book.specs.Book.{is_in, count_in, counts_of, number_of}
 use Rattle.job_book.specs.Counting.{part, new_counts}
 use Rattle.job_book.specs.Inside.{IsBook, IsRising, job_key, layer_key, has_place, is_below, counts_for}
 use Rattle.job_book.proofs.FreeSlots.{free_cons}
 use Rattle.job_book.proofs.Lists.{and_both}
-use Rattle.job_book.proofs.Putting.{length-frames_of, length-frames_from}
+use Rattle.job_book.proofs.Putting.{length-frames_of}
 use Rattle.job_book.proofs.Turned.{same_counts, part_is}
 
 -- ---- how many slots there are, and how many of them are free

@@ -1,11 +1,10 @@
-use Rattle.std.proofs.Common.{◌≡◌, ◌<◌, ◌∙◌, length, is_some, true, Some, refl, sym, ap, arith, eqb}
-use Rattle.std.specs.List.{position_or_len, slice_get, find}
+use Rattle.std.proofs.Common.{◌∙◌, length, refl, sym, ap, arith, eqb}
+use Rattle.std.specs.List.{position_or_len}
 use Rattle.std.proofs.lemmas.List.{length-map}
 use Rattle.std.proofs.lemmas.Option.{slice_get_read}
 use Rattle.farm_types.specs.declared.rows.JobRow.{JobRow}
 use Rattle.farm_types.specs.Jobs.{JobLists}
 use Rattle.job_book.specs.Book.{counts_of, has_job}
-use Rattle.job_book.specs.Inside.{counts_for}
 use Rattle.job_book.proofs.Places.{has_place, at_place}
 use Rattle.job_book.proofs.jobs.Jobs.counts.Goals as goal
 

@@ -1,4 +1,4 @@
-use Rattle.std.proofs.Common.{◌≡◌, ◌∙◌, ◌&&◌, List, eqb, sym, ap}
+use Rattle.std.proofs.Common.{◌∙◌, ◌&&◌, List, eqb, sym, ap}
 use Rattle.std.specs.List.{slice_get}
 use Rattle.std.proofs.lemmas.List.Folds.{find_at}
 use Rattle.farm_types.specs.declared.rows.LayerRow.{LayerRow}

@@ -1,4 +1,4 @@
-use Rattle.std.proofs.Common.{◌≡◌, ◌<◌, ◌∙◌, List, length, eqb, Some, refl, sym, ap, subst, arith}
+use Rattle.std.proofs.Common.{◌≡◌, ◌∙◌, List, eqb, Some, refl, sym, ap, subst}
 use Rattle.std.specs.List.{slice_get, slice_set, position_or_len}
 use Rattle.std.proofs.lemmas.Option.{slice_get_within}
 use Rattle.farm_types.specs.declared.rows.JobRow.{JobRow}
@@ -6,7 +6,6 @@ use Rattle.farm_types.specs.declared.slot_row.SlotRow.{SlotRow}
 use Rattle.farm_types.specs.Farm.{changed_at}
 use Rattle.farm_types.specs.Jobs.{JobLists}
 use Rattle.job_book.specs.Book.{turned_row}
-use Rattle.job_book.specs.Counting.{moved}
 use Rattle.job_book.specs.Inside.{IsBook, book_of}
 use Rattle.job_book.proofs.Changed.{changed_at_is}
 use Rattle.job_book.proofs.Turned.{can_move, counts_turned, turned_book}
