@@ -6,4 +6,5 @@ pub mod Names
 pub mod Placed
 pub mod Places
 pub mod Putting
+pub mod Searched
 pub mod Turned

@@ -1,13 +1,12 @@
 -- A job that isn't refused is placed: its frames have slots, and the book stays in order.
-use Rattle.std.proofs.Common.{◌≡◌, ℕ, zero, suc, ◌+◌, ◌-◌, ◌*◌, ◌<◌, ◌≤◌, ◌&&◌, not, Bool, true, false, cond, eqb, List, [], ◌∷◌, ◌++◌, length, map, Option, Some, None, is_none, ℤ, refl, sym, ap, subst, ◌∙◌, arith, length-append}
-use Rattle.std.specs.Prelude.{nat_le, nat_lt, bytes_eq}
+use Rattle.std.proofs.Common.{◌≡◌, ℕ, suc, ◌+◌, ◌-◌, ◌*◌, ◌<◌, ◌≤◌, ◌&&◌, not, Bool, true, false, cond, eqb, List, [], ◌∷◌, ◌++◌, length, map, Option, Some, None, is_none, ℤ, refl, sym, ap, subst, ◌∙◌, arith, length-append}
+use Rattle.std.specs.Prelude.{nat_le, nat_lt}
 use Rattle.std.specs.List.{sum_by, list_all, list_any, All}
 use Rattle.std.proofs.lemmas.List.{map_push, length-map}
 use Rattle.std.proofs.lemmas.List.Sums.{sum_by-cons, sum_by-append}
-use Rattle.std.proofs.lemmas.Bool.{false≢true, true≢false, ltb-false, ltb-true, lt-leb, le-leb, leb-true, leb-false, eqb-true, eq-eqb, ne_eqb, and_from}
+use Rattle.std.proofs.lemmas.Bool.{false≢true, ltb-false, lt-ltb, lt-leb, leb-false, eq-eqb, ne_eqb, and_from}
 use Rattle.farm_types.specs.declared.job.JobSpec.{JobSpec}
 use Rattle.farm_types.specs.declared.job.LayerSpec.{LayerSpec}
-use Rattle.farm_types.specs.declared.refusal.Refusal.{Refusal}
 use Rattle.farm_types.specs.declared.rows.JobRow.{JobRow}
 use Rattle.farm_types.specs.declared.rows.LayerRow.{LayerRow}
 use Rattle.farm_types.specs.declared.slot_row.FrameRow.{FrameRow}
@@ -15,16 +14,15 @@ use Rattle.farm_types.specs.declared.slot_row.SlotRow.{SlotRow}
 use Rattle.farm_types.specs.declared.states.FrameState.{FrameState}
 use Rattle.farm_types.specs.declared.states.FrameState.TheVariants.{Waiting, Setup, Running, Succeeded, Depend, Dead, Eaten}
 use Rattle.farm_types.specs.Farm.{for_some, last_version}
-use Rattle.farm_types.specs.Jobs.{JobLists, is_free, free_among, free_in, slot_limit, slot_with, fresh_slot, place_frames, new_frame, frames_from, frames_of, job_row, layer_row, layer_rows, with_job, job_refusal, layers_refusal, room_refusal, repeated_name, is_pending_named, last_job}
+use Rattle.farm_types.specs.Jobs.{JobLists, is_free, free_among, free_in, slot_limit, slot_with, fresh_slot, place_frames, new_frame, frames_from, frames_of, job_row, layer_rows, with_job, job_refusal, layers_refusal, room_refusal, repeated_name, is_pending_named, last_job}
 use Rattle.farm_types.specs.Spec.{frames_in}
 use Rattle.farm_types.specs.SpecLimits.{JobKeepsLimits, LayerKeepsLimits}
-use Rattle.job_book.specs.declared.counts.Counts.{Counts}
 use Rattle.job_book.specs.Book.{is_in, count_in, counts_of, number_of}
 use Rattle.job_book.specs.Counting.{part, new_counts}
-use Rattle.job_book.specs.Inside.{IsBook, IsRising, job_key, layer_key, is_below, counts_for}
+use Rattle.job_book.specs.Inside.{IsBook, IsRising, job_key, layer_key, has_place, is_below, counts_for}
 use Rattle.job_book.proofs.FreeSlots.{free_cons}
 use Rattle.job_book.proofs.Lists.{and_both}
-use Rattle.job_book.proofs.Putting.{length-frames_of, length-frames_from}
+use Rattle.job_book.proofs.Putting.{length-frames_of}
 use Rattle.job_book.proofs.Turned.{same_counts, part_is}
 
 -- ---- how many slots there are, and how many of them are free
@@ -188,6 +186,16 @@ layers_rising job p (l ∷ ls) few =
     let next : 4294967296 * job + p + 1 ≡ 4294967296 * job + (p + 1) = omega arith in
     (omega arith, subst (λ k. IsRising layer_key k (layer_rows job (p + 1) ls) (4294967296 * (job + 1))) (sym next) (layers_rising job (p + 1) ls (omega arith)))
 
+places_joined : (xs ys : List LayerRow) → list_all has_place xs ≡ true → list_all has_place ys ≡ true → list_all has_place (xs ++ ys) ≡ true
+places_joined [] ys first second = second
+places_joined (x ∷ xs) ys first second =
+    let both = and_both (has_place x) (list_all has_place xs) first in
+    and_from (has_place x) _ both.0 (places_joined xs ys both.1 second)
+
+places_rows : (job p : ℕ) (ls : List LayerSpec) → p + length ls ≤ 4294967296 → list_all has_place (layer_rows job p ls) ≡ true
+places_rows job p [] few = refl
+places_rows job p (l ∷ ls) few = and_from (nat_lt p 4294967296) _ (lt-ltb p 4294967296 (omega arith)) (places_rows job (p + 1) ls (omega arith))
+
 length-layer_rows : (job p : ℕ) (ls : List LayerSpec) → length (layer_rows job p ls) ≡ length ls
 length-layer_rows job p [] = refl
 length-layer_rows job p (l ∷ ls) = ap suc (length-layer_rows job (p + 1) ls)
@@ -275,6 +283,7 @@ module _ (b : JobLists) (show : ℕ) (spec : JobSpec) (limits : JobKeepsLimits s
         layers_rise =
             rising-append layer_key 0 (4294967296 * b.next_job) (4294967296 * (b.next_job + 1)) b.layers (layer_rows b.next_job 0 spec.layers) ok.layers_rise
             (subst (λ k. IsRising layer_key k (layer_rows b.next_job 0 spec.layers) (4294967296 * (b.next_job + 1))) from (layers_rising b.next_job 0 spec.layers (omega (arith, limits.layers_within.1))));
+        places_within = places_joined b.layers (layer_rows b.next_job 0 spec.layers) ok.places_within (places_rows b.next_job 0 spec.layers (omega (arith, limits.layers_within.1)));
         frames_below = all_placed (λ o. not (for_some o (λ x. nat_le (b.next_job + 1) x.job))) b.slots frames (all_later b.slots b.next_job ok.frames_below) new_below;
         jobs_fit = omega (arith, free, ok.jobs_fit, length-append b.jobs (job_row b.next_job show spec ∷ []), limits.frames_within.0);
         layers_fit = omega (arith, free, ok.layers_fit, length-append b.layers (layer_rows b.next_job 0 spec.layers), long, each);

@@ -1,5 +1,5 @@
 -- Keys that rise, and what is at the place of one.
-use Rattle.std.proofs.Common.{◌≡◌, ℕ, suc, zero, ◌<◌, ◌≤◌, ◌+◌, Bool, true, false, cond, not, List, [], ◌∷◌, length, map, get_or, Option, is_some, Some, None, refl, sym, ap, subst, ◌∙◌, arith, eqb}
+use Rattle.std.proofs.Common.{◌≡◌, ℕ, suc, ◌<◌, ◌+◌, Bool, true, false, List, [], ◌∷◌, length, map, Option, is_some, Some, None, refl, sym, ap, arith, eqb}
 use Rattle.std.specs.List.{find, slice_get, position_or_len}
 use Rattle.std.proofs.lemmas.Bool.{false≢true, eqb-true, eqb-false, ne_eqb}
 use Rattle.farm_types.specs.Farm.{changed_at}

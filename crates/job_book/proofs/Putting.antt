@@ -1,7 +1,7 @@
 -- Frames put into free slots one after another are placed as the definition places them.
-use Rattle.std.proofs.Common.{◌≡◌, ℕ, zero, suc, ◌+◌, ◌-◌, ◌<◌, ◌≤◌, not, Bool, true, false, cond, List, [], ◌∷◌, ◌++◌, length, take, drop, Option, Some, None, get_or, ℤ, refl, sym, ap, subst, ◌∙◌, arith, append_assoc, append-nil, length-append, length-drop}
-use Rattle.std.specs.List.{slice_get, slice_set, prefix_len, sum_by}
-use Rattle.std.proofs.lemmas.List.{take-append-drop, length-take-le, set-append_right, take_more, take_all}
+use Rattle.std.proofs.Common.{◌≡◌, ℕ, suc, ◌+◌, ◌-◌, ◌<◌, ◌≤◌, not, Bool, true, false, cond, List, [], ◌∷◌, ◌++◌, length, take, drop, Some, None, get_or, ℤ, refl, sym, ap, subst, ◌∙◌, arith, append_assoc, append-nil, length-append, length-drop}
+use Rattle.std.specs.List.{slice_get, slice_set}
+use Rattle.std.proofs.lemmas.List.{take-append-drop, length-take-le, set-append_right, take_more}
 use Rattle.std.proofs.lemmas.List.Sums.{sum_by-cons, sum_by_more_le, prefix_len-le-length}
 use Rattle.farm_types.specs.declared.job.LayerSpec.{LayerSpec}
 use Rattle.farm_types.specs.declared.slot_row.FrameRow.{FrameRow}
@@ -9,7 +9,7 @@ use Rattle.farm_types.specs.declared.slot_row.SlotRow.{SlotRow}
 use Rattle.farm_types.specs.Jobs.{is_free, free_among, free_in, slot_limit, slot_with, fresh_slot, place_frames, new_frame, frames_from, frames_of}
 use Rattle.farm_types.specs.Spec.{frames_in}
 use Rattle.job_book.specs.Book.{first_free}
-use Rattle.job_book.specs.Puts.{Puts, HasRoom, free_from}
+use Rattle.job_book.specs.Puts.{Puts, free_from}
 use Rattle.job_book.proofs.FreeSlots.{set_in, push_in, slice_get_behind, place_none, free_cons}
 
 -- ---- one frame

@@ -1,11 +1,10 @@
 -- One slot whose frame stays or changes its state: what is free, and what is counted.
-use Rattle.std.proofs.Common.{◌≡◌, [], ◌∷◌, ℕ, ◌+◌, ◌-◌, ◌<◌, ◌≤◌, ◌*◌, ◌&&◌, not, Bool, true, false, cond, eqb, List, length, map, Option, Some, None, option_map, is_none, refl, sym, ap, subst, ◌∙◌, arith, get_or}
-use Rattle.std.specs.Prelude.{nat_le, nat_lt}
+use Rattle.std.proofs.Common.{◌≡◌, [], ◌∷◌, ℕ, ◌+◌, ◌-◌, ◌≤◌, ◌&&◌, true, false, cond, eqb, List, length, Option, Some, None, refl, sym, ap, subst, ◌∙◌, arith}
 use Rattle.std.specs.Option.{IfSome}
-use Rattle.std.specs.List.{slice_get, list_all, sum_by, position_or_len, count_by}
+use Rattle.std.specs.List.{slice_get, list_all, position_or_len}
 use Rattle.std.proofs.lemmas.Option.{slice_get_within, get_or_from_slice_get, same_Some}
 use Rattle.std.proofs.lemmas.List.Sums.{get_or-le-sum_by, count_by-le-length}
-use Rattle.std.proofs.lemmas.Bool.{false≢true, eq-eqb, eqb-true}
+use Rattle.std.proofs.lemmas.Bool.{eq-eqb}
 use Rattle.farm_types.specs.declared.attempt.ProcRow.{ProcRow}
 use Rattle.farm_types.specs.declared.rows.JobRow.{JobRow}
 use Rattle.farm_types.specs.declared.slot_row.FrameRow.{FrameRow}
@@ -16,7 +15,7 @@ use Rattle.farm_types.specs.Farm.{for_some, changed_at}
 use Rattle.farm_types.specs.Jobs.{JobLists, is_free, free_among, free_in}
 use Rattle.job_book.specs.declared.counts.Counts.{Counts}
 use Rattle.job_book.specs.Book.{is_in, count_in, counts_of, number_of, turned_row, attempted_row}
-use Rattle.job_book.specs.Counting.{one, part, moved, lowered, raised, CanMove}
+use Rattle.job_book.specs.Counting.{one, part, moved, CanMove}
 use Rattle.job_book.specs.Inside.{IsBook, IsRising, job_key, is_below, counts_for}
 use Rattle.job_book.proofs.Changed.{changed_at_sum, length-changed_at}
 use Rattle.job_book.proofs.Lists.{list_all-at, list_all-changed}
@@ -71,6 +70,7 @@ changed_book b slots i s change at e free below ok =
         next_within = ok.next_within;
         jobs_rise = ok.jobs_rise;
         layers_rise = ok.layers_rise;
+        places_within = ok.places_within;
         frames_below = list_all-changed (is_below b.next_job) slots i change was (λ x is. subst (λ (r : SlotRow). is_below b.next_job (change r) ≡ true) (same_Some s x (sym at ∙ is)) (below ∙ list_all-at (is_below b.next_job) slots i s was at));
         jobs_fit = rw (as_free, ← e) ok.jobs_fit;
         layers_fit = rw (as_free, ← e) ok.layers_fit;

@@ -1,5 +1,5 @@
 -- What the job book keeps true of its fields.
-use Rattle.std.specs.Prelude.{ℕ, ◌≡◌, ◌≤◌, ◌+◌, ◌*◌, List, [], ◌∷◌, map, length, Bool, true, not, nat_le}
+use Rattle.std.specs.Prelude.{ℕ, ◌≡◌, ◌≤◌, ◌+◌, ◌*◌, List, [], ◌∷◌, map, length, Bool, true, not, nat_le, nat_lt}
 use Rattle.std.specs.List.{list_all}
 use Rattle.std.specs.Vec.{vec_capacity}
 use Rattle.farm_types.specs.declared.rows.JobRow.{JobRow}
@@ -27,6 +27,10 @@ job_key j = j.job
 abbrev pub layer_key : LayerRow → ℕ
 layer_key l = 4294967296 * l.job + l.place
 
+-- a place of 32 bits, so that the key names the layer
+abbrev pub has_place : LayerRow → Bool
+has_place l = nat_lt l.place 4294967296
+
 -- the slot has no frame of a job of that number or a later one
 abbrev pub is_below : ℕ → SlotRow → Bool
 is_below next s = not (for_some s.frame (λ x. nat_le next x.job))
@@ -41,6 +45,7 @@ pub record IsBook (b : JobLists) : Type 0 where
   pub next_within : b.next_job ≤ 4294967296
   pub jobs_rise : IsRising job_key 0 b.jobs b.next_job
   pub layers_rise : IsRising layer_key 0 b.layers (4294967296 * b.next_job)
+  pub places_within : list_all has_place b.layers ≡ true
   pub frames_below : list_all (is_below b.next_job) b.slots ≡ true
   pub jobs_fit : length b.jobs + free_in b.slots ≤ slot_limit
   pub layers_fit : length b.layers + free_in b.slots ≤ slot_limit

@@ -7,7 +7,6 @@ ghost use Rattle.job_book.specs.Book.{has_frame, turned_row, attempted_row};
 
 use crate::counting::recount;
 use crate::jobs::Jobs;
-use crate::place_of::place_of;
 use farm_types::{FrameRow, FrameState, ProcRow, Slot, SlotRow, Version};
 
 impl Jobs {
@@ -22,7 +21,7 @@ impl Jobs {
         let Some(frame) = &row.frame else {
             unreachable!()
         };
-        let place = place_of(self.jobs.as_slice(), frame.job);
+        let place = self.place_of(frame.job);
         let turned = turned_row(&row, frame, state, version, retries);
         recount(&mut self.counts, place, frame.state, state);
         set_row(&mut self.slots, slot, turned);

@@ -3,8 +3,8 @@
 ghost use Rattle.std.specs.Prelude.{◌≡◌, ◌≤◌, IfOk};
 ghost use Rattle.std.specs.Vec.{vec_capacity};
 
-use crate::jobs::{Jobs, SLOT_LIMIT};
 use crate::counts::Counts;
+use crate::jobs::{Jobs, SLOT_LIMIT};
 use crate::reserve::copy_texts;
 use farm_types::{Items, JobRow, LayerRow, SlotRow};
 use std::alloc::{AllocError, Global};

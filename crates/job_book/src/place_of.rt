@@ -1,18 +1,54 @@
-//! Where a job stands.
+//! Where a job and a layer stand.
 
-ghost use Rattle.std.specs.Prelude.{◌≡◌, ◌==◌};
+ghost use Rattle.std.specs.Prelude.{◌≡◌, ◌==◌, ◌&&◌, ◌+◌, ◌*◌, ℕ};
 ghost use Rattle.std.specs.List.{position_or_len};
+ghost use Rattle.job_book.specs.Inside.{IsRising, job_key, layer_key};
 
-use farm_types::{JobNo, JobRow};
+use crate::jobs::Jobs;
+use farm_types::{JobNo, JobRow, LayerRow};
 
-/// The place of the job of that number, and how many jobs there are where it isn't among them.
-pub(crate) fn place_of(jobs: &[JobRow], job: JobNo) -> usize
-    ensures { result ≡ position_or_len (λ j. j.job == job) jobs.now }
-{
-    for (place, row) in jobs.iter().enumerate() {
-        if row.job == job {
-            return place;
-        }
+impl Jobs {
+    /// The place of the job of that number, and how many jobs there are where it isn't among them.
+    pub(crate) fn place_of(&self, job: JobNo) -> usize
+        ensures { result ≡ position_or_len (λ j. j.job == job) self.now.jobs }
+    {
+        place_in(self.jobs.as_slice(), job.0)
     }
-    jobs.len()
+
+    /// The place among all layers of the one at that place of a job, and how many layers there are where it isn't among
+    /// them.
+    pub(crate) fn layer_place_of(&self, job: JobNo, place: u32) -> usize
+        ensures { result ≡ position_or_len (λ l. l.job == job && l.place == place) self.now.layers }
+    {
+        layer_place_in(self.layers.as_slice(), key_of(job.0, place))
+    }
+}
+
+// The place of a number among jobs whose numbers rise.
+fn place_in(jobs: &[JobRow], job: u32) -> usize
+    requires { (high : ℕ) × IsRising job_key 0 jobs.now high }
+    ensures { result ≡ position_or_len (λ j. job_key j == job) jobs.now }
+{
+    match jobs.binary_search_by_key(&job, |j| j.job.0) {
+        Ok(place) => place,
+        Err(_) => jobs.len(),
+    }
+}
+
+// The place of a key among layers whose keys rise.
+fn layer_place_in(layers: &[LayerRow], key: u64) -> usize
+    requires { (high : ℕ) × IsRising layer_key 0 layers.now high }
+    ensures { result ≡ position_or_len (λ l. layer_key l == key) layers.now }
+{
+    match layers.binary_search_by_key(&key, |l| key_of(l.job.0, l.place)) {
+        Ok(place) => place,
+        Err(_) => layers.len(),
+    }
+}
+
+// The key by which layers are in order.
+fn key_of(job: u32, place: u32) -> u64
+    ensures { result ≡ 4294967296 * job + place }
+{
+    4294967296 * u64::from(job) + u64::from(place)
 }

@@ -7,7 +7,6 @@ ghost use Rattle.job_book.specs.Book.{job_named, frame_at, frame_view, state_at,
 use crate::counts::Counts;
 use crate::frame_view::FrameView;
 use crate::jobs::Jobs;
-use crate::place_of::place_of;
 use farm_types::{FrameRow, FrameState, JobNo, JobRow, LayerRow, Slot, SlotRow, Version};
 
 impl Jobs {
@@ -30,16 +29,14 @@ impl Jobs {
     pub fn job(&self, job: JobNo) -> Option<&JobRow>
         ensures { option_copied result ≡ find (λ j. j.job == job) self.now.jobs }
     {
-        self.jobs.iter().find(|j| j.job == job)
+        job_at(self.jobs.as_slice(), self.place_of(job))
     }
 
     /// The layer at that place (from 0) of a job.
     pub fn layer(&self, job: JobNo, place: u32) -> Option<&LayerRow>
         ensures { option_copied result ≡ find (λ l. l.job == job && l.place == place) self.now.layers }
     {
-        self.layers
-            .iter()
-            .find(|l| l.job == job && l.place == place)
+        layer_at(self.layers.as_slice(), self.layer_place_of(job, place))
     }
 
     /// The number of the first job of that name, finished ones too.
@@ -91,8 +88,22 @@ impl Jobs {
         requires { has_job self.now job ≡ true }
         ensures { result ≡ counts_of job self.now.slots }
     {
-        self.counts[place_of(self.jobs.as_slice(), job)]
+        self.counts[self.place_of(job)]
     }
+}
+
+// The job at a place of the list.
+fn job_at(jobs: &[JobRow], place: usize) -> Option<&JobRow>
+    ensures { option_copied result ≡ slice_get jobs.now place }
+{
+    jobs.get(place)
+}
+
+// The layer at a place of the list.
+fn layer_at(layers: &[LayerRow], place: usize) -> Option<&LayerRow>
+    ensures { option_copied result ≡ slice_get layers.now place }
+{
+    layers.get(place)
 }
 
 // The frame, with its slot's version.

@@ -24,7 +24,13 @@ pub(crate) fn frame_in(book: &Jobs, slot: u32) -> Option<(JobNo, u32, u32, i32, 
         None => None,
         Some(_) => {
             let frame = book.frame(slot);
-            Some((frame.job, frame.layer, frame.position, frame.number, frame.state))
+            Some((
+                frame.job,
+                frame.layer,
+                frame.position,
+                frame.number,
+                frame.state,
+            ))
         }
     }
 }

@@ -18,10 +18,11 @@ pub(crate) fn two_jobs(alloc: Global) -> Result<Jobs, Fail> {
     Ok(book)
 }
 
-// Frames stand layer by layer in range order.
+// Frames stand layer by layer in range order, in a copy too.
 #[test]
 fn frames_take_the_lowest_slots(rt: HostRuntime) -> Result<(), Fail> {
     let book = two_jobs(rt.alloc())?;
+    let copy = book.copy(rt.alloc())?;
     for (slot, job, layer, position, number) in [
         (0, 1, 0, 0, 10),
         (1, 1, 0, 1, 8),
@@ -31,6 +32,7 @@ fn frames_take_the_lowest_slots(rt: HostRuntime) -> Result<(), Fail> {
     ] {
         let frame = Some((JobNo(job), layer, position, number, FrameState::Waiting));
         assert!(rt; frame_in(&book, slot) == frame, "slot {slot}");
+        assert!(rt; frame_in(&copy, slot) == frame, "slot {slot} of the copy");
         assert!(rt;
             book.slot(JobNo(job), layer, position) == Some(Slot(slot)),
             "slot {slot}"

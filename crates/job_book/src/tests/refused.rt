@@ -26,7 +26,10 @@ fn names_are_new(rt: HostRuntime) -> Result<(), Fail> {
         ("shot-3", "light", "slot 5"),
     ] {
         let spec = spec_with(alloc, name, layer)?;
-        assert_eq!(rt; told(alloc, book.check(alloc, &spec, ShowNo(3)))?.as_str(), answer);
+        assert_eq!(rt;
+            told(alloc, book.check(alloc, &spec, ShowNo(3)))?.as_str(),
+            answer
+        );
     }
     Ok(())
 }
@@ -51,7 +54,10 @@ fn slots_come_before_numbers(rt: HostRuntime) -> Result<(), Fail> {
     ] {
         let book = spent_book(alloc, left, next_job)?;
         let spec = three_frames(alloc)?;
-        assert_eq!(rt; told(alloc, book.check(alloc, &spec, ShowNo(3)))?.as_str(), answer);
+        assert_eq!(rt;
+            told(alloc, book.check(alloc, &spec, ShowNo(3)))?.as_str(),
+            answer
+        );
     }
     Ok(())
 }

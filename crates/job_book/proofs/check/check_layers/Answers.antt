@@ -1,4 +1,4 @@
-use Rattle.std.proofs.Common.{◌≡◌, sym, arith}
+use Rattle.std.proofs.Common.{sym, arith}
 use Rattle.std.specs.Bool.{⊤}
 use Rattle.job_book.proofs.Names.{repeated_here, repeated_later, existing_refuses}
 use Rattle.job_book.proofs.check.check_layers.Goals as goal

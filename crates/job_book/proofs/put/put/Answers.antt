@@ -1,9 +1,8 @@
-use Rattle.std.proofs.Common.{◌≡◌, ◌+◌, ◌∙◌, ◌∷◌, [], ◌++◌, List, None, Some, length, drop, sym, ap, subst, arith}
+use Rattle.std.proofs.Common.{◌≡◌, ◌+◌, ◌∙◌, ◌∷◌, [], ◌++◌, List, None, Some, drop, sym, ap, subst, arith}
 use Rattle.std.proofs.lemmas.List.{length_push}
-use Rattle.std.proofs.lemmas.Option.{slice_get_within}
 use Rattle.std.specs.List.{slice_get, slice_set}
 use Rattle.farm_types.specs.declared.slot_row.SlotRow.{SlotRow}
-use Rattle.farm_types.specs.Jobs.{fresh_slot, slot_with}
+use Rattle.farm_types.specs.Jobs.{fresh_slot}
 use Rattle.job_book.specs.Book.{first_free}
 use Rattle.job_book.specs.Puts.{Puts}
 use Rattle.job_book.proofs.Putting.{put_set, put_push}

@@ -1,10 +1,6 @@
-use Rattle.std.proofs.Common.{◌≡◌, ◌≤◌, ◌+◌, ◌∙◌, ◌∷◌, [], ◌++◌, List, length, refl, sym, ap, subst, arith, rules}
-use Rattle.std.proofs.lemmas.Grind.{common_steps}
-use Rattle.farm_types.specs.declared.job.JobSpec.{JobSpec}
-use Rattle.farm_types.specs.declared.rows.JobRow.{JobRow}
+use Rattle.std.proofs.Common.{◌≡◌, ◌+◌, ◌∙◌, ◌∷◌, [], ◌++◌, length, refl, sym, ap, subst, arith}
 use Rattle.farm_types.specs.Jobs.{JobLists, free_in, job_row, layer_rows, place_frames, frames_of, with_job}
 use Rattle.farm_types.specs.Spec.{frames_in}
-use Rattle.job_book.specs.Book.{placing_of}
 use Rattle.job_book.specs.declared.placing.Placing.{Placing}
 use Rattle.job_book.specs.Counting.{new_counts}
 use Rattle.job_book.specs.Inside.{IsBook, counts_for}

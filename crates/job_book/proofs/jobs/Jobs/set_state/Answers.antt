@@ -1,4 +1,4 @@
-use Rattle.std.proofs.Common.{◌≡◌, ◌<◌, ◌∙◌, List, length, eqb, Some, refl, sym, ap, subst, arith}
+use Rattle.std.proofs.Common.{◌≡◌, ◌∙◌, List, eqb, Some, refl, sym, ap, subst}
 use Rattle.std.specs.List.{slice_get, slice_set, position_or_len}
 use Rattle.std.proofs.lemmas.Option.{slice_get_within}
 use Rattle.farm_types.specs.declared.rows.JobRow.{JobRow}
@@ -6,7 +6,6 @@ use Rattle.farm_types.specs.declared.slot_row.SlotRow.{SlotRow}
 use Rattle.farm_types.specs.Farm.{changed_at}
 use Rattle.farm_types.specs.Jobs.{JobLists}
 use Rattle.job_book.specs.Book.{turned_row}
-use Rattle.job_book.specs.Counting.{moved}
 use Rattle.job_book.specs.Inside.{IsBook, book_of}
 use Rattle.job_book.proofs.Changed.{changed_at_is}
 use Rattle.job_book.proofs.Turned.{can_move, counts_turned, turned_book}
@@ -16,7 +15,7 @@ pub recount-requires : goal.recount-requires
 recount-requires c =
     let slots = c.self.inside.slots.items in
     let at : slice_get slots c.args.slot ≡ Some c.in-Some.row = ap (λ (b : JobLists). slice_get b.slots c.args.slot) c.self.view_is ∙ sym c.in-Some.ensures in
-    let place = c.place_of-place.ensures ∙ ap (position_or_len (λ (j : JobRow). eqb j.job c.in-Some-frame.frame.job)) c.as_slice.ensures.value in
+    let place = c.place_of-place.ensures ∙ ap (λ (b : JobLists). position_or_len (λ (j : JobRow). eqb j.job c.in-Some-frame.frame.job) b.jobs) (sym c.self.view_is) in
     can_move slots c.args.slot c.in-Some.row c.in-Some-frame.frame at c.in-Some-frame.is c.args.state c.self.inside.jobs.items c.self.inside.counts.items c.place_of-place.result
     c.self.invariant.counts_are place c.self.invariant.book.slot_count
 
@@ -34,7 +33,7 @@ invariant_of-self c =
     let frame = c.in-Some-frame.frame in
     let change = turned_row c.args.state c.args.version c.args.retries in
     let at : slice_get slots c.args.slot ≡ Some row = ap (λ (b : JobLists). slice_get b.slots c.args.slot) c.self.view_is ∙ sym c.in-Some.ensures in
-    let place = c.place_of-place.ensures ∙ ap (position_or_len (λ (j : JobRow). eqb j.job frame.job)) c.as_slice.ensures.value in
+    let place = c.place_of-place.ensures ∙ ap (λ (b : JobLists). position_or_len (λ (j : JobRow). eqb j.job frame.job) b.jobs) (sym c.self.view_is) in
     let new : c.set_row.new.slots.items ≡ changed_at slots c.args.slot change =
     c.set_row.ensures.items ∙ ap (slice_set slots c.args.slot) c.turned_row-turned.ensures ∙ sym (changed_at_is slots c.args.slot change row at) in
     let kept = turned_book slots c.args.slot row frame at c.in-Some-frame.is c.args.state c.args.version c.args.retries (book_of c.self.inside) refl c.self.invariant.book in

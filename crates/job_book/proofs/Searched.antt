@@ -1,0 +1,91 @@
+-- A binary search by keys that rise ends at the place of the first item with the key, or says that there is none.
+use Rattle.std.proofs.Common.{◌≡◌, ℕ, zero, suc, ◌+◌, ◌<◌, ◌≤◌, ◌*◌, ◌&&◌, eqb, true, List, [], ◌∷◌, length, get_or, Result, Ok, Err, ◌⊎◌, inl, inr, refl, sym, ◌∙◌, arith}
+use Rattle.std.specs.List.{position_or_len, list_all}
+use Rattle.std.specs.List.Sorted.{IsSearchInRange, IsBinarySearchResult, IsNonDecreasingBy}
+use Rattle.std.specs.Ordering.{nat_cmp, ordering_index}
+use Rattle.std.specs.declared.cmp.Ordering.TheVariants.{Equal}
+use Rattle.std.proofs.lemmas.Bool.{cases_eq, cases_lt, eq-eqb, ne_eqb, ltb-true}
+use Rattle.std.proofs.lemmas.Bool.Decides.{nat_tests}
+use Rattle.std.proofs.lemmas.Cmp.{ranked}
+use Rattle.std.proofs.lemmas.List.Sums.{position_or_len_is}
+use Rattle.farm_types.specs.declared.rows.LayerRow.{LayerRow}
+use Rattle.job_book.specs.Inside.{IsRising, layer_key, has_place}
+use Rattle.job_book.proofs.Lists.{and_both}
+
+-- the place at which a search ended, and the list's length where it found nothing
+abbrev pub place_in : {X : Type 0} → List X → Result ℕ ℕ → ℕ
+place_in xs (Ok at) = at
+place_in xs (Err at) = length xs
+
+module _ {X : Type 0} (key : X → ℕ) where
+  at_least : (low : ℕ) (xs : List X) (high i : ℕ) (d : X) → IsRising key low xs high → i < length xs → low ≤ key (get_or xs i d)
+  at_least low [] high i d rise within = absurd (omega arith)
+  at_least low (x ∷ xs) high zero d rise within = rise.0
+  at_least low (x ∷ xs) high (suc i) d rise within = omega (arith, rise.0, at_least (key x + 1) xs high i d rise.1 (omega arith))
+
+  rises : (low : ℕ) (xs : List X) (high i j : ℕ) (d : X) → IsRising key low xs high → i < j → j < length xs → key (get_or xs i d) < key (get_or xs j d)
+  rises low [] high i j d rise less within = absurd (omega arith)
+  rises low (x ∷ xs) high i zero d rise less within = absurd (omega arith)
+  rises low (x ∷ xs) high zero (suc j) d rise less within = omega (arith, at_least (key x + 1) xs high j d rise.1 (omega arith))
+  rises low (x ∷ xs) high (suc i) (suc j) d rise less within = rises (key x + 1) xs high i j d rise.1 (omega arith) (omega arith)
+
+  module _ (xs : List X) (low high : ℕ) (rise : IsRising key low xs high) (k : ℕ) where
+    keys_rise : (i j : ℕ) (d : X) → i ≤ j → j < length xs → key (get_or xs i d) ≤ key (get_or xs j d)
+    keys_rise i j d le within = elim (cases_eq i j) [
+      | inl same ↦ rw same (omega arith)
+      | inr apart ↦ omega (arith, rises low xs high i j d rise (omega arith) within)
+    ]
+
+    comparisons_rise : IsNonDecreasingBy (λ x. ordering_index (nat_cmp (key x) k)) xs
+    comparisons_rise i j d le within = let up = keys_rise i j d le within in grind (arith, nat_tests)
+
+    found : (at : ℕ) (d : X) → at < length xs → nat_cmp (key (get_or xs at d)) k ≡ Equal → at ≡ position_or_len (λ x. eqb (key x) k) xs
+    found at d within equal =
+        let same : key (get_or xs at d) ≡ k = ranked _ k _ (sym equal) in
+        sym (position_or_len_is (λ x. eqb (key x) k) xs at d (omega arith)
+        (λ i less. ne_eqb _ k (λ e. absurd (omega (arith, rises low xs high i at d rise less within))))
+        (λ in_range. eq-eqb _ k same))
+
+    absent : (at : ℕ) (d : X) → IsBinarySearchResult (λ x. nat_cmp (key x) k) xs (Err at) → length xs ≡ position_or_len (λ x. eqb (key x) k) xs
+    absent at d parted =
+        sym (position_or_len_is (λ x. eqb (key x) k) xs (length xs) d (omega arith)
+        (λ i less. ne_eqb _ k (λ e. apart i d less e (cases_lt i at)))
+        (λ past. absurd (omega arith)))
+      where
+        apart : (i : ℕ) (d : X) → i < length xs → key (get_or xs i d) ≡ k → (i < at) ⊎ (at ≤ i) → ⊥
+        apart i d within e (inl before) =
+            let less : key (get_or xs i d) < k = ranked _ k _ (sym ((parted comparisons_rise).0 i d (omega arith) before)) in
+            omega arith
+        apart i d within e (inr behind) =
+            let more : k < key (get_or xs i d) = ranked _ k _ (sym ((parted comparisons_rise).1 i d behind within)) in
+            omega arith
+
+  -- the answer of a binary search
+  pub searched : (xs : List X) (low high : ℕ) → IsRising key low xs high → (k : ℕ) (r : Result ℕ ℕ) → IsSearchInRange r (length xs) → IsBinarySearchResult (λ x. nat_cmp (key x) k) xs r
+      → place_in xs r ≡ position_or_len (λ x. eqb (key x) k) xs
+  searched [] low high rise k (Ok at) bound position = absurd (omega (arith, bound))
+  searched [] low high rise k (Err at) bound position = refl
+  searched (y ∷ ys) low high rise k (Ok at) bound position = found (y ∷ ys) low high rise k at y bound (position y)
+  searched (y ∷ ys) low high rise k (Err at) bound position = absent (y ∷ ys) low high rise k at y position
+
+-- ---- layers by job and place
+
+same_key : (a b p q : ℕ) → p < 4294967296 → q < 4294967296 → eqb (4294967296 * a + p) (4294967296 * b + q) ≡ (eqb a b && eqb p q)
+same_key a b p q within limit = elim (cases_eq a b) [
+  | inl same ↦ rw (eq-eqb a b same) (by_place (cases_eq p q) same)
+  | inr apart ↦ rw (ne_eqb a b apart) (ne_eqb _ _ (λ e. apart (omega (arith, e))))
+]
+  where
+    by_place : (p ≡ q) ⊎ (p ≡ q → ⊥) → a ≡ b → eqb (4294967296 * a + p) (4294967296 * b + q) ≡ eqb p q
+    by_place (inl e) same = eq-eqb _ _ (omega arith) ∙ sym (eq-eqb p q e)
+    by_place (inr e) same = ne_eqb _ _ (λ f. e (omega (arith, f))) ∙ sym (ne_eqb p q e)
+
+-- the place of a layer's key is that of its job and its place in it
+pub layer_found : (layers : List LayerRow) (job place : ℕ) → list_all has_place layers ≡ true → place < 4294967296
+    → position_or_len (λ (l : LayerRow). eqb (layer_key l) (4294967296 * job + place)) layers ≡ position_or_len (λ (l : LayerRow). eqb l.job job && eqb l.place place) layers
+layer_found [] job place each within = refl
+layer_found (l ∷ ls) job place each within =
+    let both = and_both (has_place l) (list_all has_place ls) each in
+    let here = same_key l.job job l.place place (ltb-true l.place 4294967296 both.0) within in
+    let later = layer_found ls job place both.1 within in
+    rw (here, later) refl
