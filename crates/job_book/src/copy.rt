@@ -5,8 +5,7 @@ ghost use Rattle.std.specs.Vec.{vec_capacity};
 
 use crate::counts::Counts;
 use crate::jobs::{Jobs, SLOT_LIMIT};
-use crate::reserve::copy_texts;
-use farm_types::{Items, JobRow, LayerRow, SlotRow};
+use farm_types::{JobRow, LayerRow, SlotRow};
 use std::alloc::{AllocError, Global};
 
 impl Jobs {
@@ -84,7 +83,7 @@ fn copy_layer(alloc: Global, layer: &LayerRow) -> Result<LayerRow, AllocError>
         command: layer.command.copy(alloc)?,
         cores: layer.cores,
         memory: layer.memory,
-        tags: Items::from_vec(copy_texts(alloc, layer.tags.as_slice())?),
+        tags: layer.tags.copy(alloc)?,
     })
 }
 

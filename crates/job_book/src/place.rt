@@ -42,24 +42,25 @@ fn taken_apart(spare: JobSpare, placing: &Placing) -> (JobRow, Vec<LayerSpec>)
     ensures row { result.0 ≡ job_row placing.now.job placing.now.show spare }
     ensures layers { result.1.items ≡ spare.layers }
 {
+    let JobSpare { spec } = spare;
     let row = JobRow {
         job: placing.job,
-        name: spare.name,
+        name: spec.name,
         show: placing.show,
-        facility: spare.facility,
-        shot: spare.shot,
-        user: spare.user,
-        priority: spare.priority,
-        max_retries: spare.max_retries,
-        auto_eat: spare.auto_eat,
-        paused: spare.paused,
+        facility: spec.facility,
+        shot: spec.shot,
+        user: spec.user,
+        priority: spec.priority,
+        max_retries: spec.max_retries,
+        auto_eat: spec.auto_eat,
+        paused: spec.paused,
         state: JobState::Pending,
         frames: placing.frames,
         finish: 0,
         eaten: 0,
         succeeded: 0,
     };
-    (row, spare.layers)
+    (row, spec.layers.into_vec())
 }
 
 // The rows of a job's layers, behind the others.

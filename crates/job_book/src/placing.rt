@@ -1,6 +1,6 @@
 //! Where a job is to be placed, and the room for it.
 
-use farm_types::{JobNo, LayerSpec, Refusal, ShowNo, Slot, Text};
+use farm_types::{JobNo, JobSpec, Refusal, ShowNo, Slot};
 use std::alloc::AllocError;
 use std::marker::Model;
 
@@ -18,16 +18,7 @@ pub struct Placing {
 /// spec.
 #[derive(Debug, Drop)]
 pub struct JobSpare {
-    pub(crate) name: Text,
-    pub(crate) show: Text,
-    pub(crate) facility: Text,
-    pub(crate) shot: Text,
-    pub(crate) user: Text,
-    pub(crate) priority: u32,
-    pub(crate) max_retries: u32,
-    pub(crate) auto_eat: bool,
-    pub(crate) paused: bool,
-    pub(crate) layers: Vec<LayerSpec>,
+    pub(crate) spec: JobSpec,
 }
 
 impl Model for JobSpare {
@@ -35,18 +26,7 @@ impl Model for JobSpare {
 
     ghost Value = { types.JobSpec };
 
-    ghost view = { λ a. record {
-      name = a.name;
-      show = a.show;
-      facility = a.facility;
-      shot = a.shot;
-      user = a.user;
-      priority = a.priority;
-      max_retries = a.max_retries;
-      auto_eat = a.auto_eat;
-      paused = a.paused;
-      layers = a.layers.items;
-    } };
+    ghost view = { λ a. a.spec };
 }
 
 /// Why a job can't be placed.
