@@ -4,6 +4,7 @@ pub mod Changed
 pub mod Count
 pub mod DemoKept
 pub mod DemoLimits
+pub mod Distinct
 pub mod Ended
 pub mod FreshFarm
 pub mod Hosts

@@ -4,4 +4,6 @@ mod bookings;
 mod completions;
 mod order;
 mod rows;
+mod specs;
 mod steps;
+mod submits;

@@ -1,18 +1,21 @@
-//! Steps that the tests take: reports and bookings.
+//! Steps that the tests take: reports, jobs and bookings.
 
-ghost use Rattle.farm_types.specs.Step.{HasCondition};
+ghost use Rattle.farm_types.specs.SpecLimits.{JobKeepsLimits};
+ghost use Rattle.farm_types.specs.Step.{HasCondition, KeepsLimits};
 
 use crate::change::Answer;
 use crate::farm::Farm;
 use crate::fault::PrepareFault;
 use farm_types::{
-    Act, Attempt, DoneItem, Entry, Exit, FrameState, HeardAct, HostNo, Items, Slot, Text, Version,
+    Act, Attempt, DoneItem, Entry, Exit, FrameState, HeardAct, HostNo, Items, JobSpec, Slot, Text,
+    Version,
 };
 use std::alloc::Global;
 
 // Prepares, reserves and applies an entry.
 pub(crate) fn take(alloc: Global, farm: &mut Farm, entry: &Entry) -> Result<Answer, PrepareFault>
-    requires { HasCondition farm.old entry.now.act }
+    requires condition { HasCondition farm.old entry.now.act }
+    requires limits { KeepsLimits entry.now.act }
 {
     let mut change = farm.prepare(alloc, entry)?;
     farm.reserve(alloc, &mut change)?;
@@ -36,6 +39,17 @@ pub(crate) fn report(
             seq,
             done: Items::from_vec(Vec::from_slice(alloc, done)?),
         }),
+    };
+    take(alloc, farm, &entry)
+}
+
+// Submits a job, at moment 5.
+pub(crate) fn submit(alloc: Global, farm: &mut Farm, spec: JobSpec) -> Result<Answer, PrepareFault>
+    requires { JobKeepsLimits spec }
+{
+    let entry = Entry {
+        moment: 5,
+        act: Act::Submit(spec),
     };
     take(alloc, farm, &entry)
 }

@@ -1,13 +1,12 @@
-use Rattle.std.proofs.Common.{◌≡◌, true, ap, sym, ◌∙◌, arith}
+use Rattle.std.proofs.Common.{◌≡◌, true, length, refl, ap, sym, ◌∙◌, arith}
 use Rattle.std.specs.List.{list_all}
 use Rattle.farm_core.specs.Consistent.{is_host_within, is_sub_within}
-use Rattle.farm_core.specs.Fresh.{is_fresh}
 use Rattle.farm_core.proofs.FreshFarm.{fresh_consistent}
+use Rattle.farm_core.proofs.Totals.{fresh_totals}
 use Rattle.farm_core.proofs.tests.rows.farm_of.Goals as goal
 
 pub invariant_of-result : goal.invariant_of-result
 invariant_of-result c =
-    let slots : list_all is_fresh c.args.slots.items ≡ true = ap (list_all is_fresh) (sym c.as_slice.ensures.value) ∙ (sym c.are_fresh.ensures ∙ c.if-not-are_fresh.false) in
-    let hosts : list_all is_host_within c.args.hosts.items ≡ true = ap (list_all is_host_within) (sym c.as_slice-else-not-are_fresh.ensures.value) ∙ (sym c.are_hosts_within.ensures ∙ c.if-not-are_hosts_within.false) in
+    let hosts : list_all is_host_within c.args.hosts.items ≡ true = ap (list_all is_host_within) (sym c.as_slice.ensures.value) ∙ (sym c.are_hosts_within.ensures ∙ c.if-not-are_hosts_within.false) in
     let subs : list_all is_sub_within c.args.subs.items ≡ true = ap (list_all is_sub_within) (sym c.as_slice-else-not-are_hosts_within.ensures.value) ∙ (sym c.are_subs_within.ensures ∙ c.if-not-are_subs_within.false) in
-    fresh_consistent _ slots hosts subs (omega (arith, c.args.hosts.ok.0)) (omega (arith, c.args.slots.ok.0))
+    rw (c.in_ok-make.ensures, c.in_ok-sums.ensures) (record { consistent = fresh_consistent _ refl hosts subs (omega (arith, c.args.shows.ok.0)) (omega (arith, c.args.hosts.ok.0)); totals = fresh_totals _ refl })
