@@ -11,9 +11,12 @@ use Rattle.farm_types.specs.Booking.{may_book, may_record, tags_match}
 use Rattle.farm_types.specs.Step.{refusal_of, after}
 use Rattle.farm_types.specs.Run.{run_of, IsLegal, IsLegalStep}
 use Rattle.farm_types.specs.Dispatch.{book_entry, round_from, round_for, bookings_each, plan_for}
-use Rattle.farm_types.specs.Request.{request_of}
-use Rattle.farm_types.specs.Transcript.{Mark, Plain, Memory, Cut, LatePlain, LateCut, Answered, Turn, heard_entry, marked_answer, accepted_answer, report_answer, request_answer, unless_memory, answer_to, answer_at, farm_next, entries_in, line_limit, only_reply}
-use Rattle.farm_types.specs.Reply.{bad_line}
+use Rattle.farm_types.specs.declared.job.JobSpec.{JobSpec}
+use Rattle.farm_types.specs.declared.request.Request.{Request}
+use Rattle.farm_types.specs.declared.request.Request.TheVariants as request
+use Rattle.farm_types.specs.Request.{RequestError, request_of}
+use Rattle.farm_types.specs.Transcript.{Mark, Plain, Memory, Cut, LatePlain, LateCut, Answered, Turn, heard_entry, marked_answer, accepted_answer, report_answer, submit_answer, submit_entry, request_answer, unless_memory, answer_to, answer_at, farm_next, entries_in, line_limit, only_reply}
+use Rattle.farm_types.specs.Reply.{too_long}
 
 -- both tests are true where both together are
 both_of : (a b : Bool) → (a && b) ≡ true → (a ≡ true) × (b ≡ true)
@@ -69,9 +72,16 @@ report_legal : (f : Farm) (report : Report) (moment : ℕ) (mark : Mark) (why : 
 report_legal f report moment mark (Some why) h = tt
 report_legal f report moment mark None h = accepted_legal f report moment mark (host_named f report.host) h
 
-request_legal : (f : Farm) (moment : ℕ) (mark : Mark) (read : Result Report (List ℕ)) → IsLegal f (request_answer f moment mark read).entries
-request_legal f moment mark (Err field) = tt
-request_legal f moment mark (Ok report) = report_legal f report moment mark (refusal_of f (heard_entry report moment)) refl
+-- a submit that the farm accepts
+submit_legal : (f : Farm) (spec : JobSpec) (moment : ℕ) (why : Option Refusal) → refusal_of f (submit_entry spec moment) ≡ why
+    → IsLegal f (submit_answer spec moment why).entries
+submit_legal f spec moment (Some why) h = tt
+submit_legal f spec moment None h = (record { accepted = h; condition = tt }, tt)
+
+request_legal : (f : Farm) (moment : ℕ) (mark : Mark) (read : Result Request RequestError) → IsLegal f (request_answer f moment mark read).entries
+request_legal f moment mark (Err error) = tt
+request_legal f moment mark (Ok (request.Report report)) = report_legal f report moment mark (refusal_of f (heard_entry report moment)) refl
+request_legal f moment mark (Ok (request.Submit spec)) = submit_legal f spec moment (refusal_of f (submit_entry spec moment)) refl
 
 unless_legal : (f : Farm) (mark : Mark) (answered : Answered) → IsLegal f answered.entries → IsLegal f (unless_memory mark answered).entries
 unless_legal f Memory answered l = tt
@@ -85,7 +95,7 @@ answer_legal : (f : Farm) (line : List ℕ) (moment : ℕ) (mark : Mark) → IsL
 unfolding answer_to
 answer_legal f line moment mark = by (nat_lt line_limit (length line))
   where
-    by : (b : Bool) → IsLegal f (cond b (only_reply (bad_line [])) (unless_memory mark (request_answer f moment mark (request_of line)))).entries
+    by : (b : Bool) → IsLegal f (cond b (only_reply too_long) (unless_memory mark (request_answer f moment mark (request_of line)))).entries
     by true = tt
     by false = unless_legal f mark (request_answer f moment mark (request_of line)) (request_legal f moment mark (request_of line))
 

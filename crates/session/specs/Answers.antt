@@ -1,16 +1,18 @@
 -- What answering one line does.
 use Rattle.std.specs.Prelude.{◌≡◌, ◌⊎◌, ◌++◌, ◌∷◌, [], ℕ, List, take, codes}
+use Rattle.serde_json.specs.Data.{Data}
 use Rattle.serde_json.specs.Written.{compact_text}
 use Rattle.farm_types.specs.declared.dispatch.Candidate.{Candidate}
 use Rattle.farm_types.specs.declared.entry.Entry.{Entry}
 use Rattle.farm_types.specs.Dispatch.{round_for, round_from}
-use Rattle.farm_types.specs.declared.refusal.Refusal.{Refusal}
 use Rattle.farm_types.specs.declared.report.Report.{Report}
 use Rattle.farm_types.specs.Farm.{Farm}
-use Rattle.farm_types.specs.Reply.{no_memory, refusal_data}
+use Rattle.farm_types.specs.Reply.{no_memory, bad_line, bad_range, bad_amount}
 use Rattle.farm_types.specs.Run.{run_of}
 use Rattle.farm_types.specs.Step.{after}
 use Rattle.farm_types.specs.Transcript.{Answered, Mark, marked_answer}
+use Rattle.session.specs.declared.fault.ReadFault.{ReadFault}
+use Rattle.session.specs.declared.fault.ReadFault.TheVariants.{BadLine, BadRange, BadAmount, NoMemory}
 use Rattle.session.specs.declared.round.Cut.{Cut}
 use Rattle.session.specs.declared.round.Cut.TheVariants as cut
 
@@ -40,9 +42,20 @@ pub record IsOffered (old : Farm) (left : ℕ) (candidate : Candidate) (moment :
   pub farm : new ≡ run_of old booked
   pub rest : (later : List Candidate) → booked ++ round_from still_left new moment later ≡ round_from left old moment (candidate ∷ later)
 
--- the line is that of the refusal, or of want of memory
-abbrev pub IsRefusal : Refusal → List ℕ → Type 0
-IsRefusal why line = (line ≡ compact_text (refusal_data why) ++ 10 ∷ []) ⊎ (line ≡ compact_text no_memory ++ 10 ∷ [])
+-- the line is that of the reply, or of want of memory
+abbrev pub IsReplyOf : Data → List ℕ → Type 0
+IsReplyOf reply line = (line ≡ compact_text reply ++ 10 ∷ []) ⊎ (line ≡ compact_text no_memory ++ 10 ∷ [])
+
+-- the line tells the fault; want of memory has no line of its own
+abbrev pub IsFaultLine : ReadFault → List ℕ → Type 0
+IsFaultLine (BadLine field) line = line ≡ compact_text (bad_line field) ++ 10 ∷ []
+IsFaultLine (BadRange layer fault) line = line ≡ compact_text (bad_range layer fault) ++ 10 ∷ []
+IsFaultLine (BadAmount field) line = line ≡ compact_text (bad_amount field) ++ 10 ∷ []
+IsFaultLine NoMemory line = ⊥
+
+-- the line tells the fault, or want of memory
+abbrev pub IsFaultReply : ReadFault → List ℕ → Type 0
+IsFaultReply fault line = IsFaultLine fault line ⊎ (line ≡ compact_text no_memory ++ 10 ∷ [])
 
 -- A round was walked over a farm, and the line replies to the report before it: whatever entry of the report made that farm, the line is
 -- the answer by this mark.

@@ -2,6 +2,8 @@
 #![tactic(auto)]
 
 mod answer;
+mod answer_report;
+mod answer_submit;
 mod fault;
 mod item;
 mod launches;
@@ -9,10 +11,13 @@ mod laws;
 #[cfg(test)]
 mod order_tests;
 mod read;
+mod refusal_reply;
 mod reply;
+mod report_reply;
 mod round;
 mod run;
 mod serve;
+mod submit_line;
 #[cfg(test)]
 mod tests;
 mod turn;

@@ -43,7 +43,7 @@ pub fn turn<S: Source, W: Sink, C: Clock>(
         }
         Ok(Line::TooLong) => {
             let _moment = clock.now();
-            send(sink, &Reply::BadLine)
+            send(sink, &Reply::TooLong)
         }
         Ok(Line::End) => Turned::End,
         Err(LineFault::Read) => Turned::Read,

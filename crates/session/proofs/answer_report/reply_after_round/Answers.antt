@@ -1,7 +1,7 @@
 -- The reply was written, or memory was wanting for it.
 use Rattle.std.proofs.Common.{refl}
 use Rattle.session.proofs.AnswerLemmas.{round_replied, round_unreplied}
-use Rattle.session.proofs.answer.reply_after_round.Goals as goal
+use Rattle.session.proofs.answer_report.reply_after_round.Goals as goal
 
 pub returns-in-Ok : goal.returns-in-Ok
 returns-in-Ok c =
