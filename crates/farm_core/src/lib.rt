@@ -4,7 +4,6 @@
 mod apply;
 mod booking;
 mod change;
-mod copies;
 mod demo;
 mod farm;
 mod fault;

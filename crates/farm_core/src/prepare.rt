@@ -8,7 +8,6 @@ ghost use Rattle.farm_types.specs.declared.entry.Act.TheVariants as act;
 ghost use Rattle.farm_core.specs.Change.{Prepares, Makes, IsUnknown};
 
 use crate::change::{Change, Effect};
-use crate::copies::copy_of_job;
 use crate::farm::Farm;
 use crate::fault::PrepareFault;
 use farm_types::{
@@ -101,7 +100,7 @@ impl Farm {
             moment: self.moment_of(moment),
             effect: Effect::Submit {
                 placing,
-                spec: copy_of_job(alloc, spec)?,
+                spec: spec.copy(alloc)?,
             },
             reserved: false,
             spare: None,
