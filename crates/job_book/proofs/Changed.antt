@@ -30,14 +30,14 @@ slice_get-set_other (z ∷ zs) zero (suc k) y apart = refl
 slice_get-set_other (z ∷ zs) (suc i) zero y apart = refl
 slice_get-set_other (z ∷ zs) (suc i) (suc k) y apart = slice_get-set_other zs i k y (λ e. apart (ap suc e))
 
-pub changed_at_same : {X : Type 0} (xs : List X) (i : ℕ) (change : X → X) (x : X) → slice_get xs i ≡ Some x → slice_get (changed_at xs i change) i ≡ Some (change x)
+changed_at_same : {X : Type 0} (xs : List X) (i : ℕ) (change : X → X) (x : X) → slice_get xs i ≡ Some x → slice_get (changed_at xs i change) i ≡ Some (change x)
 changed_at_same xs i change x at = rw at (slice_get-set_same xs i x (change x) at)
 
 changed_by_other : {X : Type 0} (xs : List X) (i k : ℕ) (change : X → X) (o : Option X) → k ≢ i → slice_get (changed_by xs i change o) k ≡ slice_get xs k
 changed_by_other xs i k change None apart = refl
 changed_by_other xs i k change (Some x) apart = slice_get-set_other xs i k (change x) apart
 
-pub changed_at_other : {X : Type 0} (xs : List X) (i k : ℕ) (change : X → X) → k ≢ i → slice_get (changed_at xs i change) k ≡ slice_get xs k
+changed_at_other : {X : Type 0} (xs : List X) (i k : ℕ) (change : X → X) → k ≢ i → slice_get (changed_at xs i change) k ≡ slice_get xs k
 changed_at_other xs i k change apart = changed_by_other xs i k change (slice_get xs i) apart
 
 -- the sum over the changed list has the changed item's weight for that of the old one

@@ -1,19 +1,14 @@
 -- Tests of all items of a list, and tests joined.
-use Rattle.std.proofs.Common.{◌≡◌, ℕ, suc, zero, Bool, true, false, ◌&&◌, List, [], ◌∷◌, Option, Some, None, refl, subst}
+use Rattle.std.proofs.Common.{◌≡◌, ℕ, suc, zero, Bool, true, false, ◌&&◌, List, [], ◌∷◌, Some, refl, subst}
 use Rattle.std.specs.List.{list_all, slice_get}
 use Rattle.std.proofs.lemmas.Option.{none-some, same_Some}
 use Rattle.std.proofs.lemmas.Bool.{false≢true, and_from}
-use Rattle.farm_types.specs.Farm.{for_some, changed_at}
+use Rattle.farm_types.specs.Farm.{changed_at}
 use Rattle.job_book.proofs.Changed.{changed_at_each}
 
 pub and_both : (a b : Bool) → (a && b) ≡ true → (a ≡ true) × (b ≡ true)
 and_both true b h = (refl, h)
 and_both false b h = absurd (false≢true h)
-
--- a test that holds of what there is
-pub for_some_true : {X : Type 0} (o : Option X) (test : X → Bool) → for_some o test ≡ true → (x : X) × (o ≡ Some x) × (test x ≡ true)
-for_some_true None test h = absurd (false≢true h)
-for_some_true (Some x) test h = (x, refl, h)
 
 pub list_all-at : {X : Type 0} (test : X → Bool) (xs : List X) (n : ℕ) (x : X) → list_all test xs ≡ true → slice_get xs n ≡ Some x → test x ≡ true
 list_all-at test [] n x all at = absurd (none-some x at)

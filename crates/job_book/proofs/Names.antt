@@ -38,7 +38,7 @@ onto_any test (l ∷ ls) names = onto_any test ls (l.name ∷ names) ∙ or_step
     or_step false false c = refl
 
 -- a name that stood before is among those
-pub is_among : (test : List ℕ → Bool) (ls : List LayerSpec) → list_any test (names_onto ls []) ≡ list_any (λ (l : LayerSpec). test l.name) ls
+is_among : (test : List ℕ → Bool) (ls : List LayerSpec) → list_any test (names_onto ls []) ≡ list_any (λ (l : LayerSpec). test l.name) ls
 is_among test ls = onto_any test ls [] ∙ or_nothing (list_any (λ (l : LayerSpec). test l.name) ls)
 
 module _ (ls : List LayerSpec) (i : ℕ) (l : LayerSpec) (within : i < length ls) (is : l ≡ get_or ls i l) where

@@ -172,7 +172,7 @@ rising_within : {X : Type 0} (key : X → ℕ) (low : ℕ) (xs : List X) (high :
 rising_within key low [] high rise = rise
 rising_within key low (x ∷ xs) high rise = omega (arith, rise.0, rising_within key (key x + 1) xs high rise.1)
 
-pub rising-append : {X : Type 0} (key : X → ℕ) (low mid high : ℕ) (xs ys : List X) → IsRising key low xs mid → IsRising key mid ys high → IsRising key low (xs ++ ys) high
+rising-append : {X : Type 0} (key : X → ℕ) (low mid high : ℕ) (xs ys : List X) → IsRising key low xs mid → IsRising key mid ys high → IsRising key low (xs ++ ys) high
 rising-append key low mid high [] ys first second = rising_lower key low mid ys high first second
   where
     rising_lower : {X : Type 0} (key : X → ℕ) (low mid : ℕ) (ys : List X) (high : ℕ) → low ≤ mid → IsRising key mid ys high → IsRising key low ys high

@@ -100,7 +100,7 @@ free_first first slots is = rw is (ap (λ k. k + (slot_limit - length slots)) (f
 
 -- ---- the frames of a job
 
-pub frames_from-append : (job layer p : ℕ) (ns ms : List ℤ) → frames_from job layer p (ns ++ ms) ≡ frames_from job layer p ns ++ frames_from job layer (p + length ns) ms
+frames_from-append : (job layer p : ℕ) (ns ms : List ℤ) → frames_from job layer p (ns ++ ms) ≡ frames_from job layer p ns ++ frames_from job layer (p + length ns) ms
 frames_from-append job layer p [] ms = let e : p + 0 ≡ p = omega arith in ap (λ k. frames_from job layer k ms) (sym e)
 frames_from-append job layer p (n ∷ ns) ms =
     let e : p + 1 + length ns ≡ p + suc (length ns) = omega arith in
@@ -114,7 +114,7 @@ frames_from-more job layer ns i d within =
     ap (frames_from job layer 0) (take_more ns i d within)
     ∙ frames_from-append job layer 0 (take i ns) (get_or ns i d ∷ []) ∙ ap (λ k. frames_from job layer 0 (take i ns) ++ new_frame job layer k (get_or ns i d) ∷ []) long
 
-pub frames_of-append : (job p : ℕ) (ls ks : List LayerSpec) → frames_of job p (ls ++ ks) ≡ frames_of job p ls ++ frames_of job (p + length ls) ks
+frames_of-append : (job p : ℕ) (ls ks : List LayerSpec) → frames_of job p (ls ++ ks) ≡ frames_of job p ls ++ frames_of job (p + length ls) ks
 frames_of-append job p [] ks = let e : p + 0 ≡ p = omega arith in ap (λ k. frames_of job k ks) (sym e)
 frames_of-append job p (l ∷ ls) ks =
     let e : p + 1 + length ls ≡ p + suc (length ls) = omega arith in

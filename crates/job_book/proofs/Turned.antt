@@ -42,7 +42,7 @@ part_is job slots Dead = refl
 part_is job slots Eaten = refl
 
 -- each state's count after a move
-pub part_moved : (old new : FrameState) (c : Counts) (state : FrameState) → part state (moved old new c) ≡ part state c - one old (number_of state) + one new (number_of state)
+part_moved : (old new : FrameState) (c : Counts) (state : FrameState) → part state (moved old new c) ≡ part state c - one old (number_of state) + one new (number_of state)
 part_moved old new c Waiting = refl
 part_moved old new c Setup = refl
 part_moved old new c Running = refl
@@ -56,7 +56,7 @@ where_some None P h = tt
 where_some (Some x) P h = h x refl
 
 -- a slot that stays free or taken, and whose frame stays below the next job
-pub changed_book : (b : JobLists) (slots : List SlotRow) (i : ℕ) (s : SlotRow) (change : SlotRow → SlotRow) → slice_get slots i ≡ Some s → b.slots ≡ slots
+changed_book : (b : JobLists) (slots : List SlotRow) (i : ℕ) (s : SlotRow) (change : SlotRow → SlotRow) → slice_get slots i ≡ Some s → b.slots ≡ slots
     → is_free (change s) ≡ is_free s → is_below b.next_job (change s) ≡ is_below b.next_job s → IsBook b
     → IsBook (record b { slots = changed_at slots i change }) × (free_in (changed_at slots i change) ≡ free_in slots)
 changed_book b slots i s change at e free below ok =
