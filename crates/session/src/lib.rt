@@ -25,7 +25,9 @@ mod turned;
 mod word_forms;
 mod words;
 
-pub use laws::sessions_are_legal;
+pub use laws::{
+    lines_are_answered_by_what_they_ask, sessions_are_legal, taken_reports_have_their_round,
+};
 pub use run::{Status, run_cuebot};
 pub use word_forms::form;
 pub use words::Form;
