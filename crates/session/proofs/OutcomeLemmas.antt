@@ -44,10 +44,10 @@ whole_round f line moment mark report whole taken =
       host = found.0;
       named = found.1;
       recorded = ap (λ a. a.entries) (
-        line_within f line moment mark taken.fits
-        ∙ ap (λ read. unless_memory mark (request_answer f moment mark read)) taken.asks
-        ∙ accepted_is f report moment found.0 mark taken.accepted found.1
-      ) ∙ whole_entries f found.0 report (heard_entry report moment) (round_for (after f (heard_entry report moment)) found.0 moment) mark whole;
+          line_within f line moment mark taken.fits
+          ∙ ap (λ read. unless_memory mark (request_answer f moment mark read)) taken.asks
+          ∙ accepted_is f report moment found.0 mark taken.accepted found.1
+          ) ∙ whole_entries f found.0 report (heard_entry report moment) (round_for (after f (heard_entry report moment)) found.0 moment) mark whole;
     }
 
 -- ---- every line

@@ -9,6 +9,8 @@ mod item;
 mod launches;
 mod laws;
 #[cfg(test)]
+mod line_tests;
+#[cfg(test)]
 mod order_tests;
 mod read;
 mod refusal_reply;

@@ -9,9 +9,16 @@ use Rattle.session.proofs.run.run_cuebot.Goals as goal
 
 pub returns-then-is_none-clause-call : goal.returns-then-is_none-clause-call
 returns-then-is_none-clause-call g c =
-    let left = g.S.Source.left c.args.source.now in
-    ([], [], [], Takes-none left, Adds-none (g.W.Sink.written c.args.sink.now), Shows-none (g.C.Clock.readings c.args.clock.now), called_for_usage [] left,
-        complete_for_usage c.args.words.now (is_some c.form.result) 2 [] [] _ _ c.form.ensures (c.is_none.ensures ∙ ap not c.if-is_none.true))
+    let left = g.S.Source.left c.args.source.now in (
+      [],
+      [],
+      [],
+      Takes-none left,
+      Adds-none (g.W.Sink.written c.args.sink.now),
+      Shows-none (g.C.Clock.readings c.args.clock.now),
+      called_for_usage [] left,
+      complete_for_usage c.args.words.now (is_some c.form.result) 2 [] [] _ _ c.form.ensures (c.is_none.ensures ∙ ap not c.if-is_none.true),
+    )
 
 pub returns-in_default-clause-call : goal.returns-in_default-clause-call
 returns-in_default-clause-call g c =
