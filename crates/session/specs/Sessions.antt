@@ -142,3 +142,15 @@ pub record IsNoSession (status : ℕ) (taken wrote : List ℕ) : Type 0 where
 
 abbrev pub IsCall : ℕ → List ℕ → List ℕ → List ℕ → Option (List ℕ) → Type 0
 IsCall status taken wrote seen left = IsNoSession status taken wrote ⊎ IsSession status taken wrote seen left
+
+-- ---- what ends a call
+
+-- the input was read to its end, each of its lines answered; or memory was wanting before the first line, and nothing was taken or written
+abbrev pub EndsWell : ℕ → List ℕ → List ℕ → Type 0
+EndsWell status taken wrote = (status ≡ 0) ⊎ ((status ≡ 7) × (taken ≡ []) × (wrote ≡ []))
+
+-- Nothing but a fault of the outside ends a call early: where the words are of the form, no fault of reading or of writing was counted, and
+-- fewer bytes were taken than one session takes, it ends well.
+abbrev pub IsComplete : List (List ℕ) → ℕ → List ℕ → List ℕ → Type 0 → Type 0 → Type 0
+IsComplete words status taken wrote ReadFails WriteFails =
+    is_demo words ≡ true → (ReadFails → ⊥) → (WriteFails → ⊥) → length taken < byte_limit → EndsWell status taken wrote

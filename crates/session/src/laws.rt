@@ -1,12 +1,28 @@
 //! Laws of sessions. The public functions here do nothing: their contracts are the laws.
 
-ghost use Rattle.std.specs.Prelude.{List};
+ghost use Rattle.std.specs.Prelude.{ℕ, List};
+ghost use Rattle.farm_types.specs.declared.report.Report.{Report};
 ghost use Rattle.farm_types.specs.Farm.{Farm};
 ghost use Rattle.farm_types.specs.Run.{IsLegal};
-ghost use Rattle.farm_types.specs.Transcript.{Turn, entries_in};
+ghost use Rattle.farm_types.specs.Transcript.{Mark, Turn, entries_in};
+ghost use Rattle.session.specs.Outcomes.{WalksWhole, IsTaken, HasWholeRound, IsAnsweredFully};
 
 /// Whatever lines come, at whatever moments, and whatever the outside does, the entries that are recorded are a legal run.
 #[tactic(auto, using(crate::proofs::LegalLemmas::turns_legal))]
 pub fn sessions_are_legal()
     ensures { (f : Farm) (turns : List Turn) → IsLegal f (entries_in f turns) }
+{}
+
+/// A report that the farm takes is recorded with exactly its round of bookings, unless memory was wanting before it was recorded or within
+/// the round.
+#[tactic(auto, using(crate::proofs::OutcomeLemmas::whole_round))]
+pub fn taken_reports_have_their_round()
+    ensures { (f : Farm) (line : List ℕ) (moment : ℕ) (mark : Mark) (report : Report) → WalksWhole mark → IsTaken f line moment report → HasWholeRound f line moment mark report }
+{}
+
+/// A line past the limit is told so, and each other is answered by what it asks, unless memory was wanting for it. Where it was wanting for
+/// a report's reply alone, the same is recorded.
+#[tactic(auto, using(crate::proofs::OutcomeLemmas::answered_fully))]
+pub fn lines_are_answered_by_what_they_ask()
+    ensures { (f : Farm) (line : List ℕ) (moment : ℕ) → IsAnsweredFully f line moment }
 {}

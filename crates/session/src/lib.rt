@@ -9,6 +9,8 @@ mod item;
 mod launches;
 mod laws;
 #[cfg(test)]
+mod line_tests;
+#[cfg(test)]
 mod order_tests;
 mod read;
 mod refusal_reply;
@@ -25,7 +27,9 @@ mod turned;
 mod word_forms;
 mod words;
 
-pub use laws::sessions_are_legal;
+pub use laws::{
+    lines_are_answered_by_what_they_ask, sessions_are_legal, taken_reports_have_their_round,
+};
 pub use run::{Status, run_cuebot};
 pub use word_forms::form;
 pub use words::Form;

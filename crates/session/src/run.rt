@@ -5,7 +5,7 @@ ghost use Rattle.cue_io.specs.Faults.{HasRisen};
 ghost use Rattle.cue_io.specs.Input.{Takes};
 ghost use Rattle.cue_io.specs.Output.{Adds};
 ghost use Rattle.cue_io.specs.Readings.{Shows};
-ghost use Rattle.session.specs.Sessions.{IsCall, IsSession, is_demo, status_of};
+ghost use Rattle.session.specs.Sessions.{IsCall, IsComplete, is_demo, status_of};
 
 use crate::serve::serve;
 use crate::turned::Turned;
@@ -39,10 +39,11 @@ pub fn run_cuebot<S: Source, W: Sink, C: Clock>(
     ensures usage { (result ≡ 2) ↔ (is_demo words.now ≡ false) }
 
     // What was taken, written and read of the clock; the bytes written are the transcript of the lines taken, and the entries recorded are
-    // a legal and safe run from the opened farm.
+    // a legal and safe run from the opened farm. Nothing but a fault of the outside ends the call before the input does.
     ensures call { (taken wrote seen : List ℕ) × Takes (S.left source.old) (S.left source.new) taken
         × Adds (W.written sink.old) (W.written sink.new) wrote × Shows (C.readings clock.old) (C.readings clock.new) seen
-        × IsCall result taken wrote seen (S.left source.new) }
+        × IsCall result taken wrote seen (S.left source.new)
+        × IsComplete words.now result taken wrote (HasRisen (S.faults source.old) (S.faults source.new)) (HasRisen (W.faults sink.old) (W.faults sink.new)) }
 
     // A fault of reading or of writing comes only where the source's or the sink's count rose in this call.
     ensures read { result ≡ 4 → HasRisen (S.faults source.old) (S.faults source.new) }

@@ -20,6 +20,8 @@ const FAILED: &[u8] =
 
 const BAD_LINE: &str = r#"{"code":1,"field":"","ok":false,"why":"bad_line"}"#;
 
+const TOO_LONG: &str = r#"{"code":2,"ok":false,"why":"too_long"}"#;
+
 pub const STALE: &str = r#"{"code":6,"last":1,"ok":false,"why":"stale"}"#;
 
 /// A run of four lines: the first report twice, then two that tell the same completion.
@@ -103,19 +105,30 @@ fn replies_do_not_depend_on_the_pieces(rt: HostRuntime) -> Result<(), Fail> {
 
 #[test]
 fn what_is_no_report_is_refused(rt: HostRuntime) -> Result<(), Fail> {
-    let rows: [(&'static [u8], &'static [&'static str]); 9] = [
+    let rows: [(&'static [u8], &'static [&'static str]); 8] = [
         (b"", &[]),
         (b"\n", &[BAD_LINE]),
-        (b"{}\n", &[BAD_LINE]),
-        (b"{\"op\":\"tick\"}\n", &[BAD_LINE]),
+        (
+            b"{}\n{\"op\":\"tick\"}\n",
+            &[
+                r#"{"code":1,"field":"op","ok":false,"why":"bad_line"}"#,
+                r#"{"code":1,"field":"op","ok":false,"why":"bad_line"}"#,
+            ],
+        ),
         (b"{\"op\":\"ti", &[BAD_LINE]),
         (b"\xff\n\xfe\n", &[BAD_LINE, BAD_LINE]),
         (
             OF_H9,
             &[r#"{"code":3,"name":"h9","ok":false,"why":"unknown"}"#],
         ),
-        (OF_BOOT_2, &[BAD_LINE]),
-        (FAILED, &[BAD_LINE]),
+        (
+            OF_BOOT_2,
+            &[r#"{"code":1,"field":"boot","ok":false,"why":"bad_line"}"#],
+        ),
+        (
+            FAILED,
+            &[r#"{"code":1,"field":"status","ok":false,"why":"bad_line"}"#],
+        ),
     ];
     for (input, replies) in rows {
         let ended = demo(rt.alloc(), input, &[], &[])?;
@@ -127,10 +140,10 @@ fn what_is_no_report_is_refused(rt: HostRuntime) -> Result<(), Fail> {
 }
 
 #[test]
-fn a_line_past_the_limit_is_one_bad_line(rt: HostRuntime) -> Result<(), Fail> {
+fn a_line_past_the_limit_is_too_long(rt: HostRuntime) -> Result<(), Fail> {
     for (length, replies) in [
         (1_048_576, [REPLIES[0], STALE]),
-        (1_048_577, [BAD_LINE, REPLIES[0]]),
+        (1_048_577, [TOO_LONG, REPLIES[0]]),
     ] {
         let mut input = Vec::from_slice(rt.alloc(), FIRST.as_bytes())?;
         input.resize(length, b' ')?;

@@ -15,12 +15,12 @@ returns-in_default-submit_line c = (Memory, record { farm = c.reserve.ensures.fa
 pub returns-in-Ok : goal.returns-in-Ok
 returns-in-Ok c =
     answered_submit c.args.farm.now c.apply.new.self c.args.spec c.args.moment c.in-Ok-submit_line.line c.in-Ok.ensures.accepted (
-      c.apply.ensures.farm
-      ∙ ap (λ f. after_change f c.reserve.new.change) c.reserve.ensures.farm
-      ∙ ap (after_change c.args.farm.now) c.in-Ok-reserve.ensures.ok
-      ∙ c.in-Ok.ensures.farm
+    c.apply.ensures.farm
+    ∙ ap (λ f. after_change f c.reserve.new.change) c.reserve.ensures.farm
+    ∙ ap (after_change c.args.farm.now) c.in-Ok-reserve.ensures.ok
+    ∙ c.in-Ok.ensures.farm
     ) (submit_text c.args.spec c.in-Submit.spec c.as_slice.result.now c.frame_count-frames.result c.as_str.result.now c.in-Ok-submit_line.line
-        c.in-Submit.is c.as_slice.ensures c.frame_count-frames.ensures c.as_str.ensures c.in-Ok-submit_line.ensures)
+    c.in-Submit.is c.as_slice.ensures c.frame_count-frames.ensures c.as_str.ensures c.in-Ok-submit_line.ensures)
 
 pub returns-in-Err-Refused : goal.returns-in-Err-Refused
 returns-in-Err-Refused c =

@@ -1,0 +1,35 @@
+-- What a line comes to where memory isn't wanting for it.
+use Rattle.std.specs.Prelude.{◌≡◌, ◌≤◌, ◌<◌, ◌∷◌, ℕ, List, length, Option, None, Some, Ok}
+use Rattle.farm_types.specs.declared.report.Report.{Report}
+use Rattle.farm_types.specs.declared.request.Request.TheVariants as request
+use Rattle.farm_types.specs.Dispatch.{round_for}
+use Rattle.farm_types.specs.Farm.{Farm, host_named}
+use Rattle.farm_types.specs.Reply.{too_long}
+use Rattle.farm_types.specs.Request.{request_of}
+use Rattle.farm_types.specs.Step.{refusal_of, after}
+use Rattle.farm_types.specs.Transcript.{Mark, Plain, LatePlain, answer_to, heard_entry, line_limit, only_reply, request_answer}
+
+-- the round that follows a report was walked to its end, whatever came of the reply
+abbrev pub WalksWhole : Mark → Type 0
+WalksWhole Plain = Unit {0}
+WalksWhole LatePlain = Unit {0}
+WalksWhole mark = ⊥
+
+-- the line asks that this report be taken, and the farm takes it
+pub record IsTaken (f : Farm) (line : List ℕ) (moment : ℕ) (report : Report) : Type 0 where
+  pub fits : length line ≤ line_limit
+  pub asks : request_of line ≡ Ok (request.Report report)
+  pub accepted : refusal_of f (heard_entry report moment) ≡ None
+
+-- the report's host is there, and what is recorded of the line is that it was heard, and then exactly its round
+pub record HasWholeRound (f : Farm) (line : List ℕ) (moment : ℕ) (mark : Mark) (report : Report) : Type 0 where
+  pub host : ℕ
+  pub named : host_named f report.host ≡ Some host
+  pub recorded : (answer_to f line moment mark).entries ≡ heard_entry report moment ∷ round_for (after f (heard_entry report moment)) host moment
+
+-- A line past the limit is told so, whatever happens. Each other, where nothing is wanting, is answered by what it asks. Where memory is
+-- wanting for nothing but the reply to a report, the same is recorded.
+pub record IsAnsweredFully (f : Farm) (line : List ℕ) (moment : ℕ) : Type 0 where
+  pub long : line_limit < length line → (mark : Mark) → answer_to f line moment mark ≡ only_reply too_long
+  pub plain : length line ≤ line_limit → answer_to f line moment Plain ≡ request_answer f moment Plain (request_of line)
+  pub late : (answer_to f line moment LatePlain).entries ≡ (answer_to f line moment Plain).entries
