@@ -1,5 +1,5 @@
 -- What a line comes to where memory isn't wanting for it.
-use Rattle.std.proofs.Common.{◌≡◌, ◌≤◌, ◌<◌, ℕ, List, ◌∷◌, length, cond, Bool, true, false, true≢false, refl, sym, ap, ◌∙◌, Option, None, Some, Result, Ok, Err}
+use Rattle.std.proofs.Common.{◌≡◌, ℕ, List, ◌∷◌, length, cond, Bool, true, false, true≢false, refl, sym, ap, ◌∙◌, Option, None, Some, Result, Ok, Err}
 use Rattle.std.specs.Prelude.{nat_lt, is_some}
 use Rattle.farm_types.specs.declared.entry.Entry.{Entry}
 use Rattle.farm_types.specs.declared.refusal.Refusal.{Refusal}
@@ -11,7 +11,7 @@ use Rattle.farm_types.specs.Farm.{Farm, host_named}
 use Rattle.farm_types.specs.Reply.{too_long}
 use Rattle.farm_types.specs.Request.{RequestError, request_of}
 use Rattle.farm_types.specs.Step.{refusal_of, after, host_refusal}
-use Rattle.farm_types.specs.Transcript.{Mark, Plain, Memory, Cut, LatePlain, LateCut, answer_to, heard_entry, line_limit, marked_answer, accepted_answer, report_answer, submit_answer, submit_entry, request_answer, unless_memory, only_reply}
+use Rattle.farm_types.specs.Transcript.{Mark, Plain, Memory, Cut, LatePlain, LateCut, answer_to, heard_entry, line_limit, marked_answer, accepted_answer, report_answer, request_answer, unless_memory, only_reply}
 use Rattle.session.specs.Outcomes.{WalksWhole, IsTaken, HasWholeRound, IsAnsweredFully}
 use Rattle.session.proofs.AnswerLemmas.{line_within, accepted_is}
 use Rattle.session.proofs.TurnLemmas.{long_answer}

@@ -1,5 +1,5 @@
 -- What a call of the program did, by how it ended.
-use Rattle.std.proofs.Common.{◌≡◌, ℕ, List, [], ◌∷◌, inl, inr, refl, sym, ◌∙◌, subst, Option, Bool, true, false, true≢false, arith}
+use Rattle.std.proofs.Common.{◌≡◌, ℕ, List, [], ◌∷◌, inl, inr, refl, sym, ◌∙◌, subst, Option, Bool, false, true≢false, arith}
 use Rattle.farm_types.specs.declared.entry.Entry.{Entry}
 use Rattle.farm_types.specs.Demo.{demo_farm}
 use Rattle.farm_types.specs.Farm.{Farm}

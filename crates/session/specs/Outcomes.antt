@@ -1,5 +1,5 @@
 -- What a line comes to where memory isn't wanting for it.
-use Rattle.std.specs.Prelude.{◌≡◌, ◌≤◌, ◌<◌, ◌∷◌, ℕ, List, length, Option, None, Some, Ok}
+use Rattle.std.specs.Prelude.{◌≡◌, ◌≤◌, ◌<◌, ◌∷◌, ℕ, List, length, None, Some, Ok}
 use Rattle.farm_types.specs.declared.report.Report.{Report}
 use Rattle.farm_types.specs.declared.request.Request.TheVariants as request
 use Rattle.farm_types.specs.Dispatch.{round_for}

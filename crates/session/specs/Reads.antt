@@ -1,5 +1,5 @@
 -- What reading a line answers.
-use Rattle.std.specs.Prelude.{◌≡◌, ◌++◌, ℕ, List, Result, Ok, Err}
+use Rattle.std.specs.Prelude.{◌≡◌, ◌++◌, List, Result, Ok, Err}
 use Rattle.cue_json.specs.Fields.{Fault, ◌>>=◌}
 use Rattle.cue_json.specs.declared.fault.FieldFault.{FieldFault}
 use Rattle.cue_json.specs.declared.fault.FieldFault.TheVariants as field_fault
