@@ -1,12 +1,11 @@
 -- Two changes of one slot as one, and the slot that a booking or a completion makes.
-use Rattle.std.proofs.Common.{◌≡◌, ℕ, suc, zero, Bool, true, false, cond, List, [], ◌∷◌, Option, Some, None, refl, sym, ap, subst, ◌∙◌, option_map}
+use Rattle.std.proofs.Common.{◌≡◌, ℕ, suc, zero, Bool, true, cond, List, [], ◌∷◌, Option, Some, None, refl, sym, ap, subst, ◌∙◌}
 use Rattle.std.specs.List.{slice_get, slice_set}
 use Rattle.farm_types.specs.declared.attempt.DoneItem.{DoneItem}
 use Rattle.farm_types.specs.declared.attempt.Exit.{Exit}
 use Rattle.farm_types.specs.declared.attempt.ProcRow.{ProcRow}
 use Rattle.farm_types.specs.declared.slot_row.FrameRow.{FrameRow}
 use Rattle.farm_types.specs.declared.slot_row.SlotRow.{SlotRow}
-use Rattle.farm_types.specs.declared.states.FrameState.{FrameState}
 use Rattle.farm_types.specs.declared.states.FrameState.TheVariants.{Running}
 use Rattle.farm_types.specs.declared.verdict.Verdict.{Verdict}
 use Rattle.farm_types.specs.declared.verdict.Verdict.TheVariants.{Succeeded, Waiting, Eaten, Dead}

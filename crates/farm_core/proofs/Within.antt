@@ -4,7 +4,7 @@ use Rattle.std.specs.List.{slice_get}
 use Rattle.std.proofs.lemmas.Bool.{leb-true}
 use Rattle.farm_types.specs.declared.rows.HostRow.{HostRow}
 use Rattle.farm_types.specs.Farm.{Farm}
-use Rattle.farm_types.specs.Sums.{used_cores, used_memory}
+use Rattle.farm_types.specs.Sums.{used_cores}
 use Rattle.farm_core.specs.Consistent.{IsConsistent, is_host_within, most_cores, most_memory}
 use Rattle.farm_core.proofs.Lists.{and_both, list_all-at, slice_get_below}
 

@@ -1,5 +1,3 @@
-use Rattle.std.proofs.Common.{refl, arith}
-use Rattle.farm_types.specs.Demo.{demo_farm}
 use Rattle.farm_core.proofs.DemoKept.{demo_kept}
 use Rattle.farm_core.proofs.demo.demo_farm.Goals as goal
 
