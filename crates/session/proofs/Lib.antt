@@ -1,6 +1,7 @@
 pub mod AnswerLemmas
 pub mod LaunchLemmas
 pub mod LegalLemmas
+pub mod NewlineLemmas
 pub mod OutcomeLemmas
 pub mod ReplyLemmas
 pub mod RoundLemmas

@@ -28,7 +28,8 @@ mod word_forms;
 mod words;
 
 pub use laws::{
-    lines_are_answered_by_what_they_ask, sessions_are_legal, taken_reports_have_their_round,
+    lines_are_answered_by_what_they_ask, replies_are_single_lines, sessions_are_legal,
+    taken_reports_have_their_round,
 };
 pub use run::{Status, run_cuebot};
 pub use word_forms::form;
