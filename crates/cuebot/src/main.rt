@@ -1,5 +1,5 @@
-//! The scheduler's program. `cuebot demo` reads hosts' report lines from standard input and answers each with what the host is to start and
-//! to stop, over the farm of the demonstration.
+//! The scheduler's program. `cuebot demo` reads reports and submitted jobs from standard input, a line each, and answers them over the farm of
+//! the demonstration.
 #![tactic(auto)]
 
 ghost use Rattle.std.specs.Prelude.{◌≡◌, option_map};
@@ -19,8 +19,7 @@ const USAGE: &str = "usage: cuebot demo";
 // The status where memory is wanting before the call.
 const NO_MEMORY: Status = 7;
 
-const WAITING: &str =
-    "cuebot: waiting for report lines, each a JSON object; end the input with Ctrl-D";
+const WAITING: &str = "cuebot: waiting for lines, each a JSON object; end the input with Ctrl-D";
 
 fn main(rt: HostRuntime) -> ExitCode {
     let at_terminal = rt.stdin().is_terminal();
