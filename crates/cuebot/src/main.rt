@@ -1,9 +1,9 @@
-//! The scheduler's program. `cuebot demo` reads reports and submitted jobs from standard input, a line each, and answers them over the farm of
-//! the demonstration.
+//! The scheduler's program. It reads requests from standard input, a line each, and answers them: `cuebot demo` over the farm of the
+//! demonstration, and `cuebot script :memory:` over a farm that begins empty.
 #![tactic(auto)]
 
-ghost use Rattle.std.specs.Prelude.{◌≡◌, option_map};
-ghost use Rattle.session.specs.Sessions.{is_demo};
+ghost use Rattle.std.specs.Prelude.{◌≡◌, is_some, option_map};
+ghost use Rattle.session.specs.Words.{form_of};
 ghost use Rattle.cuebot.specs.Hints.{hint_of};
 
 use cue_io::{InputSource, OutputSink, SystemClock};
@@ -14,7 +14,8 @@ use std::io::{self, IsTerminal};
 use std::process::ExitCode;
 use std::rt::Runtime;
 
-const USAGE: &str = "usage: cuebot demo";
+const USAGE: &str =
+    "usage: cuebot demo | script STORE | load N | serve STORE PORT WORKERS CONNECTIONS";
 
 // The status where memory is wanting before the call.
 const NO_MEMORY: Status = 7;
@@ -51,7 +52,7 @@ fn run<R: Runtime + AllocGlobal>(rt: &R, at_terminal: bool) -> Status {
 
 // What is said on standard error before the call: the usage for words of no form, and at a terminal what is waited for.
 fn hint_for(words: &[Text], at_terminal: bool) -> Option<&'static str>
-    ensures { option_map (λ hint. hint.now) result ≡ hint_of (is_demo words.now) at_terminal }
+    ensures { option_map (λ hint. hint.now) result ≡ hint_of (is_some (form_of words.now)) at_terminal }
 {
     match form(words) {
         None => Some(USAGE),

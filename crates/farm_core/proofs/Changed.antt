@@ -1,5 +1,5 @@
 -- A list with the item at one place changed: its length, its items, and a sum over it.
-use Rattle.std.proofs.Common.{◌≡◌, ◌≢◌, ℕ, suc, zero, ◌+◌, List, [], ◌∷◌, length, Option, Some, None, refl, sym, ap, subst, ◌∙◌, ◌⊎◌, inl, inr, Bool, true, false, eqb, map, option_map}
+use Rattle.std.proofs.Common.{◌≡◌, ◌≢◌, ℕ, suc, zero, ◌+◌, List, [], ◌∷◌, ◌++◌, length, Option, Some, None, refl, sym, ap, subst, ◌∙◌, ◌⊎◌, inl, inr, Bool, true, false, eqb, map, option_map}
 use Rattle.std.specs.List.{slice_get, slice_set, sum_by}
 use Rattle.std.proofs.Math.ListN.{set, length-set}
 use Rattle.std.proofs.lemmas.Option.{none-some, same_Some, slice_get_within, get_or_from_slice_get, slice_get-map}
@@ -77,3 +77,10 @@ mapped_at P xs v each k y (Some x) e at = subst (P k) (same_Some (v x) y at) (ea
 -- what holds of each item's image at its place holds of each item of the mapped list
 pub mapped_each : {X : Type 0} (P : ℕ → X → Type 0) (xs : List X) (v : X → X) → ((k : ℕ) (x : X) → slice_get xs k ≡ Some x → P k (v x)) → (k : ℕ) (y : X) → slice_get (map v xs) k ≡ Some y → P k y
 mapped_each P xs v each k y at = mapped_at P xs v each k y (slice_get xs k) refl (sym (slice_get-map v xs k) ∙ at)
+
+-- what holds of each item, and of the new one past the last, holds of each item of the longer list
+pub appended_each : {X : Type 0} (P : ℕ → X → Type 0) (xs : List X) (y : X) → ((k : ℕ) (x : X) → slice_get xs k ≡ Some x → P k x) → P (length xs) y → (k : ℕ) (x : X) → slice_get (xs ++ y ∷ []) k ≡ Some x → P k x
+appended_each P [] y each last zero x at = subst (P 0) (same_Some y x at) last
+appended_each P [] y each last (suc k) x at = absurd (none-some x at)
+appended_each P (z ∷ zs) y each last zero x at = each 0 x at
+appended_each P (z ∷ zs) y each last (suc k) x at = appended_each (λ n. P (suc n)) zs y (λ n w here. each (suc n) w here) last k x at

@@ -1,107 +1,172 @@
 -- Each change keeps the farm consistent.
-use Rattle.std.proofs.Common.{◌≡◌, ℕ, ◌+◌, ◌≤◌, Bool, true, false, cond, eqb, map, Some, refl, sym, subst, ◌∙◌, arith}
-use Rattle.std.proofs.lemmas.Bool.{leb-true, eqb-true}
-use Rattle.std.proofs.lemmas.List.{length-map}
+use Rattle.std.proofs.Common.{◌≡◌, ℕ, ◌≤◌, ◌<◌, ◌++◌, ◌∷◌, [], Bool, true, false, cond, length, map, Option, Some, None, refl, sym, ap, subst, ◌∙◌, arith}
+use Rattle.std.specs.Prelude.{is_some}
+use Rattle.std.specs.List.{list_all}
+use Rattle.std.specs.Cmp.Derive.{both_true}
+use Rattle.std.proofs.lemmas.Bool.{le-leb, lt-ltb}
+use Rattle.std.proofs.lemmas.List.{length-map, length-append}
 use Rattle.std.proofs.lemmas.Option.{same_Some}
-use Rattle.farm_types.specs.declared.attempt.Exit.{Exit}
 use Rattle.farm_types.specs.declared.attempt.ProcRow.{ProcRow}
+use Rattle.farm_types.specs.declared.boot.BootLine.{BootLine}
 use Rattle.farm_types.specs.declared.job.JobSpec.{JobSpec}
+use Rattle.farm_types.specs.declared.rows.AllocRow.{AllocRow}
 use Rattle.farm_types.specs.declared.rows.HostRow.{HostRow}
-use Rattle.farm_types.specs.Farm.{Farm, changed_at, sub_of}
+use Rattle.farm_types.specs.declared.rows.ShowRow.{ShowRow}
+use Rattle.farm_types.specs.Farm.{Farm, changed_at, host_named}
+use Rattle.farm_types.specs.Hosts.{again_row, booted_at, booted_row, is_same_life, new_host, reborn_row}
 use Rattle.farm_types.specs.Jobs.{with_job, frames_of}
-use Rattle.farm_types.specs.Sums.{booked_in, cores_in}
-use Rattle.farm_types.specs.Step.{heard_row, reopened_row, booked_row, proc_of, at_moment, ended_row, lists_of, with_lists}
-use Rattle.farm_core.specs.declared.change.Effect.{Effect}
-use Rattle.farm_core.specs.declared.change.Effect.TheVariants.{Opened, Heard, Submit, Book}
-use Rattle.farm_core.specs.Change.{IsBooking, Fits}
-use Rattle.farm_core.specs.Consistent.{IsConsistent, is_host_within, is_sub_within, most_burst}
-use Rattle.farm_core.proofs.Lists.{and_both, list_all-at, list_all-from_at, find_passes}
-use Rattle.farm_core.proofs.Changed.{changed_at_each, mapped_each, length-changed_at}
+use Rattle.farm_types.specs.Limits.{BootKeepsLimits}
+use Rattle.farm_types.specs.Step.{after_boot, booked_row, lists_of, proc_of, with_lists}
+use Rattle.farm_types.specs.Subs.{with_sub}
+use Rattle.farm_core.specs.Change.{IsBooking, IsSub}
+use Rattle.farm_core.specs.Consistent.{IsConsistent, is_host_within, is_sub_within}
+use Rattle.farm_core.proofs.Booked.{booked_sound, booked_hosts}
+use Rattle.farm_core.proofs.Booted.{boot_sound, boot_hosts}
 use Rattle.farm_core.proofs.CanBook.{Rows, CanBook, can_book, new_proc_is}
-use Rattle.farm_core.proofs.Hosts.{moment_sound, heard_sound, opened_sound, reopened_amounts}
-use Rattle.farm_core.proofs.Booked.{booked_sound, booked_hosts, booked_of}
-use Rattle.farm_core.proofs.Ended.{ended_sound, ended_hosts, ended_sum}
-use Rattle.farm_core.proofs.Placed.{placed_sum, submit_sound, submit_hosts}
+use Rattle.farm_core.proofs.Changed.{appended_each, changed_at_each, length-changed_at, mapped_each}
+use Rattle.farm_core.proofs.Hosts.{KeepsAmounts, changed_sound, mapped_sound}
+use Rattle.farm_core.proofs.Lists.{list_all-at, list_all-from_at}
+use Rattle.farm_core.proofs.Placed.{job_waits, submit_sound, submit_hosts}
+use Rattle.farm_core.proofs.Subscribed.{boot_subs, changed_subs, placed_subs, set_subs, set_within}
 
-pub moment_consistent : (f : Farm) (moment : ℕ) → IsConsistent f → IsConsistent (at_moment f moment)
-moment_consistent f moment ok =
+-- ---- rows
+
+pub show_consistent : (f : Farm) (row : ShowRow) → length f.shows < 64 → IsConsistent f → IsConsistent (record f { shows = f.shows ++ row ∷ [] })
+show_consistent f row below ok =
     record {
-      sound = moment_sound f moment ok.sound;
+      sound = record { cores = ok.sound.cores; memory = ok.sound.memory; attempts = ok.sound.attempts };
       hosted = ok.hosted;
+      subscribed = ok.subscribed;
       hosts_within = ok.hosts_within;
       subs_within = ok.subs_within;
-      booked_within = ok.booked_within;
+      show_count = omega (arith, below, length-append f.shows (row ∷ []));
+      alloc_count = ok.alloc_count;
       host_count = ok.host_count;
-      show_count = ok.show_count;
     }
 
-pub heard_consistent : (f : Farm) (host seq moment : ℕ) → IsConsistent f → IsConsistent (record f { hosts = changed_at f.hosts host (heard_row seq moment) })
-heard_consistent f host seq moment ok =
-    let count = length-changed_at f.hosts host (heard_row seq moment) in
+pub alloc_consistent : (f : Farm) (row : AllocRow) → length f.allocs < 16 → IsConsistent f → IsConsistent (record f { allocs = f.allocs ++ row ∷ [] })
+alloc_consistent f row below ok =
     record {
-      sound = heard_sound f host seq moment ok.sound;
-      hosted = rw count ok.hosted;
-      hosts_within =
-          list_all-from_at is_host_within (changed_at f.hosts host (heard_row seq moment))
-          (changed_at_each (λ k h. is_host_within h ≡ true) f.hosts host (heard_row seq moment)
-          (λ h at. list_all-at is_host_within f.hosts host h ok.hosts_within at)
-          (λ k h apart at. list_all-at is_host_within f.hosts k h ok.hosts_within at));
+      sound = record { cores = ok.sound.cores; memory = ok.sound.memory; attempts = ok.sound.attempts };
+      hosted = ok.hosted;
+      subscribed = ok.subscribed;
+      hosts_within = ok.hosts_within;
       subs_within = ok.subs_within;
-      booked_within = ok.booked_within;
-      host_count = omega (arith, count, ok.host_count);
       show_count = ok.show_count;
+      alloc_count = omega (arith, below, length-append f.allocs (row ∷ []));
+      host_count = ok.host_count;
     }
 
-reopened_within : (moment : ℕ) (h : HostRow) → is_host_within h ≡ true → is_host_within (reopened_row moment h) ≡ true
-reopened_within moment h ok =
-    let same = reopened_amounts moment h in
+sub_within : (sub size burst : ℕ) → IsSub sub size burst → is_sub_within (record { sub = sub; size = size; burst = burst }) ≡ true
+sub_within sub size burst is = both_true (lt-ltb _ _ is.number_within) (both_true (le-leb _ _ is.size_within) (le-leb _ _ is.burst_within))
+
+pub sub_consistent : (f : Farm) (sub size burst : ℕ) → IsSub sub size burst → IsConsistent f → IsConsistent (record f { subs = with_sub (record { sub = sub; size = size; burst = burst }) f.subs })
+sub_consistent f sub size burst is ok =
+    record {
+      sound = record { cores = ok.sound.cores; memory = ok.sound.memory; attempts = ok.sound.attempts };
+      hosted = ok.hosted;
+      subscribed = set_subs (record { sub = sub; size = size; burst = burst }) f.subs f.slots ok.subscribed;
+      hosts_within = ok.hosts_within;
+      subs_within = set_within (record { sub = sub; size = size; burst = burst }) f.subs (sub_within sub size burst is) ok.subs_within;
+      show_count = ok.show_count;
+      alloc_count = ok.alloc_count;
+      host_count = ok.host_count;
+    }
+
+-- ---- hosts
+
+within_kept : (change : HostRow → HostRow) → KeepsAmounts change → (h : HostRow) → is_host_within h ≡ true → is_host_within (change h) ≡ true
+within_kept change keeps h ok =
+    let same = keeps h in
     rw (← same.0, ← same.1) ok
 
-pub opened_consistent : (f : Farm) (moment : ℕ) → IsConsistent f → IsConsistent (record f { hosts = map (reopened_row moment) f.hosts })
-opened_consistent f moment ok =
-    let count = length-map f.hosts (reopened_row moment) in
+pub changed_consistent : (f : Farm) (host : ℕ) (change : HostRow → HostRow) → KeepsAmounts change → IsConsistent f → IsConsistent (record f { hosts = changed_at f.hosts host change })
+changed_consistent f host change keeps ok =
+    let count = length-changed_at f.hosts host change in
     record {
-      sound = opened_sound f moment ok.sound;
+      sound = changed_sound f host change keeps ok.sound;
       hosted = rw count ok.hosted;
+      subscribed = ok.subscribed;
       hosts_within =
-          list_all-from_at is_host_within (map (reopened_row moment) f.hosts)
-          (mapped_each (λ k h. is_host_within h ≡ true) f.hosts (reopened_row moment) (λ k h at. reopened_within moment h (list_all-at is_host_within f.hosts k h ok.hosts_within at)));
+          list_all-from_at is_host_within (changed_at f.hosts host change)
+          (changed_at_each (λ k h. is_host_within h ≡ true) f.hosts host change
+          (λ h at. within_kept change keeps h (list_all-at is_host_within f.hosts host h ok.hosts_within at))
+          (λ k h apart at. list_all-at is_host_within f.hosts k h ok.hosts_within at));
       subs_within = ok.subs_within;
-      booked_within = ok.booked_within;
-      host_count = omega (arith, count, ok.host_count);
       show_count = ok.show_count;
+      alloc_count = ok.alloc_count;
+      host_count = omega (arith, count, ok.host_count);
     }
 
-pub ended_consistent : (f : Farm) (slot : ℕ) (exit : Exit) → IsConsistent f → IsConsistent (record f { slots = changed_at f.slots slot (ended_row f exit) })
-ended_consistent f slot exit ok =
+pub mapped_consistent : (f : Farm) (change : HostRow → HostRow) → KeepsAmounts change → IsConsistent f → IsConsistent (record f { hosts = map change f.hosts })
+mapped_consistent f change keeps ok =
+    let count = length-map f.hosts change in
     record {
-      sound = ended_sound f slot exit ok.sound;
-      hosted = ended_hosts f slot exit ok.hosted;
-      hosts_within = ok.hosts_within;
+      sound = mapped_sound f change keeps ok.sound;
+      hosted = rw count ok.hosted;
+      subscribed = ok.subscribed;
+      hosts_within =
+          list_all-from_at is_host_within (map change f.hosts)
+          (mapped_each (λ k h. is_host_within h ≡ true) f.hosts change (λ k h at. within_kept change keeps h (list_all-at is_host_within f.hosts k h ok.hosts_within at)));
       subs_within = ok.subs_within;
-      booked_within = λ sub. omega (arith, ended_sum f slot exit (cores_in sub) refl, ok.booked_within sub);
-      host_count = ok.host_count;
       show_count = ok.show_count;
+      alloc_count = ok.alloc_count;
+      host_count = omega (arith, count, ok.host_count);
     }
+
+-- ---- a boot
+
+module _ (f : Farm) (line : BootLine) (moment alloc : ℕ) (limits : BootKeepsLimits line) (ok : IsConsistent f) where
+  line_within : (h : HostRow) → h.cores ≡ line.cores → h.memory ≡ line.memory → is_host_within h ≡ true
+  line_within h cores memory = both_true (le-leb h.cores 1000000 (omega (arith, cores, limits.cores_within.1))) (le-leb h.memory 1000000000000 (omega (arith, memory, limits.memory_within.1)))
+
+  life_within : (h : HostRow) (b : Bool) → is_host_within h ≡ true → is_host_within (cond b (again_row moment h) (reborn_row line moment h)) ≡ true
+  life_within h true within = within
+  life_within h false within = line_within (reborn_row line moment h) refl refl
+
+  booted_within : (o : Option ℕ) → list_all is_host_within (booted_at f.hosts line alloc moment o) ≡ true
+  booted_within None =
+      list_all-from_at is_host_within (f.hosts ++ new_host line alloc moment ∷ [])
+      (appended_each (λ k h. is_host_within h ≡ true) f.hosts (new_host line alloc moment)
+      (λ k h at. list_all-at is_host_within f.hosts k h ok.hosts_within at)
+      (line_within (new_host line alloc moment) refl refl))
+  booted_within (Some host) =
+      list_all-from_at is_host_within (changed_at f.hosts host (booted_row line moment))
+      (changed_at_each (λ k h. is_host_within h ≡ true) f.hosts host (booted_row line moment)
+      (λ h at. life_within h (is_same_life line h) (list_all-at is_host_within f.hosts host h ok.hosts_within at))
+      (λ k h apart at. list_all-at is_host_within f.hosts k h ok.hosts_within at))
+
+  booted_count : (o : Option ℕ) → (o ≡ None → length f.hosts < 4096) → length (booted_at f.hosts line alloc moment o) ≤ 4096
+  booted_count None room = omega (arith, room refl, length-append f.hosts (new_host line alloc moment ∷ []))
+  booted_count (Some host) room = omega (arith, length-changed_at f.hosts host (booted_row line moment), ok.host_count)
+
+  pub boot_consistent : (host_named f line.host ≡ None → length f.hosts < 4096) → IsConsistent (after_boot f line moment (Some alloc))
+  boot_consistent room =
+      record {
+        sound = boot_sound f line moment alloc ok.sound ok.hosted;
+        hosted = boot_hosts f line moment alloc ok.hosted;
+        subscribed = boot_subs f line (host_named f line.host) ok.subscribed;
+        hosts_within = booted_within (host_named f line.host);
+        subs_within = ok.subs_within;
+        show_count = ok.show_count;
+        alloc_count = ok.alloc_count;
+        host_count = booted_count (host_named f line.host) room;
+      }
+
+-- ---- slots
 
 module _ (f : Farm) (slot host moment : ℕ) (r : Rows) (can : CanBook f slot host r) (ok : IsConsistent f) where
-  burst_within : (n : ℕ) (same : Bool) → eqb (sub_of r.job.show r.host.alloc) n ≡ same → booked_in f n + cond same r.layer.cores 0 ≤ most_burst
-  burst_within n true e =
-      let here : sub_of r.job.show r.host.alloc ≡ n = eqb-true (sub_of r.job.show r.host.alloc) n e in
-      let within : r.sub.burst ≤ most_burst = leb-true _ _ (and_both _ _ (find_passes (λ s. eqb s.sub (sub_of r.job.show r.host.alloc)) is_sub_within f.subs r.sub ok.subs_within can.sub_is)).0 in
-      subst (λ (k : ℕ). booked_in f k + r.layer.cores ≤ most_burst) here (omega (arith, can.burst, within))
-  burst_within n false e = omega (arith, ok.booked_within n)
-
   booked_consistent : IsConsistent (record f { slots = changed_at f.slots slot (booked_row (proc_of slot host moment r.slot r.job r.layer r.host)) })
   booked_consistent =
       record {
         sound = booked_sound f slot host moment r can ok.sound;
         hosted = booked_hosts f slot host moment r can ok.sound ok.hosted;
+        subscribed = changed_subs f.subs f.slots slot (booked_row (proc_of slot host moment r.slot r.job r.layer r.host)) (λ s. ap is_some can.sub_is) ok.subscribed;
         hosts_within = ok.hosts_within;
         subs_within = ok.subs_within;
-        booked_within = λ n. subst (λ (k : ℕ). k ≤ most_burst) (sym (booked_of f slot host moment r can ok.sound n)) (burst_within n (eqb (sub_of r.job.show r.host.alloc) n) refl);
-        host_count = ok.host_count;
         show_count = ok.show_count;
+        alloc_count = ok.alloc_count;
+        host_count = ok.host_count;
       }
 
 pub book_consistent : (f : Farm) (slot : ℕ) (p : ProcRow) → IsBooking f slot p → IsConsistent f → IsConsistent (record f { slots = changed_at f.slots slot (booked_row p) })
@@ -116,16 +181,10 @@ placed_consistent f show spec ok =
     record {
       sound = submit_sound f spec (Some show) ok.sound;
       hosted = submit_hosts f spec (Some show) ok.hosted;
+      subscribed = placed_subs f.subs f.slots (frames_of f.next_job 0 spec.layers) (job_waits f.next_job 0 spec.layers) ok.subscribed;
       hosts_within = ok.hosts_within;
       subs_within = ok.subs_within;
-      booked_within = λ sub. omega (arith, placed_sum (cores_in sub) refl f.slots (frames_of f.next_job 0 spec.layers), ok.booked_within sub);
       show_count = ok.show_count;
+      alloc_count = ok.alloc_count;
       host_count = ok.host_count;
     }
-
--- what fits the farm fits it at another moment
-pub moment_fits : (f : Farm) (moment : ℕ) (e : Effect) → Fits f e → Fits (at_moment f moment) e
-moment_fits f moment Opened fits = tt
-moment_fits f moment (Heard host boot seq done) fits = fits
-moment_fits f moment (Submit placing spec) fits = record { limits = fits.limits; accepted = fits.accepted; placed = fits.placed }
-moment_fits f moment (Book slot p) fits = record { allowed = fits.allowed; made = fits.made }

@@ -11,13 +11,14 @@ use Rattle.farm_types.specs.declared.job.JobSpec.{JobSpec}
 use Rattle.farm_types.specs.declared.job.LayerSpec.{LayerSpec}
 use Rattle.farm_types.specs.declared.slot_row.FrameRow.{FrameRow}
 use Rattle.farm_types.specs.declared.slot_row.SlotRow.{SlotRow}
+use Rattle.farm_types.specs.declared.states.FrameState.{FrameState}
+use Rattle.farm_types.specs.declared.states.FrameState.TheVariants.{Waiting, Setup, Running, Succeeded, Depend, Dead, Eaten}
 use Rattle.farm_types.specs.Booking.{is_waiting}
 use Rattle.farm_types.specs.Farm.{Farm, last_version}
 use Rattle.farm_types.specs.Jobs.{is_free, slot_with, fresh_slot, place_frames, frames_from, frames_of}
-use Rattle.farm_types.specs.Run.{IsSound, HasItsHosts, HasItsAttempt, OnHostOf}
+use Rattle.farm_types.specs.Run.{IsSound, HasItsHosts, HasItsAttempt, IsAttemptOf, OnHostOf}
 use Rattle.farm_types.specs.Step.{after_submit}
 use Rattle.farm_types.specs.Sums.{cores_on, memory_on}
-use Rattle.farm_core.proofs.FreshFarm.{waiting_attempt}
 use Rattle.farm_core.proofs.Lists.{and_both}
 use Rattle.farm_core.proofs.Spent.{IsSpent, IsSpentAt}
 
@@ -109,6 +110,16 @@ job_waits job place [] = refl
 job_waits job place (l ∷ ls) = all_joined (frames_from job place 0 l.numbers) (frames_of job (place + 1) ls) (frames_wait job place 0 l.numbers) (job_waits job (place + 1) ls)
 
 -- ---- sound
+
+-- a waiting frame has no attempt
+pub waiting_attempt : (place version : ℕ) (state : FrameState) → is_waiting state ≡ true → IsAttemptOf place version state None
+waiting_attempt place version Waiting h = tt
+waiting_attempt place version Setup h = tt
+waiting_attempt place version Running h = absurd (false≢true h)
+waiting_attempt place version Succeeded h = tt
+waiting_attempt place version Depend h = tt
+waiting_attempt place version Dead h = tt
+waiting_attempt place version Eaten h = tt
 
 filled_attempt : (place version : ℕ) (frame : Option FrameRow) (proc : Option ProcRow) (x : FrameRow) → is_none frame ≡ true → waits x ≡ true
     → HasItsAttempt place version frame proc → HasItsAttempt place version (Some x) proc

@@ -5,24 +5,30 @@ use Rattle.std.proofs.lemmas.Bool.{eq-eqb}
 use Rattle.std.proofs.lemmas.List.{length-map}
 use Rattle.farm_types.specs.declared.attempt.Attempt.{Attempt}
 use Rattle.farm_types.specs.declared.attempt.ProcRow.{ProcRow}
+use Rattle.farm_types.specs.declared.boot.BootLine.{BootLine}
 use Rattle.farm_types.specs.declared.entry.Entry.{Entry}
 use Rattle.farm_types.specs.declared.entry.Act.{Act}
-use Rattle.farm_types.specs.declared.entry.Act.TheVariants.{Opened, Heard, Submit, Book}
+use Rattle.farm_types.specs.declared.entry.Act.TheVariants.{Opened, Show, Alloc, Sub, Boot, Heard, Submit, Lock, Tick, Book}
 use Rattle.farm_types.specs.declared.entry.HeardAct.{HeardAct}
 use Rattle.farm_types.specs.declared.rows.SubRow.{SubRow}
 use Rattle.farm_types.specs.declared.slot_row.SlotRow.{SlotRow}
-use Rattle.farm_types.specs.Farm.{Farm, changed_at, sub_of, host_named, show_named}
+use Rattle.farm_types.specs.declared.states.LockState.{LockState}
+use Rattle.farm_types.specs.declared.sub_line.SubLine.{SubLine}
+use Rattle.farm_types.specs.Farm.{Farm, changed_at, sub_of, host_named, show_named, alloc_named}
 use Rattle.farm_types.specs.Sums.{booked_in}
 use Rattle.farm_types.specs.Booking.{may_record}
+use Rattle.farm_types.specs.Hosts.{heard_row, reopened_row, locked_row}
 use Rattle.farm_types.specs.Run.{IsSound, HasItsHosts, IsLegal, IsSafe, EachStepSafe, ActsSafely, BooksSafely, IsWithinBurst, AllDiffer, counted, counted_by, counted_of}
-use Rattle.farm_types.specs.Step.{HasCondition, at_moment, moment_of, after, after_act, after_heard, heard_row, reopened_row, booked_row, with_proc, new_proc, proc_of}
+use Rattle.farm_types.specs.Step.{HasCondition, at_moment, moment_of, after, after_act, after_heard, after_boot, after_lock, after_sub, sub_named, expire, booked_row, with_proc, new_proc, proc_of}
 use Rattle.farm_core.proofs.Changed.{changed_at_same, length-changed_at}
 use Rattle.farm_core.proofs.CanBook.{Rows, CanBook, can_book, new_proc_is}
-use Rattle.farm_core.proofs.Hosts.{moment_sound, heard_sound, opened_sound}
+use Rattle.farm_core.proofs.Hosts.{moment_sound, heard_sound, locked_sound, opened_sound}
+use Rattle.farm_core.proofs.Lost.{expire_sound, expire_hosts}
+use Rattle.farm_core.proofs.Booted.{boot_sound, boot_hosts}
 use Rattle.farm_core.proofs.Booked.{added, booked, booked_sound, booked_hosts, booked_of}
 use Rattle.farm_core.proofs.Ended.{end_all_sound, end_all_hosts}
 use Rattle.farm_core.proofs.Placed.{submit_sound, submit_hosts, submit_spent}
-use Rattle.farm_core.proofs.Spent.{IsSpent, spent_end_all, spent_booked}
+use Rattle.farm_core.proofs.Spent.{IsSpent, spent_end_all, spent_booked, spent_expired, spent_boot}
 use Rattle.farm_core.proofs.Once.{AreSpent, HasNoSpent, differ_joined, none_joined, none_in, spent_in, differ_in}
 
 -- ---- each step keeps the farm sound, and its attempts on hosts that are there
@@ -40,11 +46,37 @@ book_step f slot host moment allowed ok =
     let can = can_book f slot host allowed in
     subst IsSound (sym (booking_makes f slot host moment can.0 can.1)) (booked_sound f slot host moment can.0 can.1 ok)
 
-act_step : (f : Farm) (moment : ℕ) (act : Act) → HasCondition f act → IsSound f → IsSound (after_act (at_moment f moment) moment act)
-act_step f moment Opened allowed ok = opened_sound (at_moment f moment) moment (moment_sound f moment ok)
-act_step f moment (Heard heard) allowed ok = heard_step (at_moment f moment) heard moment (host_named f heard.host) (moment_sound f moment ok)
-act_step f moment (Submit spec) allowed ok = submit_sound (at_moment f moment) spec (show_named f spec.show) (moment_sound f moment ok)
-act_step f moment (Book slot host) allowed ok = book_step (at_moment f moment) slot host moment allowed (moment_sound f moment ok)
+sub_step : (f : Farm) (line : SubLine) (o : Option ℕ) → IsSound f → IsSound (after_sub f line o)
+sub_step f line None ok = ok
+sub_step f line (Some sub) ok = record { cores = ok.cores; memory = ok.memory; attempts = ok.attempts }
+
+boot_step : (f : Farm) (line : BootLine) (moment : ℕ) (o : Option ℕ) → IsSound f → HasItsHosts f → IsSound (after_boot f line moment o)
+boot_step f line moment None ok there = ok
+boot_step f line moment (Some alloc) ok there = boot_sound f line moment alloc ok there
+
+lock_step : (f : Farm) (lock : LockState) (o : Option ℕ) → IsSound f → IsSound (after_lock f lock o)
+lock_step f lock None ok = ok
+lock_step f lock (Some host) ok = locked_sound f host lock ok
+
+-- the farm of an entry's moment, its silent hosts down
+expired_sound : (f : Farm) (moment : ℕ) → IsSound f → IsSound (expire (at_moment f moment) moment)
+expired_sound f moment ok = expire_sound (at_moment f moment) moment (moment_sound f moment ok)
+
+expired_hosts : (f : Farm) (moment : ℕ) → HasItsHosts f → HasItsHosts (expire (at_moment f moment) moment)
+expired_hosts f moment there = expire_hosts (at_moment f moment) moment there
+
+act_step : (f : Farm) (moment : ℕ) (act : Act) → HasCondition f act → IsSound f → HasItsHosts f → IsSound (after_act (at_moment f moment) moment act)
+act_step f moment Opened allowed ok there = opened_sound (at_moment f moment) moment (moment_sound f moment ok)
+act_step f moment (Show name) allowed ok there = record { cores = ok.cores; memory = ok.memory; attempts = ok.attempts }
+act_step f moment (Alloc facility tag) allowed ok there = record { cores = ok.cores; memory = ok.memory; attempts = ok.attempts }
+act_step f moment (Sub line) allowed ok there = sub_step (at_moment f moment) line (sub_named f line) (moment_sound f moment ok)
+act_step f moment (Boot line) allowed ok there =
+    boot_step (expire (at_moment f moment) moment) line moment (alloc_named f line.alloc) (expired_sound f moment ok) (expired_hosts f moment there)
+act_step f moment (Heard heard) allowed ok there = heard_step (expire (at_moment f moment) moment) heard moment (host_named f heard.host) (expired_sound f moment ok)
+act_step f moment (Submit spec) allowed ok there = submit_sound (at_moment f moment) spec (show_named f spec.show) (moment_sound f moment ok)
+act_step f moment (Lock host lock) allowed ok there = lock_step (at_moment f moment) lock (host_named f host) (moment_sound f moment ok)
+act_step f moment Tick allowed ok there = expired_sound f moment ok
+act_step f moment (Book slot host) allowed ok there = book_step (at_moment f moment) slot host moment allowed (moment_sound f moment ok)
 
 heard_hosts : (f : Farm) (heard : HeardAct) (moment : ℕ) (o : Option ℕ) → HasItsHosts f → HasItsHosts (after_heard f heard moment o)
 heard_hosts f heard moment None there = there
@@ -55,10 +87,28 @@ book_hosts f slot host moment allowed ok there =
     let can = can_book f slot host allowed in
     subst HasItsHosts (sym (booking_makes f slot host moment can.0 can.1)) (booked_hosts f slot host moment can.0 can.1 ok there)
 
+sub_hosts : (f : Farm) (line : SubLine) (o : Option ℕ) → HasItsHosts f → HasItsHosts (after_sub f line o)
+sub_hosts f line None there = there
+sub_hosts f line (Some sub) there = there
+
+boots_there : (f : Farm) (line : BootLine) (moment : ℕ) (o : Option ℕ) → HasItsHosts f → HasItsHosts (after_boot f line moment o)
+boots_there f line moment None there = there
+boots_there f line moment (Some alloc) there = boot_hosts f line moment alloc there
+
+lock_hosts : (f : Farm) (lock : LockState) (o : Option ℕ) → HasItsHosts f → HasItsHosts (after_lock f lock o)
+lock_hosts f lock None there = there
+lock_hosts f lock (Some host) there = rw (length-changed_at f.hosts host (locked_row lock)) there
+
 act_hosts : (f : Farm) (moment : ℕ) (act : Act) → HasCondition f act → IsSound f → HasItsHosts f → HasItsHosts (after_act (at_moment f moment) moment act)
 act_hosts f moment Opened allowed ok there = rw (length-map f.hosts (reopened_row moment)) there
-act_hosts f moment (Heard heard) allowed ok there = heard_hosts (at_moment f moment) heard moment (host_named f heard.host) there
+act_hosts f moment (Show name) allowed ok there = there
+act_hosts f moment (Alloc facility tag) allowed ok there = there
+act_hosts f moment (Sub line) allowed ok there = sub_hosts (at_moment f moment) line (sub_named f line) there
+act_hosts f moment (Boot line) allowed ok there = boots_there (expire (at_moment f moment) moment) line moment (alloc_named f line.alloc) (expired_hosts f moment there)
+act_hosts f moment (Heard heard) allowed ok there = heard_hosts (expire (at_moment f moment) moment) heard moment (host_named f heard.host) (expired_hosts f moment there)
 act_hosts f moment (Submit spec) allowed ok there = submit_hosts (at_moment f moment) spec (show_named f spec.show) there
+act_hosts f moment (Lock host lock) allowed ok there = lock_hosts (at_moment f moment) lock (host_named f host) there
+act_hosts f moment Tick allowed ok there = expired_hosts f moment there
 act_hosts f moment (Book slot host) allowed ok there = book_hosts (at_moment f moment) slot host moment allowed (moment_sound f moment ok) there
 
 -- ---- each booking is safe
@@ -89,8 +139,14 @@ book_safely f slot host moment allowed ok =
 
 act_safely : (f : Farm) (moment : ℕ) (act : Act) → HasCondition f act → IsSound f → ActsSafely (at_moment f moment) (after_act (at_moment f moment) moment act) act
 act_safely f moment Opened allowed ok = tt
+act_safely f moment (Show name) allowed ok = tt
+act_safely f moment (Alloc facility tag) allowed ok = tt
+act_safely f moment (Sub line) allowed ok = tt
+act_safely f moment (Boot line) allowed ok = tt
 act_safely f moment (Heard heard) allowed ok = tt
 act_safely f moment (Submit spec) allowed ok = tt
+act_safely f moment (Lock host lock) allowed ok = tt
+act_safely f moment Tick allowed ok = tt
 act_safely f moment (Book slot host) allowed ok = book_safely (at_moment f moment) slot host moment allowed (moment_sound f moment ok)
 
 pub each_step_safe : (f : Farm) (es : List Entry) → IsSound f → HasItsHosts f → IsLegal f es → EachStepSafe f es
@@ -99,7 +155,7 @@ each_step_safe f (e ∷ es) ok there legal =
     let moment = moment_of f e.moment in (
       ok,
       act_safely f moment e.act legal.0.condition ok,
-      each_step_safe (after f e) es (act_step f moment e.act legal.0.condition ok) (act_hosts f moment e.act legal.0.condition ok there) legal.1,
+      each_step_safe (after f e) es (act_step f moment e.act legal.0.condition ok there) (act_hosts f moment e.act legal.0.condition ok there) legal.1,
     )
 
 -- ---- completions count once
@@ -115,10 +171,24 @@ spent_book f slot host moment a allowed spent =
     subst (λ (g : Farm). IsSpent g a) (sym (booking_makes f slot host moment can.0 can.1))
     (spent_booked f slot new a (λ s at. let same = ap (λ (x : SlotRow). x.version) (same_Some can.0.slot s (sym can.1.slot_is ∙ at)) in omega (arith, same)) spent)
 
+spent_sub : (f : Farm) (line : SubLine) (o : Option ℕ) (a : Attempt) → IsSpent f a → IsSpent (after_sub f line o) a
+spent_sub f line None a spent = spent
+spent_sub f line (Some sub) a spent = spent
+
+spent_lock : (f : Farm) (lock : LockState) (o : Option ℕ) (a : Attempt) → IsSpent f a → IsSpent (after_lock f lock o) a
+spent_lock f lock None a spent = spent
+spent_lock f lock (Some host) a spent = spent
+
 spent_act : (f : Farm) (moment : ℕ) (act : Act) (a : Attempt) → HasCondition f act → IsSpent f a → IsSpent (after_act (at_moment f moment) moment act) a
 spent_act f moment Opened a allowed spent = spent
-spent_act f moment (Heard heard) a allowed spent = spent_heard (at_moment f moment) heard moment (host_named f heard.host) a spent
+spent_act f moment (Show name) a allowed spent = spent
+spent_act f moment (Alloc facility tag) a allowed spent = spent
+spent_act f moment (Sub line) a allowed spent = spent_sub (at_moment f moment) line (sub_named f line) a spent
+spent_act f moment (Boot line) a allowed spent = spent_boot (expire (at_moment f moment) moment) line moment (alloc_named f line.alloc) a (spent_expired (at_moment f moment) moment a spent)
+spent_act f moment (Heard heard) a allowed spent = spent_heard (expire (at_moment f moment) moment) heard moment (host_named f heard.host) a (spent_expired (at_moment f moment) moment a spent)
 spent_act f moment (Submit spec) a allowed spent = submit_spent (at_moment f moment) spec (show_named f spec.show) a spent
+spent_act f moment (Lock host lock) a allowed spent = spent_lock (at_moment f moment) lock (host_named f host) a spent
+spent_act f moment Tick a allowed spent = spent_expired (at_moment f moment) moment a spent
 spent_act f moment (Book slot host) a allowed spent = spent_book (at_moment f moment) slot host moment a allowed spent
 
 none_heard : (f : Farm) (heard : HeardAct) (moment : ℕ) (o : Option ℕ) → IsSound f → HasNoSpent f (counted_of f heard moment o)
@@ -127,8 +197,15 @@ none_heard f heard moment (Some host) ok = λ a spent. none_in _ host heard.boot
 
 none_act : (f : Farm) (moment : ℕ) (act : Act) → IsSound f → HasNoSpent f (counted_by (at_moment f moment) moment act)
 none_act f moment Opened ok = λ a spent. refl
-none_act f moment (Heard heard) ok = λ a spent. none_heard (at_moment f moment) heard moment (host_named f heard.host) (moment_sound f moment ok) a spent
+none_act f moment (Show name) ok = λ a spent. refl
+none_act f moment (Alloc facility tag) ok = λ a spent. refl
+none_act f moment (Sub line) ok = λ a spent. refl
+none_act f moment (Boot line) ok = λ a spent. refl
+none_act f moment (Heard heard) ok =
+    λ a spent. none_heard (expire (at_moment f moment) moment) heard moment (host_named f heard.host) (expired_sound f moment ok) a (spent_expired (at_moment f moment) moment a spent)
 none_act f moment (Submit spec) ok = λ a spent. refl
+none_act f moment (Lock host lock) ok = λ a spent. refl
+none_act f moment Tick ok = λ a spent. refl
 none_act f moment (Book slot host) ok = λ a spent. refl
 
 are_heard : (f : Farm) (heard : HeardAct) (moment : ℕ) (o : Option ℕ) → IsSound f → AreSpent (after_heard f heard moment o) (counted_of f heard moment o)
@@ -137,8 +214,14 @@ are_heard f heard moment (Some host) ok = spent_in _ host heard.boot heard.done 
 
 are_act : (f : Farm) (moment : ℕ) (act : Act) → IsSound f → AreSpent (after_act (at_moment f moment) moment act) (counted_by (at_moment f moment) moment act)
 are_act f moment Opened ok = tt
-are_act f moment (Heard heard) ok = are_heard (at_moment f moment) heard moment (host_named f heard.host) (moment_sound f moment ok)
+are_act f moment (Show name) ok = tt
+are_act f moment (Alloc facility tag) ok = tt
+are_act f moment (Sub line) ok = tt
+are_act f moment (Boot line) ok = tt
+are_act f moment (Heard heard) ok = are_heard (expire (at_moment f moment) moment) heard moment (host_named f heard.host) (expired_sound f moment ok)
 are_act f moment (Submit spec) ok = tt
+are_act f moment (Lock host lock) ok = tt
+are_act f moment Tick ok = tt
 are_act f moment (Book slot host) ok = tt
 
 differ_heard : (f : Farm) (heard : HeardAct) (moment : ℕ) (o : Option ℕ) → IsSound f → AllDiffer (counted_of f heard moment o)
@@ -147,26 +230,35 @@ differ_heard f heard moment (Some host) ok = differ_in _ host heard.boot heard.d
 
 differ_act : (f : Farm) (moment : ℕ) (act : Act) → IsSound f → AllDiffer (counted_by (at_moment f moment) moment act)
 differ_act f moment Opened ok = tt
-differ_act f moment (Heard heard) ok = differ_heard (at_moment f moment) heard moment (host_named f heard.host) (moment_sound f moment ok)
+differ_act f moment (Show name) ok = tt
+differ_act f moment (Alloc facility tag) ok = tt
+differ_act f moment (Sub line) ok = tt
+differ_act f moment (Boot line) ok = tt
+differ_act f moment (Heard heard) ok = differ_heard (expire (at_moment f moment) moment) heard moment (host_named f heard.host) (expired_sound f moment ok)
 differ_act f moment (Submit spec) ok = tt
+differ_act f moment (Lock host lock) ok = tt
+differ_act f moment Tick ok = tt
 differ_act f moment (Book slot host) ok = tt
 
-none_counted : (f : Farm) (es : List Entry) → IsSound f → IsLegal f es → HasNoSpent f (counted f es)
-none_counted f [] ok legal = λ a spent. refl
-none_counted f (e ∷ es) ok legal =
+none_counted : (f : Farm) (es : List Entry) → IsSound f → HasItsHosts f → IsLegal f es → HasNoSpent f (counted f es)
+none_counted f [] ok there legal = λ a spent. refl
+none_counted f (e ∷ es) ok there legal =
     let moment = moment_of f e.moment in
+    let sound = act_step f moment e.act legal.0.condition ok there in
+    let hosts = act_hosts f moment e.act legal.0.condition ok there in
     none_joined f (after f e) (counted_by (at_moment f moment) moment e.act) (counted (after f e) es) (λ a spent. spent_act f moment e.act a legal.0.condition spent) (none_act f moment e.act ok)
-    (none_counted (after f e) es (act_step f moment e.act legal.0.condition ok) legal.1)
+    (none_counted (after f e) es sound hosts legal.1)
 
-differ_counted : (f : Farm) (es : List Entry) → IsSound f → IsLegal f es → AllDiffer (counted f es)
-differ_counted f [] ok legal = tt
-differ_counted f (e ∷ es) ok legal =
+differ_counted : (f : Farm) (es : List Entry) → IsSound f → HasItsHosts f → IsLegal f es → AllDiffer (counted f es)
+differ_counted f [] ok there legal = tt
+differ_counted f (e ∷ es) ok there legal =
     let moment = moment_of f e.moment in
-    let sound = act_step f moment e.act legal.0.condition ok in
-    differ_joined (after f e) (counted_by (at_moment f moment) moment e.act) (counted (after f e) es) (differ_act f moment e.act ok) (differ_counted (after f e) es sound legal.1) (are_act f moment e.act ok)
-    (none_counted (after f e) es sound legal.1)
+    let sound = act_step f moment e.act legal.0.condition ok there in
+    let hosts = act_hosts f moment e.act legal.0.condition ok there in
+    differ_joined (after f e) (counted_by (at_moment f moment) moment e.act) (counted (after f e) es) (differ_act f moment e.act ok) (differ_counted (after f e) es sound hosts legal.1) (are_act f moment e.act ok)
+    (none_counted (after f e) es sound hosts legal.1)
 
 -- ---- the law
 
 pub legal_is_safe : (f : Farm) (es : List Entry) → IsSound f → HasItsHosts f → IsLegal f es → IsSafe f es
-legal_is_safe f es ok there legal = record { steps = each_step_safe f es ok there legal; once = differ_counted f es ok legal }
+legal_is_safe f es ok there legal = record { steps = each_step_safe f es ok there legal; once = differ_counted f es ok there legal }

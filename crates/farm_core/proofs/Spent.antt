@@ -3,25 +3,32 @@ use Rattle.std.proofs.Common.{◌≡◌, ℕ, ◌<◌, Bool, true, false, cond, 
 use Rattle.std.specs.List.{slice_get}
 use Rattle.std.proofs.lemmas.Option.{none-some, same_Some, slice_get_within}
 use Rattle.std.proofs.lemmas.Bool.{eqb-true}
+use Rattle.std.proofs.lemmas.List.{length-map}
 use Rattle.farm_types.specs.declared.attempt.Attempt.{Attempt}
 use Rattle.farm_types.specs.declared.attempt.DoneItem.{DoneItem}
 use Rattle.farm_types.specs.declared.attempt.Exit.{Exit}
 use Rattle.farm_types.specs.declared.attempt.ProcRow.{ProcRow}
+use Rattle.farm_types.specs.declared.boot.BootLine.{BootLine}
 use Rattle.farm_types.specs.declared.slot_row.SlotRow.{SlotRow}
 use Rattle.farm_types.specs.declared.slot_row.FrameRow.{FrameRow}
 use Rattle.farm_types.specs.declared.states.FrameState.{FrameState}
 use Rattle.farm_types.specs.declared.states.FrameState.TheVariants.{Waiting, Setup, Running, Succeeded, Depend, Dead, Eaten}
-use Rattle.farm_types.specs.Farm.{Farm, changed_at}
+use Rattle.farm_types.specs.Farm.{Farm, changed_at, host_named}
+use Rattle.farm_types.specs.Lost.{lost_row, runs_on, lose_on}
 use Rattle.farm_types.specs.Run.{IsSound, HasItsAttempt, IsAttemptOf, is_same}
-use Rattle.farm_types.specs.Step.{is_live, ended_row, end_attempt, end_all, booked_row}
+use Rattle.farm_types.specs.Step.{is_live, ended_row, end_attempt, end_all, booked_row, expire, is_silent, after_boot}
 use Rattle.farm_core.proofs.Lists.{and_both, for_some_true}
-use Rattle.farm_core.proofs.Changed.{changed_at_each, length-changed_at}
+use Rattle.farm_core.proofs.Changed.{changed_at_each, mapped_each, length-changed_at}
+use Rattle.farm_core.proofs.Booted.{boot_slots}
 
 abbrev pub IsSpentAt : Attempt → SlotRow → Type 0
 IsSpentAt a s = (a.version < s.version) ⊎ ((a.version ≡ s.version) × (s.proc ≡ None))
 
+abbrev pub IsSpentIn : List SlotRow → Attempt → Type 0
+IsSpentIn slots a = (a.slot < length slots) × ((s : SlotRow) → slice_get slots a.slot ≡ Some s → IsSpentAt a s)
+
 abbrev pub IsSpent : Farm → Attempt → Type 0
-IsSpent f a = (a.slot < length f.slots) × ((s : SlotRow) → slice_get f.slots a.slot ≡ Some s → IsSpentAt a s)
+IsSpent f a = IsSpentIn f.slots a
 
 -- ---- a live attempt has its slot's version
 
@@ -117,6 +124,29 @@ spent_booked f slot p a above spent = (
   omega (arith, length-changed_at f.slots slot (booked_row p), spent.0),
   spent_changed f.slots slot (booked_row p) a (λ s at h. booked_stays p a s (above s at) h) spent.1,
 )
+
+lost_stays : (a : Attempt) (s : SlotRow) (b : Bool) → IsSpentAt a s → IsSpentAt a (cond b (lost_row s) s)
+lost_stays a s true (inl below) = inl below
+lost_stays a s true (inr h) = inr (h.0, refl)
+lost_stays a s false spent = spent
+
+-- a slot that loses its attempt keeps its version
+pub spent_lost : (slots : List SlotRow) (test : ℕ → Bool) (a : Attempt) → IsSpentIn slots a → IsSpentIn (lose_on test slots) a
+spent_lost slots test a spent = (
+  omega (arith, length-map slots (λ (s : SlotRow). cond (runs_on test s) (lost_row s) s), spent.0),
+  λ s at.
+      mapped_each (λ i y. a.slot ≡ i → IsSpentAt a y) slots (λ (s : SlotRow). cond (runs_on test s) (lost_row s) s)
+      (λ i x here e. lost_stays a x (runs_on test x) (spent.1 x (subst (λ (n : ℕ). slice_get slots n ≡ Some x) (sym e) here)))
+      a.slot s at refl,
+)
+
+pub spent_expired : (f : Farm) (moment : ℕ) (a : Attempt) → IsSpent f a → IsSpent (expire f moment) a
+spent_expired f moment a spent = spent_lost f.slots (is_silent f moment) a spent
+
+pub spent_boot : (f : Farm) (line : BootLine) (moment : ℕ) (o : Option ℕ) (a : Attempt) → IsSpent f a → IsSpent (after_boot f line moment o) a
+spent_boot f line moment None a spent = spent
+spent_boot f line moment (Some alloc) a spent =
+    boot_slots (λ slots. IsSpentIn slots a) f line (host_named f line.host) spent (λ host. spent_lost f.slots (λ n. eqb n host) a spent)
 
 -- ---- what counts is spent
 

@@ -42,7 +42,7 @@ changed_at_alike xs i g h x at same = changed_at_is xs i g x at ∙ (ap (slice_s
 
 -- ---- the rows
 
-live_has : (place : ℕ) (s : SlotRow) (p : ProcRow) → s.proc ≡ Some p → HasItsAttempt place s.version s.frame s.proc → s.frame ≡ None → ⊥
+pub live_has : (place : ℕ) (s : SlotRow) (p : ProcRow) → s.proc ≡ Some p → HasItsAttempt place s.version s.frame s.proc → s.frame ≡ None → ⊥
 live_has place s p live h none = lost (subst (λ (o : Option ProcRow). HasItsAttempt place s.version None o) live (subst (λ (o : Option FrameRow). HasItsAttempt place s.version o s.proc) none h))
   where
     lost : HasItsAttempt place s.version None (Some p) → ⊥

@@ -1,24 +1,34 @@
 -- Changes that were prepared: what each does to the farm, and what it needs of it.
-use Rattle.std.specs.Prelude.{ℕ, ◌≡◌, ◌<◌, ◌≤◌, true, false, List, length, map, Option, None, Some, Result, Ok, Err}
+use Rattle.std.specs.Prelude.{ℕ, ◌≡◌, ◌<◌, ◌≤◌, ◌++◌, ◌∷◌, [], true, false, List, length, map, Option, None, Some, Result, Ok, Err}
+use Rattle.alloc_tags.specs.Book.{check_of}
+use Rattle.farm_types.specs.declared.answer.Answer.{Answer}
+use Rattle.farm_types.specs.declared.answer.Answer.TheVariants as answer
 use Rattle.farm_types.specs.declared.entry.Entry.{Entry}
 use Rattle.farm_types.specs.declared.entry.Act.{Act}
 use Rattle.farm_types.specs.declared.entry.Act.TheVariants as act
 use Rattle.farm_types.specs.declared.attempt.ProcRow.{ProcRow}
+use Rattle.farm_types.specs.declared.boot.BootLine.{BootLine}
 use Rattle.farm_types.specs.declared.job.JobSpec.{JobSpec}
 use Rattle.farm_types.specs.declared.refusal.Refusal.TheVariants.{Unknown}
-use Rattle.farm_types.specs.Farm.{Farm, changed_at, host_named}
+use Rattle.farm_types.specs.Answers.{answer_of as entry_answer}
+use Rattle.farm_types.specs.Farm.{Farm, changed_at, host_named, alloc_name}
 use Rattle.farm_types.specs.Booking.{may_record}
+use Rattle.farm_types.specs.Hosts.{heard_row, locked_row, reopened_row}
 use Rattle.farm_types.specs.Jobs.{job_refusal, with_job}
-use Rattle.farm_types.specs.Spec.{frames_in}
+use Rattle.farm_types.specs.Limits.{most_shows, most_burst, sub_numbers, BootKeepsLimits}
 use Rattle.farm_types.specs.SpecLimits.{JobKeepsLimits}
-use Rattle.farm_types.specs.Step.{refusal_of, reopened_row, heard_row, booked_row, end_all, new_proc, lists_of, with_lists, at_moment, after}
+use Rattle.farm_types.specs.Step.{refusal_of, booked_row, end_all, new_proc, lists_of, with_lists, at_moment, after, after_boot, expire}
+use Rattle.farm_types.specs.Subs.{with_sub}
+use Rattle.host_book.specs.Book.{alloc_of, plan_of}
+use Rattle.host_book.specs.declared.boots.BootPlan.{BootPlan}
+use Rattle.host_book.specs.declared.boots.BootPlan.TheVariants as plan
 use Rattle.job_book.specs.Book.{placing_of}
 use Rattle.job_book.specs.declared.placing.Placing.{Placing}
 use Rattle.farm_core.specs.declared.change.Change.{Change}
 use Rattle.farm_core.specs.declared.change.Effect.{Effect}
 use Rattle.farm_core.specs.declared.change.Effect.TheVariants as effect
-use Rattle.farm_core.specs.declared.change.Answer.{Answer}
-use Rattle.farm_core.specs.declared.change.Answer.TheVariants as answer
+use Rattle.farm_core.specs.declared.change.Room.{Room}
+use Rattle.farm_core.specs.declared.change.Room.TheVariants as room
 use Rattle.farm_core.specs.declared.fault.PrepareFault.{PrepareFault}
 use Rattle.farm_core.specs.declared.fault.PrepareFault.TheVariants.{Refused, NoMemory}
 
@@ -26,8 +36,15 @@ use Rattle.farm_core.specs.declared.fault.PrepareFault.TheVariants.{Refused, NoM
 
 abbrev pub after_effect : Farm → ℕ → Effect → Farm
 after_effect f moment effect.Opened = record f { hosts = map (reopened_row moment) f.hosts }
-after_effect f moment (effect.Heard host boot seq done) = end_all (record f { hosts = changed_at f.hosts host (heard_row seq moment) }) host boot done
+after_effect f moment (effect.Show name) = record f { shows = f.shows ++ record { name = name } ∷ [] }
+after_effect f moment (effect.Alloc facility tag) = record f { allocs = f.allocs ++ record { facility = facility; tag = tag } ∷ [] }
+after_effect f moment (effect.Sub sub size burst booked) = record f { subs = with_sub (record { sub = sub; size = size; burst = burst }) f.subs }
+after_effect f moment (effect.Boot planned line) = after_boot (expire f moment) line moment (Some (alloc_of planned))
+after_effect f moment (effect.Heard host boot seq done) =
+    end_all (record (expire f moment) { hosts = changed_at (expire f moment).hosts host (heard_row seq moment) }) host boot done
 after_effect f moment (effect.Submit placing spec) = with_lists f (with_job (lists_of f) placing.show spec)
+after_effect f moment (effect.Lock host lock) = record f { hosts = changed_at f.hosts host (locked_row lock) }
+after_effect f moment (effect.Tick down lost) = expire f moment
 after_effect f moment (effect.Book slot p) = record f { slots = changed_at f.slots slot (booked_row p) }
 
 -- the farm after the change
@@ -47,10 +64,27 @@ pub record IsPlacement (f : Farm) (placing : Placing) (spec : JobSpec) : Type 0 
   pub accepted : job_refusal (lists_of f) spec ≡ None
   pub placed : placing ≡ placing_of (lists_of f) placing.show spec
 
+-- the boot keeps its limits, and comes to what is planned
+pub record IsBoot (f : Farm) (planned : BootPlan) (line : BootLine) : Type 0 where
+  pub limits : BootKeepsLimits line
+  pub plan_is : plan_of f.hosts line (alloc_of planned) ≡ Ok planned
+
+-- a subscription's number and amounts are within their limits
+pub record IsSub (sub size burst : ℕ) : Type 0 where
+  pub number_within : sub < sub_numbers
+  pub size_within : size ≤ most_burst
+  pub burst_within : burst ≤ most_burst
+
 abbrev pub Fits : Farm → Effect → Type 0
 Fits f effect.Opened = Unit {0}
+Fits f (effect.Show name) = length f.shows < most_shows
+Fits f (effect.Alloc facility tag) = check_of f.allocs (alloc_name facility tag) ≡ Ok (length f.allocs)
+Fits f (effect.Sub sub size burst booked) = IsSub sub size burst
+Fits f (effect.Boot planned line) = IsBoot f planned line
 Fits f (effect.Heard host boot seq done) = host < length f.hosts
 Fits f (effect.Submit placing spec) = IsPlacement f placing spec
+Fits f (effect.Lock host lock) = host < length f.hosts
+Fits f (effect.Tick down lost) = Unit {0}
 Fits f (effect.Book slot p) = IsBooking f slot p
 
 -- the farm isn't past the change's moment, and the change fits it
@@ -58,32 +92,39 @@ pub record IsReady (f : Farm) (change : Change) : Type 0 where
   pub ahead : f.moment ≤ change.moment
   pub fits : Fits f change.effect
 
--- the memory that a job needs, for a change that places one
-abbrev pub spare_of : Effect → Option JobSpec
-spare_of (effect.Submit placing spec) = Some spec
-spare_of other = None
+-- the memory that the effect needs
+abbrev pub room_of : Effect → Room
+room_of (effect.Alloc facility tag) = room.Alloc (record { facility = facility; tag = tag })
+room_of (effect.Boot planned line) = room.Host line
+room_of (effect.Submit placing spec) = room.Job spec
+room_of other = room.None
 
 -- the memory that the change needs was taken
 pub record IsReserved (change : Change) : Type 0 where
   pub taken : change.reserved ≡ true
-  pub spare : change.spare ≡ spare_of change.effect
+  pub room_is : change.room ≡ room_of change.effect
 
 -- the same change, with its memory taken
 abbrev pub reserved_of : Change → Change
-reserved_of change = record change { reserved = true; spare = spare_of change.effect }
+reserved_of change = record change { reserved = true; room = room_of change.effect }
 
 -- ---- answers
 
-abbrev pub answer_to : Act → Answer
-answer_to act.Opened = answer.Opened
-answer_to (act.Heard heard) = answer.Heard
-answer_to (act.Submit spec) = answer.Submitted (frames_in spec.layers)
-answer_to (act.Book slot host) = answer.Booked
+abbrev pub boot_in : BootPlan → ℕ
+boot_in (plan.New boot alloc) = boot
+boot_in (plan.Same boot alloc) = boot
+boot_in (plan.Again boot alloc) = boot
 
 abbrev pub answer_by : Effect → Answer
 answer_by effect.Opened = answer.Opened
+answer_by (effect.Show name) = answer.Show
+answer_by (effect.Alloc facility tag) = answer.Alloc
+answer_by (effect.Sub sub size burst booked) = answer.Sub booked burst size
+answer_by (effect.Boot planned line) = answer.Boot (boot_in planned) line.nonce
 answer_by (effect.Heard host boot seq done) = answer.Heard
 answer_by (effect.Submit placing spec) = answer.Submitted placing.frames
+answer_by (effect.Lock host lock) = answer.Lock
+answer_by (effect.Tick down lost) = answer.Tick down lost
 answer_by (effect.Book slot p) = answer.Booked
 
 -- what the farm answers to the change
@@ -100,7 +141,7 @@ IsThere f (Some host) = host < length f.hosts
 -- the host that was heard is there
 abbrev pub HasHeard : Farm → Act → Type 0
 HasHeard f (act.Heard heard) = IsThere f (host_named f heard.host)
-HasHeard f act = Unit {0}
+HasHeard f other = Unit {0}
 
 -- The farm doesn't refuse the entry. The change fits the farm, makes the farm that the entry makes, and has the entry's answer.
 -- Its memory isn't taken yet.
@@ -110,7 +151,7 @@ pub record Makes (f : Farm) (e : Entry) (change : Change) : Type 0 where
   pub ready : IsReady f change
   pub unreserved : change.reserved ≡ false
   pub farm : after_change f change ≡ after f e
-  pub answer : answer_of change ≡ answer_to e.act
+  pub answer : answer_of change ≡ entry_answer f e
 
 -- a change that makes the entry, or exactly the farm's refusal; want of memory needs no cause
 abbrev pub Prepares : Farm → Entry → Result Change PrepareFault → Type 0

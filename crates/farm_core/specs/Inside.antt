@@ -5,14 +5,14 @@ use Rattle.farm_core.specs.declared.farm.Farm.TheInside.{Inside}
 use Rattle.farm_core.specs.Consistent.{IsConsistent}
 use Rattle.farm_core.specs.Totals.{Totals, KeepsTotals}
 
--- its lists and counters, and no depends: no entry of today makes one
+-- its books and counters, and no depends: no entry of today makes one
 abbrev pub farm_of : Inside → Farm
 farm_of a =
     record {
-      shows = a.shows.items;
-      allocs = a.allocs.items;
-      subs = a.subs.items;
-      hosts = a.hosts.items;
+      shows = a.shows;
+      allocs = a.allocs;
+      subs = a.subs.subs;
+      hosts = a.hosts;
       jobs = a.jobs.jobs;
       layers = a.jobs.layers;
       slots = a.jobs.slots;
@@ -25,10 +25,14 @@ farm_of a =
       marked = a.marked;
     }
 
+-- the totals: those by host, and those of the ledger
+abbrev pub totals_of : Inside → Totals
+totals_of a = record { cores = a.usage.cores; memory = a.usage.memory; booked = a.subs.booked }
+
 -- the farm is consistent, and the totals are its own
 pub record IsKept (f : Farm) (t : Totals) : Type 0 where
   pub consistent : IsConsistent f
   pub totals : KeepsTotals f t
 
 abbrev pub KeepsFarm : Inside → Type 0
-KeepsFarm a = IsKept (farm_of a) a.sums
+KeepsFarm a = IsKept (farm_of a) (totals_of a)

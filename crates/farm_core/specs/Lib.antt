@@ -1,9 +1,13 @@
 pub mod Change
 pub mod Consistent
 pub mod DemoJob
+pub mod Doomed
 pub mod Fresh
 pub mod Inside
-pub mod Order
+pub mod Kinds
 pub mod Reads
+pub mod Refused
+pub mod Room
 pub mod Totals
 pub mod Turned
+pub mod Usage

@@ -1,20 +1,21 @@
 //! Reserves and applies a change that was prepared.
 
-ghost use Rattle.std.specs.Prelude.{◌≡◌, ◌<◌, length, map, true, OnOk, OnErr};
-ghost use Rattle.farm_types.specs.declared.states.FrameState.TheVariants as frame_state;
-ghost use Rattle.farm_types.specs.Farm.{changed_at};
+ghost use Rattle.std.specs.Prelude.{◌≡◌, ◌≤◌, ◌<◌, ◌++◌, ◌∷◌, [], length, true, IfOk, OnOk, OnErr, Ok, Some};
+ghost use Rattle.alloc_tags.specs.Book.{check_of};
+ghost use Rattle.farm_types.specs.Farm.{alloc_name, changed_at};
+ghost use Rattle.farm_types.specs.Hosts.{heard_row};
 ghost use Rattle.farm_types.specs.Jobs.{with_job};
-ghost use Rattle.farm_types.specs.Step.{at_moment, reopened_row, heard_row, booked_row, end_attempt, end_all, lists_of, with_lists};
-ghost use Rattle.job_book.specs.Book.{has_frame};
-ghost use Rattle.farm_core.specs.Change.{IsReady, Fits, IsBooking, IsPlacement, IsReserved, spare_of, reserved_of, after_effect, after_change, answer_by, answer_of};
-ghost use Rattle.farm_core.specs.Turned.{row_with};
+ghost use Rattle.farm_types.specs.Step.{after_boot, at_moment, end_all, expire, lists_of, with_lists};
+ghost use Rattle.host_book.specs.Book.{alloc_of};
+ghost use Rattle.farm_core.specs.Change.{Fits, IsBoot, IsPlacement, IsReady, IsReserved, after_change, after_effect, answer_of, reserved_of, room_of};
+ghost use Rattle.farm_core.specs.Kinds.{is_of_hosts, is_plain};
+ghost use Rattle.farm_core.specs.declared.change.Room.TheVariants as taken;
 
-use crate::change::{Answer, Change, Effect};
+use crate::change::{Change, Effect, Room};
 use crate::farm::Farm;
-use farm_types::{
-    DoneItem, FrameRow, FrameState, HostNo, HostRow, HostState, ProcRow, Slot, Version,
-};
-use job_book::{JobSpare, Jobs, Placing};
+use farm_types::{Answer, BootLine, DoneItem, HostNo, JobSpec, Text};
+use host_book::BootPlan;
+use job_book::Placing;
 use std::alloc::{AllocError, Global};
 
 impl Farm {
@@ -24,13 +25,26 @@ impl Farm {
         ensures ok { OnOk result (change.new ≡ reserved_of change.old) }
         ensures err { OnErr result (change.new ≡ change.old) }
     {
-        let spare = match &change.effect {
-            Effect::Submit { spec, .. } => Some(self.jobs.reserve(alloc, spec)?),
-            _ => None,
-        };
+        let room = self.room_for(alloc, &change.effect)?;
         change.reserved = true;
-        change.spare = spare;
+        change.room = room;
         Ok(())
+    }
+
+    // The memory that the effect needs.
+    fn room_for(&mut self, alloc: Global, effect: &Effect) -> Result<Room, AllocError>
+        ensures farm { self.new ≡ self.old }
+        ensures room { IfOk result (λ room. room ≡ room_of effect.now) }
+    {
+        match effect {
+            Effect::Alloc { facility, tag } => {
+                let spare = self.allocs.reserve(alloc, facility.as_str(), tag.as_str())?;
+                Ok(Room::Alloc(spare))
+            }
+            Effect::Boot { line, .. } => Ok(Room::Host(self.hosts.reserve(alloc, line)?)),
+            Effect::Submit { spec, .. } => Ok(Room::Job(self.jobs.reserve(alloc, spec)?)),
+            _ => Ok(Room::None),
+        }
     }
 
     /// Applies a change that fits the farm and whose memory was taken. It takes no memory.
@@ -39,49 +53,115 @@ impl Farm {
         requires reserved { IsReserved change }
         ensures farm { self.new ≡ after_change self.old change }
         ensures answer { result ≡ answer_of change }
-        ensures hosts { length self.new.hosts ≡ length self.old.hosts }
+        ensures hosts { length self.old.hosts ≤ length self.new.hosts }
     {
+        let answer = change.answer();
         self.come_to(change.moment);
-        self.act(change.moment, change.effect, change.spare)
+        self.act(change.moment, change.effect, change.room);
+        answer
     }
 
     // What the effect does at the moment, with the memory that was taken for it.
-    fn act(&mut self, moment: u64, effect: Effect, spare: Option<JobSpare>) -> Answer
+    fn act(&mut self, moment: u64, effect: Effect, room: Room)
         requires fits { Fits self.old effect }
-        requires spare { spare ≡ spare_of effect }
-        ensures farm { self.new ≡ after_effect self.old moment effect }
-        ensures answer { result ≡ answer_by effect }
-        ensures hosts { length self.new.hosts ≡ length self.old.hosts }
+        requires room { room ≡ room_of effect }
+        ensures { self.new ≡ after_effect self.old moment effect }
     {
         match effect {
-            Effect::Opened => {
-                self.reopen(moment);
-                Answer::Opened
-            }
+            Effect::Alloc { facility, tag } => self.alloc_in(room, &facility, &tag),
+            Effect::Boot { plan, line } => self.boot_in(room, plan, &line, moment),
+            Effect::Submit { placing, spec } => self.place_in(room, placing, &spec),
+            other => self.act_on_rows(moment, other),
+        }
+    }
+
+    // The effects that need no memory: those on shows, subscriptions and slots, and those on hosts.
+    fn act_on_rows(&mut self, moment: u64, effect: Effect)
+        requires fits { Fits self.old effect }
+        requires plain { is_plain effect ≡ true }
+        ensures { self.new ≡ after_effect self.old moment effect }
+    {
+        match effect {
+            Effect::Show { name } => self.add_show(name),
+            Effect::Sub {
+                sub,
+                size,
+                burst,
+                booked: _booked,
+            } => self.set_sub(sub, size, burst),
+            Effect::Book { slot, proc } => self.book(slot, proc),
+            other => self.act_on_hosts(moment, other),
+        }
+    }
+
+    // The effects on hosts that need no memory.
+    fn act_on_hosts(&mut self, moment: u64, effect: Effect)
+        requires fits { Fits self.old effect }
+        requires hosts { is_of_hosts effect ≡ true }
+        ensures { self.new ≡ after_effect self.old moment effect }
+    {
+        match effect {
+            Effect::Opened => self.reopen(moment),
             Effect::Heard {
                 host,
                 boot,
                 seq,
                 done,
-            } => {
-                self.hear(host, seq, moment);
-                self.end_all(host, boot, done.as_slice());
-                Answer::Heard
-            }
-            Effect::Submit {
-                placing,
-                spec: _spec,
-            } => {
-                let Some(spare) = spare else { unreachable!() };
-                let frames = placing.frames;
-                self.place(spare, placing);
-                Answer::Submitted { frames }
-            }
-            Effect::Book { slot, proc } => {
-                self.book(slot, proc);
-                Answer::Booked
-            }
+            } => self.report(host, boot, seq, done.as_slice(), moment),
+            Effect::Lock { host, lock } => self.set_lock(host, lock),
+            Effect::Tick {
+                down: _down,
+                lost: _lost,
+            } => self.expire(moment),
+            _ => unreachable!(),
         }
+    }
+
+    // An allocation is added, in the memory that was taken for it.
+    fn alloc_in(&mut self, room: Room, facility: &Text, tag: &Text)
+        requires fits { check_of self.old.allocs (alloc_name facility.now tag.now) ≡ Ok (length self.old.allocs) }
+        requires room { room ≡ taken.Alloc (record { facility = facility.now; tag = tag.now }) }
+        ensures { self.new ≡ record self.old { allocs = self.old.allocs ++ record { facility = facility.now; tag = tag.now } ∷ [] } }
+    {
+        let Room::Alloc(spare) = room else {
+            unreachable!()
+        };
+        self.add_alloc(spare);
+    }
+
+    // A host boots, once silent hosts went down.
+    fn boot_in(&mut self, room: Room, plan: BootPlan, line: &BootLine, moment: u64)
+        requires fits { IsBoot self.old plan line.now }
+        requires room { room ≡ taken.Host line.now }
+        ensures { self.new ≡ after_boot (expire self.old moment) line.now moment (Some (alloc_of plan)) }
+    {
+        let Room::Host(spare) = room else {
+            unreachable!()
+        };
+        self.expire(moment);
+        self.boot(spare, plan, line, moment);
+    }
+
+    // A job is placed, in the memory that was taken for it.
+    fn place_in(&mut self, room: Room, placing: Placing, spec: &JobSpec)
+        requires fits { IsPlacement self.old placing spec.now }
+        requires room { room ≡ taken.Job spec.now }
+        ensures { self.new ≡ with_lists self.old (with_job (lists_of self.old) placing.show spec.now) }
+    {
+        let Room::Job(spare) = room else {
+            unreachable!()
+        };
+        self.place(spare, placing);
+    }
+
+    // A host was heard, once silent hosts went down, and its completions end attempts.
+    fn report(&mut self, host: HostNo, boot: u32, seq: u64, done: &[DoneItem], moment: u64)
+        requires { host < length self.old.hosts }
+        ensures { self.new ≡ end_all (record (expire self.old moment) { hosts = changed_at (expire self.old moment).hosts host (heard_row seq moment) }) host boot done.now }
+    {
+        self.expire(moment);
+        self.hear(host, seq, moment);
+        self.end_all(host, boot, done);
     }
 
     // The farm comes to the moment, and is marked as one that an entry made.
@@ -91,122 +171,4 @@ impl Farm {
         self.moment = moment;
         self.marked = true;
     }
-
-    // Each host that is up counts as heard at the moment.
-    fn reopen(&mut self, moment: u64)
-        ensures { self.new ≡ record self.old { hosts = map (reopened_row moment) self.old.hosts } }
-    {
-        reopen_each(&mut self.hosts, moment);
-    }
-
-    // The host was heard at the moment.
-    fn hear(&mut self, host: HostNo, seq: u64, moment: u64)
-        requires { host < length self.old.hosts }
-        ensures { self.new ≡ record self.old { hosts = changed_at self.old.hosts host (heard_row seq moment) } }
-    {
-        hear_at(&mut self.hosts, host, seq, moment);
-    }
-
-    // The completions, in order.
-    fn end_all(&mut self, host: HostNo, boot: u32, done: &[DoneItem])
-        ensures { self.new ≡ end_all self.old host boot done.now }
-    {
-        for item in done {
-            self.end_attempt(host, boot, item);
-        }
-    }
-
-    // One completion, which changes nothing unless the attempt is live.
-    fn end_attempt(&mut self, host: HostNo, boot: u32, item: &DoneItem)
-        ensures { self.new ≡ end_attempt self.old host boot item.now }
-    {
-        if !self.is_live(host, boot, item.attempt) {
-            return;
-        }
-        let slot = item.attempt.slot;
-        let Some(row) = self.slot(slot) else {
-            unreachable!()
-        };
-        let Some(frame) = &row.frame else {
-            unreachable!()
-        };
-        let Some(live) = &row.proc else {
-            unreachable!()
-        };
-        let judged = self.judged_frame(item.exit, frame);
-        self.sums.remove(live);
-        turn(&mut self.jobs, slot, &judged, row.version, None);
-    }
-
-    // The job is placed, in the memory that was taken for it.
-    fn place(&mut self, spare: JobSpare, placing: Placing)
-        requires { IsPlacement self.old placing spare }
-        ensures { self.new ≡ with_lists self.old (with_job (lists_of self.old) placing.show spare) }
-    {
-        self.jobs.place(spare, placing);
-    }
-
-    // The slot's frame runs, with that attempt.
-    fn book(&mut self, slot: Slot, proc: ProcRow)
-        requires { IsBooking self.old slot proc }
-        ensures { self.new ≡ record self.old { slots = changed_at self.old.slots slot (booked_row proc) } }
-    {
-        let Some(row) = self.slot(slot) else {
-            unreachable!()
-        };
-        let Some(frame) = &row.frame else {
-            unreachable!()
-        };
-        let running = running(frame);
-        let version = proc.version;
-        self.sums.add(&proc);
-        turn(&mut self.jobs, slot, &running, version, Some(proc));
-    }
-}
-
-// Each host that is up counts as heard at the moment.
-fn reopen_each(hosts: &mut Vec<HostRow>, moment: u64)
-    ensures { hosts.new.items ≡ map (reopened_row moment) hosts.old.items }
-{
-    for host in hosts.iter_mut() {
-        reopen(host, moment);
-    }
-}
-
-// A host that is up counts as heard at the moment.
-fn reopen(host: &mut HostRow, moment: u64)
-    ensures { host.new ≡ reopened_row moment host.old }
-{
-    if matches!(host.state, HostState::Up) {
-        host.heard = moment;
-    }
-}
-
-// The host at that place is up and was heard at the moment.
-fn hear_at(hosts: &mut Vec<HostRow>, host: HostNo, seq: u64, moment: u64)
-    requires { host < length hosts.old.items }
-    ensures { hosts.new.items ≡ changed_at hosts.old.items host (heard_row seq moment) }
-{
-    let row = &mut hosts[usize::from(host.0)];
-    row.seq = seq;
-    row.heard = moment;
-    row.state = HostState::Up;
-}
-
-// The slot's frame goes into the state and the retries of this one, and the slot to a version, with that attempt or none.
-fn turn(jobs: &mut Jobs, slot: Slot, frame: &FrameRow, version: Version, proc: Option<ProcRow>)
-    requires { has_frame jobs.old slot ≡ true }
-    ensures { jobs.new ≡ record jobs.old { slots = changed_at jobs.old.slots slot (row_with frame.now.state frame.now.retries version proc) } }
-{
-    jobs.set_state(slot, frame.state, version, frame.retries);
-    jobs.set_proc(slot, proc);
-}
-
-// The frame as one that runs.
-fn running(frame: &FrameRow) -> FrameRow
-    ensures { result ≡ record frame.now { state = frame_state.Running } }
-{
-    let mut running = *frame;
-    running.state = FrameState::Running;
-    running
 }

@@ -1,16 +1,16 @@
 //! When a frame may be booked on a host.
 
-ghost use Rattle.std.specs.Prelude.{◌≡◌, ◌<◌, ◌++◌, ◌∷◌, [], length, true, is_some, option_copied, bytes_eq, IfSome};
-ghost use Rattle.std.specs.List.{list_any};
+ghost use Rattle.std.specs.Prelude.{◌≡◌, ◌<◌, length, is_some, IfSome};
 ghost use Rattle.farm_types.specs.Farm.{sub_at, sub_of};
 ghost use Rattle.farm_types.specs.Depends.{is_open};
-ghost use Rattle.farm_types.specs.Booking.{is_waiting, is_ready, in_facility, takes_frames, has_room, within_burst, may_place, may_record, may_book, tags_match, share_tag, tags_of};
+ghost use Rattle.farm_types.specs.Booking.{is_waiting, is_ready, in_facility, takes_frames, has_room, within_burst, may_place, may_record, may_book, tags_match};
 ghost use Rattle.farm_core.specs.Reads.{rows_share_tag};
 
 use crate::farm::Farm;
+use alloc_tags::matches;
 use farm_types::{
-    AllocNo, AllocRow, FrameRow, FrameState, HostNo, HostRow, HostState, JobRow, JobState,
-    LayerRow, LockState, ShowNo, Slot, SlotRow, SubRow, Text, Version,
+    AllocNo, FrameRow, FrameState, HostNo, HostRow, HostState, JobRow, JobState, LayerRow,
+    LockState, ShowNo, Slot, SubRow, Text, Version,
 };
 
 /// The last version of a slot, at which it stays.
@@ -66,12 +66,11 @@ impl Farm {
     }
 
     // The subscription of the show to the allocation.
-    pub(crate) fn sub_of(&self, show: ShowNo, alloc: AllocNo) -> Option<&SubRow>
-        ensures value { option_copied result ≡ sub_at self.now (sub_of show alloc) }
-        ensures number { IfSome result (λ s. s.now.sub ≡ sub_of show alloc) }
+    pub(crate) fn sub_row(&self, show: ShowNo, alloc: AllocNo) -> Option<SubRow>
+        ensures value { result ≡ sub_at self.now (sub_of show alloc) }
+        ensures number { IfSome result (λ s. s.sub ≡ sub_of show alloc) }
     {
-        let number = 16 * u32::from(show.0) + u32::from(alloc.0);
-        self.subs.iter().find(|s| u32::from(s.sub.0) == number)
+        self.sub_of(show, alloc)
     }
 
     // Whether the frame of that job and layer may be booked on the host.
@@ -129,7 +128,7 @@ impl Farm {
     fn within_burst(&self, show: ShowNo, alloc: AllocNo, layer: &LayerRow) -> bool
         ensures { result ≡ within_burst self.now (sub_of show alloc) layer.now }
     {
-        match self.sub_of(show, alloc) {
+        match self.sub_row(show, alloc) {
             None => false,
             Some(s) => {
                 u64::from(self.booked(s.sub).0) + u64::from(layer.cores.0) <= u64::from(s.burst.0)
@@ -143,7 +142,7 @@ impl Farm {
     {
         match self.allocation(h.alloc) {
             None => false,
-            Some(a) => share_tag(layer, h, a),
+            Some(a) => matches(&h.tags, a.tag.as_str(), &layer.tags),
         }
     }
 }
@@ -170,25 +169,4 @@ fn takes_frames(h: &HostRow) -> bool
     ensures { result ≡ takes_frames h.now }
 {
     matches!(h.state, HostState::Up) && matches!(h.lock, LockState::Unlocked)
-}
-
-// Whether the layer and the host have a tag in common. A host's tags are its own and its allocation's.
-fn share_tag(layer: &LayerRow, h: &HostRow, a: &AllocRow) -> bool
-    ensures { result ≡ share_tag layer.now.tags (tags_of h.now a.now) }
-{
-    layer.tags.as_slice().iter().any(|tag| has_tag(tag, h, a))
-}
-
-// Whether the host has the tag.
-fn has_tag(tag: &Text, h: &HostRow, a: &AllocRow) -> bool
-    ensures { result ≡ list_any (λ y. bytes_eq tag.now y) (tags_of h.now a.now) }
-{
-    is_among(tag, h.tags.as_slice()) || tag.is(a.tag.as_str())
-}
-
-// Whether the tag is one of these.
-fn is_among(tag: &Text, tags: &[Text]) -> bool
-    ensures { result ≡ list_any (λ y. bytes_eq tag.now y) tags.now }
-{
-    tags.iter().any(|y| tag.is(y.as_str()))
 }

@@ -1,39 +1,34 @@
 //! The farm of the demonstration: one show, allocation, subscription and host, and a job of ten frames.
 
-ghost use Rattle.std.specs.Prelude.{◌≡◌, ◌<◌, IfOk};
-ghost use Rattle.farm_types.specs.Run.{IsSound, HasItsHosts};
+ghost use Rattle.std.specs.Prelude.{◌≡◌, ◌∷◌, [], IfOk, codes};
 ghost use Rattle.farm_types.specs.Demo.{demo_farm, demo_host};
-ghost use Rattle.farm_core.specs.DemoJob.{demo_lists, demo_spec, demo_layer_spec, demo_numbers};
+ghost use Rattle.farm_core.specs.DemoJob.{demo_lists, demo_spec, demo_layer_spec, demo_line, demo_ledger, demo_numbers};
+ghost use Rattle.farm_core.specs.Usage.{grown, no_usage};
 
 use crate::farm::Farm;
-use crate::sums::Sums;
+use crate::shows::Shows;
+use crate::usage::Usage;
+use alloc_tags::Allocs;
 use farm_types::{
-    AllocNo, AllocRow, Cores, HostRow, HostState, Items, JobNo, JobSpec, Kb, LayerSpec, LockState,
-    ShowNo, ShowRow, Slot, SubNo, SubRow, Text,
+    AllocNo, BootLine, Cores, Items, JobNo, JobSpec, Kb, LayerSpec, ShowNo, Slot, SubNo, Text,
 };
+use host_book::{BootPlan, Hosts};
 use job_book::{Jobs, Placing};
 use std::alloc::{AllocError, Global};
+use sub_ledger::Subs;
 
 /// The farm of the demonstration, as it is opened at a moment (seconds): host `h1` of eight cores, and the job
 /// `demo-job` of ten frames of one core each, on a subscription with a burst of four cores.
 pub fn demo_farm(alloc: Global, moment: u64) -> Result<Farm, AllocError>
-    ensures farm { IfOk result (λ f. f ≡ demo_farm moment) }
-    ensures sound { IfOk result (λ f. IsSound f × HasItsHosts f) }
+    ensures { IfOk result (λ f. f ≡ demo_farm moment) }
 {
     Ok(Farm {
-        shows: Vec::from_array(alloc, [show_of(alloc, "demo")?])?,
-        allocs: Vec::from_array(alloc, [allocation_of(alloc, "farm", "general")?])?,
-        subs: Vec::from_array(
-            alloc,
-            [SubRow {
-                sub: SubNo(0),
-                size: Cores(400),
-                burst: Cores(400),
-            }],
-        )?,
-        hosts: Vec::from_array(alloc, [host_of(alloc, moment)?])?,
+        shows: shows_of(alloc)?,
+        allocs: allocs_of(alloc)?,
+        subs: subs_of(alloc)?,
+        hosts: hosts_of(alloc, moment)?,
         jobs: jobs_of(alloc)?,
-        sums: Sums::make(alloc, 1)?,
+        usage: usage_of(alloc)?,
         next_depend: 1,
         next_finish: 1,
         moment,
@@ -41,42 +36,70 @@ pub fn demo_farm(alloc: Global, moment: u64) -> Result<Farm, AllocError>
     })
 }
 
-// The show of that name.
-fn show_of(alloc: Global, name: &str) -> Result<ShowRow, AllocError>
-    ensures { IfOk result (λ s. s.name ≡ name.now) }
+// The show.
+fn shows_of(alloc: Global) -> Result<Shows, AllocError>
+    ensures { IfOk result (λ b. b ≡ record { name = codes "demo" } ∷ []) }
 {
-    Ok(ShowRow {
-        name: Text::from_str(alloc, name)?,
-    })
+    let mut shows = Shows::make(alloc)?;
+    shows.add(Text::from_str(alloc, "demo")?);
+    Ok(shows)
 }
 
-// The allocation of that facility and tag.
-fn allocation_of(alloc: Global, facility: &str, tag: &str) -> Result<AllocRow, AllocError>
-    ensures { IfOk result (λ a. a ≡ record { facility = facility.now; tag = tag.now }) }
+// The allocation.
+fn allocs_of(alloc: Global) -> Result<Allocs, AllocError>
+    ensures { IfOk result (λ b. b ≡ record { facility = codes "farm"; tag = codes "general" } ∷ []) }
 {
-    Ok(AllocRow {
-        facility: Text::from_str(alloc, facility)?,
-        tag: Text::from_str(alloc, tag)?,
-    })
+    let mut allocs = Allocs::make(alloc)?;
+    let spare = allocs.reserve(alloc, "farm", "general")?;
+    allocs.add(spare);
+    Ok(allocs)
 }
 
-// The host, heard at the moment.
-fn host_of(alloc: Global, moment: u64) -> Result<HostRow, AllocError>
-    ensures { IfOk result (λ h. h ≡ demo_host moment) }
+// The subscription of the show to the allocation.
+fn subs_of(alloc: Global) -> Result<Subs, AllocError>
+    ensures { IfOk result (λ b. b ≡ demo_ledger) }
 {
-    Ok(HostRow {
-        name: Text::from_str(alloc, "h1")?,
+    let mut subs = Subs::make(alloc)?;
+    subs.set(SubNo(0), Cores(400), Cores(400));
+    Ok(subs)
+}
+
+// The host, which boots at the moment.
+fn hosts_of(alloc: Global, moment: u64) -> Result<Hosts, AllocError>
+    ensures { IfOk result (λ b. b ≡ demo_host moment ∷ []) }
+{
+    let mut hosts = Hosts::make(alloc)?;
+    let line = line_of(alloc)?;
+    let spare = hosts.reserve(alloc, &line)?;
+    let plan = BootPlan::New {
+        boot: 1,
         alloc: AllocNo(0),
+    };
+    hosts.apply_boot(spare, plan, moment);
+    Ok(hosts)
+}
+
+// The host's boot.
+fn line_of(alloc: Global) -> Result<BootLine, AllocError>
+    ensures { IfOk result (λ line. line ≡ demo_line) }
+{
+    Ok(BootLine {
+        host: Text::from_str(alloc, "h1")?,
+        nonce: 1,
+        alloc: Text::from_str(alloc, "farm.general")?,
         tags: Items::new(alloc),
         cores: Cores(800),
         memory: Kb(33554432),
-        boot: 1,
-        nonce: 1,
-        seq: 0,
-        heard: moment,
-        lock: LockState::Unlocked,
-        state: HostState::Up,
     })
+}
+
+// Nothing of the host is used.
+fn usage_of(alloc: Global) -> Result<Usage, AllocError>
+    ensures { IfOk result (λ u. u ≡ grown no_usage) }
+{
+    let mut usage = Usage::make(alloc)?;
+    usage.grow();
+    Ok(usage)
 }
 
 // The book with the job alone, of show 0, in slots 0 to 9.

@@ -1,28 +1,37 @@
-//! The farm: its rows as plain lists, and the calls that read one of them.
+//! The farm: its books, and the calls that read one of their rows.
 
-ghost use Rattle.std.specs.Prelude.{◌≡◌, ◌≤◌, length, slice_get, option_copied};
-ghost use Rattle.farm_types.specs.Farm.{job_at, layer_at, sub_at};
+ghost use Rattle.std.specs.Prelude.{◌≡◌, ◌≤◌, length, slice_get, option_copied, IfOk};
+ghost use Rattle.farm_types.specs.Farm.{empty_farm, job_at, layer_at, sub_at, sub_of};
 ghost use Rattle.farm_types.specs.Step.{lists_of};
-ghost use Rattle.farm_core.specs.Reads.{live_at};
+ghost use Rattle.farm_types.specs.Sums.{booked_in, total_at};
+ghost use Rattle.farm_core.specs.Reads.{job_after, live_at};
+ghost use Rattle.std.specs.Prelude.{ℕ};
 
-use crate::sums::Sums;
+use crate::shows::Shows;
+use crate::usage::Usage;
+use alloc_tags::Allocs;
 use farm_types::{
     AllocNo, AllocRow, HostNo, HostRow, JobNo, JobRow, LayerRow, ProcRow, ShowNo, ShowRow, Slot,
     SlotRow, SubNo, SubRow,
 };
+use host_book::Hosts;
 use job_book::Jobs;
+use std::alloc::{AllocError, Global};
 use std::marker::Model;
+use sub_ledger::Subs;
 
-/// The farm's rows, each list in the order of its numbers, its jobs with their layers and slots, and its counters.
-/// Beside them are kept the sums of what live attempts use.
+/// How many numbers there are for subscriptions.
+const SUB_NUMBERS: u32 = 1024;
+
+/// The farm's books, and its counters. Beside them is kept what live attempts use of each host.
 #[derive(Debug, Drop)]
 pub struct Farm {
-    pub(crate) shows: Vec<ShowRow>,
-    pub(crate) allocs: Vec<AllocRow>,
-    pub(crate) subs: Vec<SubRow>,
-    pub(crate) hosts: Vec<HostRow>,
+    pub(crate) shows: Shows,
+    pub(crate) allocs: Allocs,
+    pub(crate) subs: Subs,
+    pub(crate) hosts: Hosts,
     pub(crate) jobs: Jobs,
-    pub(crate) sums: Sums,
+    pub(crate) usage: Usage,
     pub(crate) next_depend: u64,
     pub(crate) next_finish: u64,
     pub(crate) moment: u64,
@@ -42,6 +51,24 @@ impl Model for Farm {
 }
 
 impl Farm {
+    /// The farm of no rows. It takes the room of its books.
+    pub fn make(alloc: Global) -> Result<Farm, AllocError>
+        ensures { IfOk result (λ f. f ≡ empty_farm) }
+    {
+        Ok(Farm {
+            shows: Shows::make(alloc)?,
+            allocs: Allocs::make(alloc)?,
+            subs: Subs::make(alloc)?,
+            hosts: Hosts::make(alloc)?,
+            jobs: Jobs::make(alloc)?,
+            usage: Usage::make(alloc)?,
+            next_depend: 1,
+            next_finish: 1,
+            moment: 0,
+            marked: false,
+        })
+    }
+
     /// The moment (seconds) that the farm is at.
     pub fn moment(&self) -> u64
         ensures { result ≡ self.now.moment }
@@ -64,32 +91,53 @@ impl Farm {
         &self.jobs
     }
 
+    /// The subscriptions, and what is booked of each.
+    pub fn subs(&self) -> &Subs
+        ensures rows { result.now.subs ≡ self.now.subs }
+        ensures booked { (sub : ℕ) → total_at result.now.booked sub ≡ booked_in self.now sub }
+    {
+        &self.subs
+    }
+
     /// The show of that number.
     pub fn show(&self, show: ShowNo) -> Option<&ShowRow>
         ensures { option_copied result ≡ slice_get self.now.shows show }
     {
-        self.shows.get(usize::from(show.0))
+        self.shows.row(show)
     }
 
     /// The allocation of that number.
     pub fn allocation(&self, alloc: AllocNo) -> Option<&AllocRow>
         ensures { option_copied result ≡ slice_get self.now.allocs alloc }
     {
-        self.allocs.get(usize::from(alloc.0))
+        self.allocs.row(alloc)
     }
 
     /// The host of that number.
     pub fn host(&self, host: HostNo) -> Option<&HostRow>
         ensures { option_copied result ≡ slice_get self.now.hosts host }
     {
-        self.hosts.get(usize::from(host.0))
+        self.hosts.row(host)
     }
 
     /// The subscription of that number.
-    pub fn sub(&self, sub: SubNo) -> Option<&SubRow>
-        ensures { option_copied result ≡ sub_at self.now sub }
+    pub fn sub(&self, sub: SubNo) -> Option<SubRow>
+        ensures { result ≡ sub_at self.now sub }
     {
-        self.subs.iter().find(|s| s.sub == sub)
+        self.subs.row(sub)
+    }
+
+    /// The subscription of a show to an allocation.
+    pub fn sub_of(&self, show: ShowNo, alloc: AllocNo) -> Option<SubRow>
+        ensures { result ≡ sub_at self.now (sub_of show alloc) }
+    {
+        let number = sub_number(show, alloc);
+        let subs = &self.subs;
+        if number < SUB_NUMBERS {
+            subs.row(SubNo(number as u16))
+        } else {
+            None
+        }
     }
 
     /// The job of that number.
@@ -99,6 +147,13 @@ impl Farm {
         self.jobs.job(job)
     }
 
+    /// The job with the least number above this one.
+    pub fn next_job(&self, after: u32) -> Option<JobNo>
+        ensures { result ≡ job_after self.now after }
+    {
+        self.jobs.next(after)
+    }
+
     /// The layer at that place (from 0) of a job.
     pub fn layer(&self, job: JobNo, place: u32) -> Option<&LayerRow>
         ensures { option_copied result ≡ layer_at self.now job place }
@@ -106,7 +161,7 @@ impl Farm {
         self.jobs.layer(job, place)
     }
 
-    /// What stands in a slot, none past the last that was ever used.
+    // What stands in a slot, none past the last that was ever used.
     pub(crate) fn slot(&self, slot: Slot) -> Option<SlotRow>
         ensures { result ≡ slice_get self.now.slots slot }
     {
@@ -122,4 +177,11 @@ impl Farm {
             Some(row) => row.proc,
         }
     }
+}
+
+// The number of a show's subscription to an allocation.
+pub(crate) fn sub_number(show: ShowNo, alloc: AllocNo) -> u32
+    ensures { result ≡ sub_of show alloc }
+{
+    16 * u32::from(show.0) + u32::from(alloc.0)
 }

@@ -1,26 +1,31 @@
-//! The farm: its rows, what an entry does to them, and the order in which frames are offered to a host.
+//! The farm: its books, what an entry does to them, and when a frame may be booked.
 #![tactic(auto)]
 
 mod apply;
+mod apply_host;
+mod apply_rows;
+mod attempt;
 mod booking;
 mod change;
 mod demo;
+mod expire;
 mod farm;
 mod fault;
 mod law;
 mod look;
-mod planning;
 mod prepare;
-mod rank;
-mod sums;
-#[cfg(test)]
-mod tests;
+mod prepare_host;
+mod refused;
+mod shows;
+mod usage;
 mod used;
 mod verdict;
 
-pub use change::{Answer, Change};
+pub use change::Change;
 pub use demo::demo_farm;
 pub use farm::Farm;
 pub use fault::PrepareFault;
-pub use law::{dispatch_lists_each_once, legal_runs_are_safe};
-pub use planning::plan;
+pub use law::legal_runs_are_safe;
+
+#[cfg(test)]
+mod tests;

@@ -1,78 +1,129 @@
 //! Prepares the change that an entry makes, or says why the farm refuses it.
 
-ghost use Rattle.std.specs.Prelude.{◌≡◌, true, IfOk, Some};
+ghost use Rattle.std.specs.Prelude.{◌≡◌, true, false, Some};
 ghost use Rattle.farm_types.specs.Booking.{may_record};
+ghost use Rattle.farm_types.specs.Limits.{SubKeepsLimits};
 ghost use Rattle.farm_types.specs.SpecLimits.{JobKeepsLimits};
 ghost use Rattle.farm_types.specs.Step.{HasCondition, KeepsLimits, moment_of, new_proc};
 ghost use Rattle.farm_types.specs.declared.entry.Act.TheVariants as act;
-ghost use Rattle.farm_core.specs.Change.{Prepares, Makes, IsUnknown};
+ghost use Rattle.farm_core.specs.declared.change.Room.TheVariants as room;
+ghost use Rattle.farm_core.specs.Change.{Prepares, Makes};
 
-use crate::change::{Change, Effect};
-use crate::farm::Farm;
+use crate::change::{Change, Effect, Room};
+use crate::farm::{Farm, sub_number};
 use crate::fault::PrepareFault;
+use crate::refused::{existing, existing_alloc, full, unknown};
+use crate::shows::MOST_SHOWS;
+use alloc_tags::AllocRefusal;
 use farm_types::{
-    Act, DoneItem, Entry, HeardAct, HostNo, Items, JobSpec, ProcRow, Refusal, Slot, Text, Version,
+    Act, Counted, Entry, HostNo, JobSpec, ProcRow, Slot, SubLine, SubNo, Text, Version,
 };
 use job_book::JobFault;
-use std::alloc::{AllocError, Global};
+use std::alloc::Global;
 
 impl Farm {
-    /// Prepares what the entry does, and changes nothing. An entry to book is one whose booking may be recorded, and a
-    /// job to submit is within its limits.
+    /// Prepares what the entry does, and changes nothing. An entry to book is one whose booking may be recorded, and the
+    /// amounts of a subscription, a boot and a job are within their limits.
     pub fn prepare(&self, alloc: Global, entry: &Entry) -> Result<Change, PrepareFault>
         requires condition { HasCondition self.now entry.now.act }
         requires limits { KeepsLimits entry.now.act }
         ensures { Prepares self.now entry.now result }
     {
+        let moment = entry.moment;
         match &entry.act {
-            Act::Opened => Ok(Change {
-                moment: self.moment_of(entry.moment),
-                effect: Effect::Opened,
-                reserved: false,
-                spare: None,
-            }),
-            Act::Heard(heard) => self.prepare_heard(alloc, entry.moment, heard),
-            Act::Submit(spec) => self.prepare_submit(alloc, entry.moment, spec),
-            Act::Book { slot, host } => Ok(self.prepare_book(entry.moment, *slot, *host)),
+            Act::Opened => Ok(self.change_at(moment, Effect::Opened)),
+            Act::Show { name } => self.prepare_show(alloc, moment, name),
+            Act::Alloc { facility, tag } => self.prepare_alloc(alloc, moment, facility, tag),
+            Act::Sub(line) => self.prepare_sub(alloc, moment, line),
+            Act::Boot(line) => self.prepare_boot(alloc, moment, line),
+            Act::Heard(heard) => self.prepare_heard(alloc, moment, heard),
+            Act::Submit(spec) => self.prepare_submit(alloc, moment, spec),
+            Act::Lock { host, lock } => self.prepare_lock(alloc, moment, host, *lock),
+            Act::Tick => Ok(self.prepare_tick(moment)),
+            Act::Book { slot, host } => Ok(self.prepare_book(moment, *slot, *host)),
         }
     }
 
-    // Prepares that a host was heard.
-    fn prepare_heard(
+    // The change that does this, at the later of the farm's moment and this one. Its memory isn't taken yet.
+    pub(crate) fn change_at(&self, moment: u64, effect: Effect) -> Change
+        ensures { result ≡ record { moment = moment_of self.now moment; effect = effect; reserved = false; room = room.None } }
+    {
+        Change {
+            moment: self.moment_of(moment),
+            effect,
+            reserved: false,
+            room: Room::None,
+        }
+    }
+
+    // The later of the farm's moment and this one.
+    pub(crate) fn moment_of(&self, moment: u64) -> u64
+        ensures { result ≡ moment_of self.now moment }
+    {
+        self.moment.max(moment)
+    }
+
+    // Prepares that a show is added. Its name is new, then there is room for it.
+    fn prepare_show(&self, alloc: Global, moment: u64, name: &Text) -> Result<Change, PrepareFault>
+        ensures { Prepares self.now (record { moment = moment; act = act.Show name.now }) result }
+    {
+        if self.show_named(name.as_str()).is_some() {
+            return Err(existing(alloc, name));
+        }
+        if self.shows.count() >= MOST_SHOWS {
+            return Err(full(64, Counted::Shows));
+        }
+        let name = name.copy(alloc)?;
+        Ok(self.change_at(moment, Effect::Show { name }))
+    }
+
+    // Prepares that an allocation is added.
+    fn prepare_alloc(
         &self,
         alloc: Global,
         moment: u64,
-        heard: &HeardAct,
+        facility: &Text,
+        tag: &Text,
     ) -> Result<Change, PrepareFault>
-        ensures { Prepares self.now (record { moment = moment; act = act.Heard heard.now }) result }
+        ensures { Prepares self.now (record { moment = moment; act = act.Alloc facility.now tag.now }) result }
     {
-        let Some(host) = self.host_named(heard.host.as_str()) else {
-            return Err(unknown(alloc, &heard.host));
-        };
-        let Some(row) = self.host(host) else {
-            return Err(unknown(alloc, &heard.host));
-        };
-        if row.boot != heard.boot {
-            return Err(PrepareFault::Refused {
-                why: Refusal::WrongBoot { boot: row.boot },
-            });
+        match self.allocs.check(facility.as_str(), tag.as_str()) {
+            Ok(_) => {
+                let facility = facility.copy(alloc)?;
+                let tag = tag.copy(alloc)?;
+                Ok(self.change_at(moment, Effect::Alloc { facility, tag }))
+            }
+            Err(AllocRefusal::Exists) => {
+                Err(existing_alloc(alloc, facility.as_str(), tag.as_str()))
+            }
+            Err(AllocRefusal::Full) => Err(full(16, Counted::Allocs)),
         }
-        if heard.seq <= row.seq {
-            return Err(PrepareFault::Refused {
-                why: Refusal::Stale { last: row.seq },
-            });
-        }
-        Ok(Change {
-            moment: self.moment_of(moment),
-            effect: Effect::Heard {
-                host,
-                boot: heard.boot,
-                seq: heard.seq,
-                done: copy_of(alloc, &heard.done)?,
-            },
-            reserved: false,
-            spare: None,
-        })
+    }
+
+    // Prepares that a subscription of a show to an allocation is set.
+    fn prepare_sub(
+        &self,
+        alloc: Global,
+        moment: u64,
+        line: &SubLine,
+    ) -> Result<Change, PrepareFault>
+        requires { SubKeepsLimits line.now }
+        ensures { Prepares self.now (record { moment = moment; act = act.Sub line.now }) result }
+    {
+        let Some(show) = self.shows.find(line.show.as_str()) else {
+            return Err(unknown(alloc, &line.show));
+        };
+        let Some(allocation) = self.allocs.find(line.alloc.as_str()) else {
+            return Err(unknown(alloc, &line.alloc));
+        };
+        let sub = SubNo(sub_number(show, allocation) as u16);
+        let effect = Effect::Sub {
+            sub,
+            size: line.size,
+            burst: line.burst,
+            booked: self.booked(sub),
+        };
+        Ok(self.change_at(moment, effect))
     }
 
     // Prepares that a job is placed, of the show and the facility that its spec names.
@@ -96,15 +147,8 @@ impl Farm {
             Err(JobFault::Refused { why }) => return Err(PrepareFault::Refused { why }),
             Err(JobFault::NoMemory) => return Err(PrepareFault::NoMemory),
         };
-        Ok(Change {
-            moment: self.moment_of(moment),
-            effect: Effect::Submit {
-                placing,
-                spec: spec.copy(alloc)?,
-            },
-            reserved: false,
-            spare: None,
-        })
+        let spec = spec.copy(alloc)?;
+        Ok(self.change_at(moment, Effect::Submit { placing, spec }))
     }
 
     // Prepares a booking that may be recorded.
@@ -112,23 +156,8 @@ impl Farm {
         requires { may_record self.now slot host ≡ true }
         ensures { Makes self.now (record { moment = moment; act = act.Book slot host }) result }
     {
-        let moment = self.moment_of(moment);
-        Change {
-            moment,
-            effect: Effect::Book {
-                slot,
-                proc: self.new_proc(slot, host, moment),
-            },
-            reserved: false,
-            spare: None,
-        }
-    }
-
-    // The later of the farm's moment and this one.
-    fn moment_of(&self, moment: u64) -> u64
-        ensures { result ≡ moment_of self.now moment }
-    {
-        self.moment.max(moment)
+        let proc = self.new_proc(slot, host, self.moment_of(moment));
+        self.change_at(moment, Effect::Book { slot, proc })
     }
 
     // The attempt that a booking adds: the layer's amounts, on the subscription of the job's show.
@@ -153,7 +182,7 @@ impl Farm {
         let Some(h) = self.host(host) else {
             unreachable!()
         };
-        let Some(sub) = self.sub_of(job.show, h.alloc) else {
+        let Some(sub) = self.sub_row(job.show, h.alloc) else {
             unreachable!()
         };
         ProcRow {
@@ -167,23 +196,4 @@ impl Farm {
             since: moment,
         }
     }
-}
-
-// That there is nothing of that name.
-fn unknown(alloc: Global, name: &Text) -> PrepareFault
-    ensures { IsUnknown name.now result }
-{
-    match name.copy(alloc) {
-        Ok(name) => PrepareFault::Refused {
-            why: Refusal::Unknown { name },
-        },
-        Err(_) => PrepareFault::NoMemory,
-    }
-}
-
-// An equal list.
-fn copy_of(alloc: Global, done: &Items<DoneItem>) -> Result<Items<DoneItem>, AllocError>
-    ensures { IfOk result (λ copy. copy ≡ done.now) }
-{
-    Ok(Items::from_vec(Vec::from_slice(alloc, done.as_slice())?))
 }

@@ -1,9 +1,16 @@
-//! What the calls do, over the demonstration's farm and over one of several shows, jobs and hosts.
+//! That farms are made where there is memory. Entries are taken in the tests of the crates above.
 
-mod bookings;
-mod completions;
-mod order;
-mod rows;
-mod specs;
-mod steps;
-mod submits;
+use crate::demo::demo_farm;
+use crate::farm::Farm;
+use std::test::Fail;
+
+#[test]
+fn farms_are_made(rt: HostRuntime) -> Result<(), Fail> {
+    let alloc = rt.alloc();
+    let empty = Farm::make(alloc)?;
+    assert_eq!(rt; empty.slots().len(), 0);
+    let demo = demo_farm(alloc, 3)?;
+    assert_eq!(rt; demo.moment(), 3);
+    assert_eq!(rt; demo.slots().len(), 10);
+    Ok(())
+}

@@ -1,4 +1,4 @@
-//! What live attempts use of a host and of a subscription, as the kept sums say it.
+//! What live attempts use of a host and of a subscription, as the kept totals say it.
 
 ghost use Rattle.std.specs.Prelude.{◌≡◌, ◌<◌, length};
 ghost use Rattle.farm_types.specs.Sums.{used_on, booked_in};
@@ -13,8 +13,8 @@ impl Farm {
         ensures { result ≡ used_on self.now host }
     {
         (
-            Cores(self.sums.cores(host) as u32),
-            Kb(self.sums.memory(host)),
+            Cores(self.usage.cores(host) as u32),
+            Kb(self.usage.memory(host)),
         )
     }
 
@@ -22,6 +22,6 @@ impl Farm {
     pub fn booked(&self, sub: SubNo) -> Cores
         ensures { result ≡ booked_in self.now sub }
     {
-        Cores(self.sums.booked(sub) as u32)
+        self.subs.booked(sub)
     }
 }

@@ -1,9 +1,10 @@
 //! What becomes of a frame whose attempt completed.
 
-ghost use Rattle.std.specs.Prelude.{◌≡◌};
+ghost use Rattle.std.specs.Prelude.{◌≡◌, false};
 ghost use Rattle.farm_types.specs.Farm.{job_at};
 ghost use Rattle.farm_types.specs.Step.{judged, verdict_for};
 ghost use Rattle.farm_types.specs.Verdict.{verdict_of};
+ghost use Rattle.farm_core.specs.Turned.{is_running};
 
 use crate::farm::Farm;
 use farm_types::{Exit, FrameRow, FrameState, Verdict};
@@ -17,7 +18,8 @@ const GIVEN_UP: u32 = 256;
 impl Farm {
     // The frame as the exit of its attempt leaves it.
     pub(crate) fn judged_frame(&self, exit: Exit, frame: &FrameRow) -> FrameRow
-        ensures { result ≡ judged frame.now (verdict_for exit frame.now (job_at self.now frame.now.job)) }
+        ensures frame { result ≡ judged frame.now (verdict_for exit frame.now (job_at self.now frame.now.job)) }
+        ensures still { is_running result.state ≡ false }
     {
         judged(frame, self.verdict_for(exit, frame))
     }
@@ -57,7 +59,8 @@ fn verdict(exit: Exit, retries: u32, most: u32, auto_eat: bool) -> Verdict
 
 // The frame as the verdict leaves it.
 fn judged(frame: &FrameRow, verdict: Verdict) -> FrameRow
-    ensures { result ≡ judged frame.now verdict }
+    ensures frame { result ≡ judged frame.now verdict }
+    ensures still { is_running result.state ≡ false }
 {
     let mut judged = *frame;
     match verdict {

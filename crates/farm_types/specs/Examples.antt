@@ -1,22 +1,27 @@
 -- Worked examples over the farm of the demonstration.
 use Rattle.std.specs.Prelude.{ℕ, ℤ, pos, List, [], ◌∷◌, codes, map, false, Option, option_map}
-use Rattle.serde_json.specs.Written.{compact_text}
 use Rattle.farm_types.specs.declared.attempt.Attempt.{Attempt}
 use Rattle.farm_types.specs.declared.attempt.DoneItem.{DoneItem}
 use Rattle.farm_types.specs.declared.dispatch.Candidate.{Candidate}
 use Rattle.farm_types.specs.declared.job.JobSpec.{JobSpec}
 use Rattle.farm_types.specs.declared.job.LayerSpec.{LayerSpec}
 use Rattle.farm_types.specs.declared.launch.Launch.{Launch}
+use Rattle.farm_types.specs.declared.attempt.ProcRow.{ProcRow}
+use Rattle.farm_types.specs.declared.boot.BootLine.{BootLine}
+use Rattle.farm_types.specs.declared.entry.Entry.{Entry}
+use Rattle.farm_types.specs.declared.reply.Cut.TheVariants as cut
 use Rattle.farm_types.specs.declared.report.Report.{Report}
+use Rattle.farm_types.specs.declared.request.Request.TheVariants as request
 use Rattle.farm_types.specs.declared.slot_row.FrameRow.{FrameRow}
 use Rattle.farm_types.specs.declared.slot_row.SlotRow.{SlotRow}
+use Rattle.farm_types.specs.declared.states.FrameState.{FrameState}
 use Rattle.farm_types.specs.Farm.{Farm}
 use Rattle.farm_types.specs.Demo.{demo_farm}
 use Rattle.farm_types.specs.Dispatch.{plan_for, round_for}
 use Rattle.farm_types.specs.Step.{after}
 use Rattle.farm_types.specs.Run.{run_of}
-use Rattle.farm_types.specs.Reply.{launches_of, report_reply}
-use Rattle.farm_types.specs.Transcript.{heard_entry, submit_entry}
+use Rattle.farm_types.specs.Reply.{launches_of, report_reply, reply_text}
+use Rattle.farm_types.specs.Transcript.{heard_entry, entry_of}
 
 -- a report of the demonstration's host
 abbrev pub report : ℕ → List Attempt → List DoneItem → Report
@@ -72,8 +77,8 @@ abbrev pub late_again : Report
 late_again = report 3 (attempt 0 2 ∷ attempt 1 1 ∷ attempt 2 1 ∷ attempt 3 1 ∷ []) (done 0 1 0 ∷ [])
 
 -- the text of the reply to a report, where nothing of the outside fails
-abbrev pub reply_text : Farm → Report → List ℕ
-reply_text f r = compact_text (report_reply (after_report f r) 0 r [])
+abbrev pub text_for : Farm → Report → List ℕ
+text_for f r = reply_text (report_reply (after_report f r) 0 r cut.Whole)
 
 -- ---- a job more
 
@@ -105,8 +110,12 @@ high =
       layers = high_layer ∷ [];
     }
 
+-- the entry that submits a job
+abbrev pub submit : JobSpec → Entry
+submit spec = entry_of (request.Submit spec) 0
+
 abbrev pub farm_with_high : Farm
-farm_with_high = after farm_one (submit_entry high 0)
+farm_with_high = after farm_one (submit high)
 
 -- the slots that the first report is offered, in the order of dispatch
 abbrev pub offered_by : Farm → Report → List ℕ
@@ -115,3 +124,24 @@ offered_by f r = map (λ (c : Candidate). c.slot) (plan_for (after f (heard_entr
 -- the numbers of the frames, by slot
 abbrev pub numbers_in : Farm → List (Option ℤ)
 numbers_in f = map (λ (s : SlotRow). option_map (λ (x : FrameRow). x.number) s.frame) f.slots
+
+-- ---- silent hosts and new lives
+
+-- time is seen to have passed
+abbrev pub tick : ℕ → Entry
+tick moment = entry_of request.Tick moment
+
+-- the demonstration's host boots, with a nonce
+abbrev pub boot_line : ℕ → BootLine
+boot_line nonce = record { host = codes "h1"; nonce = nonce; alloc = codes "farm.general"; tags = []; cores = 50; memory = 262144 }
+
+abbrev pub boot : ℕ → ℕ → Entry
+boot nonce moment = entry_of (request.Boot (boot_line nonce)) moment
+
+-- the hosts of the live attempts, by slot
+abbrev pub live_in : Farm → List (Option ℕ)
+live_in f = map (λ (s : SlotRow). option_map (λ (p : ProcRow). p.host) s.proc) f.slots
+
+-- the states of the frames, by slot
+abbrev pub states_in : Farm → List (Option FrameState)
+states_in f = map (λ (s : SlotRow). option_map (λ (x : FrameRow). x.state) s.frame) f.slots

@@ -1,5 +1,5 @@
 -- The farm: plain lists, each in the order of its numbers.
-use Rattle.std.specs.Prelude.{ℕ, ◌==◌, ◌&&◌, ◌+◌, ◌*◌, Bool, false, List, [], ◌∷◌, Option, None, Some, slice_get, slice_set, find, bytes_eq, if◌then◌else◌}
+use Rattle.std.specs.Prelude.{ℕ, ◌==◌, ◌&&◌, ◌+◌, ◌*◌, Bool, false, List, [], ◌∷◌, ◌++◌, Option, None, Some, slice_get, slice_set, find, bytes_eq, if◌then◌else◌}
 use Rattle.std.specs.List.{list_any}
 use Rattle.farm_types.specs.declared.rows.ShowRow.{ShowRow}
 use Rattle.farm_types.specs.declared.rows.AllocRow.{AllocRow}
@@ -78,5 +78,40 @@ abbrev pub show_named : Farm → List ℕ → Option ℕ
 show_named f name = show_from 0 name f.shows
 
 -- a facility is there when an allocation has it
+abbrev pub is_facility : List ℕ → List AllocRow → Bool
+is_facility facility allocs = list_any (λ a. bytes_eq a.facility facility) allocs
+
 abbrev pub has_facility : Farm → List ℕ → Bool
-has_facility f facility = list_any (λ a. bytes_eq a.facility facility) f.allocs
+has_facility f facility = is_facility facility f.allocs
+
+-- an allocation's name: its facility, a point, and its tag
+abbrev pub alloc_name : List ℕ → List ℕ → List ℕ
+alloc_name facility tag = facility ++ 46 ∷ tag
+
+-- the number of the first allocation of that name, counted from a place
+abbrev pub alloc_from : ℕ → List ℕ → List AllocRow → Option ℕ
+alloc_from place name [] = None
+alloc_from place name (a ∷ rest) = if bytes_eq (alloc_name a.facility a.tag) name then Some place else alloc_from (place + 1) name rest
+
+abbrev pub alloc_named : Farm → List ℕ → Option ℕ
+alloc_named f name = alloc_from 0 name f.allocs
+
+-- the farm of no rows, which no entry has made yet
+abbrev pub empty_farm : Farm
+empty_farm =
+    record {
+      shows = [];
+      allocs = [];
+      subs = [];
+      hosts = [];
+      jobs = [];
+      layers = [];
+      slots = [];
+      depends = [];
+      met = [];
+      next_job = 1;
+      next_depend = 1;
+      next_finish = 1;
+      moment = 0;
+      marked = false;
+    }

@@ -1,3 +1,4 @@
+pub mod Answers
 pub mod Booking
 pub mod Demo
 pub mod Depends
@@ -6,7 +7,10 @@ pub mod Examples
 pub mod Farm
 pub mod Fields
 pub mod Forms
+pub mod Hosts
 pub mod Jobs
+pub mod Limits
+pub mod Lost
 pub mod Names
 pub mod Reply
 pub mod Request
@@ -14,6 +18,7 @@ pub mod Run
 pub mod Spec
 pub mod SpecLimits
 pub mod Step
+pub mod Subs
 pub mod Sums
 pub mod Transcript
 pub mod Verdict

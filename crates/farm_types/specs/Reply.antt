@@ -1,19 +1,28 @@
--- The replies, as JSON values with their keys in byte order.
+-- What is replied to lines, and the replies as JSON values with their keys in byte order.
 use Rattle.std.specs.Prelude.{ℕ, ◌==◌, ◌&&◌, ◌||◌, List, [], map, take, filter, filter_map, codes, Bool, true, false, not, Option, None, option_map, option_and_then, if◌then◌else◌}
 use Rattle.std.specs.List.{list_any}
 use Rattle.serde_json.specs.Data.{Data, boolean, number, unsigned, string, array, object, no_members, member}
 use Rattle.serde_json.specs.View.{items_of}
+use Rattle.serde_json.specs.Written.{compact_text}
 use Rattle.frame_range.specs.declared.fault.RangeFault.{RangeFault}
 use Rattle.frame_range.specs.declared.fault.RangeFault.TheVariants as range_fault
 use Rattle.farm_types.specs.declared.attempt.Attempt.{Attempt}
 use Rattle.farm_types.specs.declared.attempt.DoneItem.{DoneItem}
 use Rattle.farm_types.specs.declared.attempt.ProcRow.{ProcRow}
-use Rattle.farm_types.specs.declared.job.JobSpec.{JobSpec}
+use Rattle.farm_types.specs.declared.answer.Answer.{Answer}
+use Rattle.farm_types.specs.declared.answer.Answer.TheVariants as answer
+use Rattle.farm_types.specs.declared.entry.Act.{Act}
+use Rattle.farm_types.specs.declared.entry.Act.TheVariants as act
 use Rattle.farm_types.specs.declared.launch.Launch.{Launch}
 use Rattle.farm_types.specs.declared.refusal.Refusal.{Refusal}
 use Rattle.farm_types.specs.declared.refusal.Refusal.TheVariants.{Unknown, Exists, WrongBoot, Stale, FarmFull, Full}
 use Rattle.farm_types.specs.declared.refusal.Counted.{Counted}
 use Rattle.farm_types.specs.declared.refusal.Counted.TheVariants as counted
+use Rattle.farm_types.specs.declared.reply.Cut.{Cut}
+use Rattle.farm_types.specs.declared.reply.Cut.TheVariants as cut
+use Rattle.farm_types.specs.declared.reply.Reply.{Reply}
+use Rattle.farm_types.specs.declared.reply.Reply.TheVariants as reply
+use Rattle.farm_types.specs.declared.reply.ReportReply.{ReportReply}
 use Rattle.farm_types.specs.declared.report.Report.{Report}
 use Rattle.farm_types.specs.declared.rows.JobRow.{JobRow}
 use Rattle.farm_types.specs.declared.rows.LayerRow.{LayerRow}
@@ -22,7 +31,6 @@ use Rattle.farm_types.specs.declared.slot_row.SlotRow.{SlotRow}
 use Rattle.farm_types.specs.Farm.{Farm, job_at, layer_at}
 use Rattle.farm_types.specs.Names.{frame_name, expanded}
 use Rattle.farm_types.specs.Request.{RequestError, BadLine, BadRange, BadAmount}
-use Rattle.farm_types.specs.Spec.{frames_in}
 use Rattle.farm_types.specs.Run.{is_same}
 use Rattle.farm_types.specs.Step.{is_live}
 
@@ -71,12 +79,16 @@ bad_amount field =
     object (member (codes "code") (whole 8) (member (codes "field") (string field) (member (codes "ok") (boolean false) (member (codes "why") (string (codes "bad_amount")) no_members))))
 
 -- a line that asks nothing
-abbrev pub error_data : RequestError → Data
-error_data (BadLine field) = bad_line field
-error_data (BadRange layer fault) = bad_range layer fault
-error_data (BadAmount field) = bad_amount field
+abbrev pub error_reply : RequestError → Reply
+error_reply (BadLine field) = reply.BadLine field
+error_reply (BadRange layer fault) = reply.BadRange layer fault
+error_reply (BadAmount field) = reply.BadAmount field
 
 abbrev pub counted_word : Counted → List ℕ
+counted_word counted.Shows = codes "shows"
+counted_word counted.Allocs = codes "allocs"
+counted_word counted.Hosts = codes "hosts"
+counted_word counted.Boots = codes "boots"
 counted_word counted.Jobs = codes "jobs"
 
 unfoldable pub refusal_data : Refusal → Data
@@ -99,9 +111,33 @@ refusal_data (Full limit what) =
 unfoldable pub submit_data : ℕ → List ℕ → Data
 submit_data frames job = object (member (codes "frames") (whole frames) (member (codes "job") (string job) (member (codes "ok") (boolean true) no_members)))
 
--- how many frames the job has, and its name
-abbrev pub submit_reply : JobSpec → Data
-submit_reply spec = submit_data (frames_in spec.layers) spec.name
+-- ---- the replies to other requests that are taken
+
+unfoldable pub done_data : Data
+done_data = object (member (codes "ok") (boolean true) no_members)
+
+unfoldable pub sub_data : ℕ → ℕ → ℕ → Data
+sub_data booked burst size =
+    object (member (codes "booked") (whole booked) (member (codes "burst") (whole burst) (member (codes "ok") (boolean true) (member (codes "size") (whole size) no_members))))
+
+unfoldable pub boot_data : ℕ → ℕ → Data
+boot_data boot nonce = object (member (codes "boot") (whole boot) (member (codes "nonce") (whole nonce) (member (codes "ok") (boolean true) no_members)))
+
+unfoldable pub tick_data : ℕ → ℕ → Data
+tick_data down lost = object (member (codes "down") (whole down) (member (codes "lost") (whole lost) (member (codes "ok") (boolean true) no_members)))
+
+-- the name of the job that is submitted
+abbrev pub job_named : Act → List ℕ
+job_named (act.Submit spec) = spec.name
+job_named other = []
+
+-- the reply to a request but a report, by what the farm answers to its entry
+abbrev pub ok_reply : Act → Answer → Reply
+ok_reply entry (answer.Sub booked burst size) = reply.Sub booked burst size
+ok_reply entry (answer.Boot boot nonce) = reply.Boot boot nonce
+ok_reply entry (answer.Submitted frames) = reply.Submitted frames (job_named entry)
+ok_reply entry (answer.Tick down lost) = reply.Tick down lost
+ok_reply entry other = reply.Done
 
 -- ---- a report's reply
 
@@ -169,6 +205,32 @@ report_data boot seq cut acks kills launches =
     object (member (codes "acks") (attempts_data acks) (member (codes "boot") (whole boot) (member (codes "cut") (string cut) (member (codes "kills") (attempts_data kills)
     (member (codes "launches") (launches_data launches) (member (codes "ok") (boolean true) (member (codes "seq") (whole seq) no_members)))))))
 
--- The reply to a report, over the live attempts of this farm. `cut` says what ended the round early, or nothing.
-abbrev pub report_reply : Farm → ℕ → Report → List ℕ → Data
-report_reply f host report cut = report_data report.boot report.seq cut (acks_of report) (kills_of f host report) (launches_of f host report)
+-- The reply to a report, over the live attempts of this farm. `ended` says what ended the round.
+abbrev pub report_reply : Farm → ℕ → Report → Cut → Reply
+report_reply f host report ended =
+    reply.Report (record { acks = acks_of report; boot = report.boot; cut = ended; kills = kills_of f host report; launches = launches_of f host report; seq = report.seq })
+
+-- the word of a reply for what ended its round
+abbrev pub cut_text : Cut → List ℕ
+cut_text cut.Whole = []
+cut_text cut.Memory = codes "memory"
+
+-- ---- every reply
+
+abbrev pub reply_data : Reply → Data
+reply_data reply.Done = done_data
+reply_data (reply.Sub booked burst size) = sub_data booked burst size
+reply_data (reply.Boot boot nonce) = boot_data boot nonce
+reply_data (reply.Tick down lost) = tick_data down lost
+reply_data (reply.Submitted frames job) = submit_data frames job
+reply_data (reply.Report r) = report_data r.boot r.seq (cut_text r.cut) r.acks r.kills r.launches
+reply_data (reply.BadLine field) = bad_line field
+reply_data reply.TooLong = too_long
+reply_data (reply.BadRange layer fault) = bad_range layer fault
+reply_data (reply.BadAmount field) = bad_amount field
+reply_data (reply.Refused why) = refusal_data why
+reply_data reply.NoMemory = no_memory
+
+-- the text of a reply
+abbrev pub reply_text : Reply → List ℕ
+reply_text r = compact_text (reply_data r)

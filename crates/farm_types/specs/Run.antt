@@ -17,7 +17,8 @@ use Rattle.farm_types.specs.declared.states.FrameState.TheVariants as frame_stat
 use Rattle.farm_types.specs.Farm.{Farm, changed_at, sub_at, host_named}
 use Rattle.farm_types.specs.Sums.{used_cores, used_memory, booked_in}
 use Rattle.farm_types.specs.Depends.{is_open}
-use Rattle.farm_types.specs.Step.{refusal_of, HasCondition, after, at_moment, moment_of, heard_row, is_live, end_attempt}
+use Rattle.farm_types.specs.Hosts.{heard_row}
+use Rattle.farm_types.specs.Step.{refusal_of, HasCondition, after, at_moment, moment_of, expire, is_live, end_attempt}
 
 -- ---- legal
 
@@ -91,7 +92,7 @@ counted_of f act moment None = []
 counted_of f act moment (Some host) = counted_in (record f { hosts = changed_at f.hosts host (heard_row act.seq moment) }) host act.boot act.done
 
 abbrev pub counted_by : Farm → ℕ → Act → List Attempt
-counted_by f moment (Heard act) = counted_of f act moment (host_named f act.host)
+counted_by f moment (Heard act) = counted_of (expire f moment) act moment (host_named f act.host)
 counted_by f moment act = []
 
 -- the attempts that the completions of a run change, in order

@@ -1,32 +1,87 @@
 -- What an entry does to the farm, and when the farm refuses it.
-use Rattle.std.specs.Prelude.{ℕ, ◌==◌, ◌&&◌, ◌+◌, ◌≡◌, List, [], ◌∷◌, map, max, Bool, true, false, Option, None, Some, option_map, slice_get, nat_lt, if◌then◌else◌}
+use Rattle.std.specs.Prelude.{ℕ, ◌==◌, ◌&&◌, ◌+◌, ◌≡◌, List, [], ◌∷◌, ◌++◌, map, max, length, Bool, true, false, Option, None, Some, option_map, is_some, slice_get, nat_lt, if◌then◌else◌}
 use Rattle.std.specs.Prelude.{option_and_then}
 use Rattle.farm_types.specs.declared.attempt.DoneItem.{DoneItem}
 use Rattle.farm_types.specs.declared.attempt.Exit.{Exit}
 use Rattle.farm_types.specs.declared.attempt.ProcRow.{ProcRow}
+use Rattle.farm_types.specs.declared.boot.BootLine.{BootLine}
 use Rattle.farm_types.specs.declared.entry.Entry.{Entry}
 use Rattle.farm_types.specs.declared.entry.Act.{Act}
-use Rattle.farm_types.specs.declared.entry.Act.TheVariants.{Opened, Heard, Submit, Book}
+use Rattle.farm_types.specs.declared.entry.Act.TheVariants as act
 use Rattle.farm_types.specs.declared.entry.HeardAct.{HeardAct}
+use Rattle.farm_types.specs.declared.refusal.Counted.{Counted}
+use Rattle.farm_types.specs.declared.refusal.Counted.TheVariants as counted
 use Rattle.farm_types.specs.declared.refusal.Refusal.{Refusal}
-use Rattle.farm_types.specs.declared.refusal.Refusal.TheVariants.{Unknown, WrongBoot, Stale}
+use Rattle.farm_types.specs.declared.refusal.Refusal.TheVariants.{Unknown, Exists, WrongBoot, Stale, Full}
 use Rattle.farm_types.specs.declared.job.JobSpec.{JobSpec}
+use Rattle.farm_types.specs.declared.rows.AllocRow.{AllocRow}
 use Rattle.farm_types.specs.declared.rows.HostRow.{HostRow}
 use Rattle.farm_types.specs.declared.rows.JobRow.{JobRow}
 use Rattle.farm_types.specs.declared.rows.LayerRow.{LayerRow}
+use Rattle.farm_types.specs.declared.rows.SubRow.{SubRow}
 use Rattle.farm_types.specs.declared.slot_row.FrameRow.{FrameRow}
 use Rattle.farm_types.specs.declared.slot_row.SlotRow.{SlotRow}
 use Rattle.farm_types.specs.declared.states.FrameState.TheVariants as frame_state
-use Rattle.farm_types.specs.declared.states.HostState.TheVariants as host_state
+use Rattle.farm_types.specs.declared.states.LockState.{LockState}
+use Rattle.farm_types.specs.declared.sub_line.SubLine.{SubLine}
 use Rattle.farm_types.specs.declared.verdict.Verdict.{Verdict}
 use Rattle.farm_types.specs.declared.verdict.Verdict.TheVariants as verdict
-use Rattle.farm_types.specs.Farm.{Farm, for_some, changed_at, job_at, layer_at, sub_of, host_named, show_named, has_facility}
+use Rattle.farm_types.specs.Farm.{Farm, for_some, changed_at, job_at, layer_at, sub_of, host_named, show_named, has_facility, alloc_name, alloc_named}
 use Rattle.farm_types.specs.Verdict.{verdict_of}
-use Rattle.farm_types.specs.Booking.{is_up, may_record}
+use Rattle.farm_types.specs.Booking.{may_record}
+use Rattle.farm_types.specs.Hosts.{heard_row, reopened_row, locked_row, is_unheard, silenced, is_same_life, booted}
 use Rattle.farm_types.specs.Jobs.{JobLists, with_job, job_refusal}
+use Rattle.farm_types.specs.Limits.{most_shows, most_allocs, most_hosts, last_boot, BootKeepsLimits, SubKeepsLimits}
+use Rattle.farm_types.specs.Lost.{lose_on}
 use Rattle.farm_types.specs.SpecLimits.{JobKeepsLimits}
+use Rattle.farm_types.specs.Subs.{with_sub}
 
 -- ---- refusals
+
+-- nothing where there is room for one more
+abbrev pub full_refusal : ℕ → ℕ → Counted → Option Refusal
+full_refusal limit count what = if nat_lt count limit then None else Some (Full limit what)
+
+-- the name is new, and there is room for one more
+abbrev pub new_refusal : List ℕ → Bool → Option Refusal → Option Refusal
+new_refusal name there room = if there then Some (Exists name) else room
+
+abbrev pub show_refusal : Farm → List ℕ → Option Refusal
+show_refusal f name = new_refusal name (is_some (show_named f name)) (full_refusal most_shows (length f.shows) counted.Shows)
+
+abbrev pub alloc_refusal : Farm → List ℕ → Option Refusal
+alloc_refusal f name = new_refusal name (is_some (alloc_named f name)) (full_refusal most_allocs (length f.allocs) counted.Allocs)
+
+-- a thing of that name is there
+abbrev pub name_refusal : List ℕ → Option ℕ → Option Refusal
+name_refusal name None = Some (Unknown name)
+name_refusal name (Some number) = None
+
+-- the show of the subscription is there, then its allocation
+abbrev pub sub_refusal : Farm → SubLine → Option ℕ → Option Refusal
+sub_refusal f line None = Some (Unknown line.show)
+sub_refusal f line (Some show) = name_refusal line.alloc (alloc_named f line.alloc)
+
+-- the name of the allocation of that number
+abbrev pub name_of_alloc : Option AllocRow → List ℕ
+name_of_alloc None = []
+name_of_alloc (Some a) = alloc_name a.facility a.tag
+
+-- the host that boots is of that allocation, and there is a boot number for a new life
+abbrev pub life_refusal : Farm → BootLine → ℕ → Option HostRow → Option Refusal
+life_refusal f line alloc None = None
+life_refusal f line alloc (Some h) =
+    if h.alloc == alloc then (if is_same_life line h then None else full_refusal last_boot h.boot counted.Boots)
+    else Some (Exists (name_of_alloc (slice_get f.allocs h.alloc)))
+
+abbrev pub boot_at : Farm → BootLine → ℕ → Option ℕ → Option Refusal
+boot_at f line alloc None = full_refusal most_hosts (length f.hosts) counted.Hosts
+boot_at f line alloc (Some host) = life_refusal f line alloc (slice_get f.hosts host)
+
+-- the boot's allocation is there; a host that is there is of that allocation; and there is room for a host or a boot number more
+abbrev pub boot_refusal : Farm → BootLine → Option ℕ → Option Refusal
+boot_refusal f line None = Some (Unknown line.alloc)
+boot_refusal f line (Some alloc) = boot_at f line alloc (host_named f line.host)
 
 -- the host's boot number is the report's, and the report's sequence number is above the last one
 abbrev pub row_refusal : List ℕ → ℕ → ℕ → Option HostRow → Option Refusal
@@ -51,35 +106,57 @@ submit_refusal f spec (Some show) = if has_facility f spec.facility then job_ref
 
 -- the first refusal that the farm gives, or none
 abbrev pub act_refusal : Farm → Act → Option Refusal
-act_refusal f Opened = None
-act_refusal f (Heard act) = host_refusal f act (host_named f act.host)
-act_refusal f (Submit spec) = submit_refusal f spec (show_named f spec.show)
-act_refusal f (Book slot host) = None
+act_refusal f act.Opened = None
+act_refusal f (act.Show name) = show_refusal f name
+act_refusal f (act.Alloc facility tag) = alloc_refusal f (alloc_name facility tag)
+act_refusal f (act.Sub line) = sub_refusal f line (show_named f line.show)
+act_refusal f (act.Boot line) = boot_refusal f line (alloc_named f line.alloc)
+act_refusal f (act.Heard heard) = host_refusal f heard (host_named f heard.host)
+act_refusal f (act.Submit spec) = submit_refusal f spec (show_named f spec.show)
+act_refusal f (act.Lock host lock) = name_refusal host (host_named f host)
+act_refusal f act.Tick = None
+act_refusal f (act.Book slot host) = None
 
 abbrev pub refusal_of : Farm → Entry → Option Refusal
 refusal_of f e = act_refusal f e.act
 
 -- what a booking asks beside: that it may be recorded
 abbrev pub HasCondition : Farm → Act → Type 0
-HasCondition f Opened = Unit {0}
-HasCondition f (Heard act) = Unit {0}
-HasCondition f (Submit spec) = Unit {0}
-HasCondition f (Book slot host) = may_record f slot host ≡ true
+HasCondition f (act.Book slot host) = may_record f slot host ≡ true
+HasCondition f other = Unit {0}
 
--- a submitted job keeps its limits
+-- the amounts of a subscription, a boot and a job are within their limits
 abbrev pub KeepsLimits : Act → Type 0
-KeepsLimits (Submit spec) = JobKeepsLimits spec
-KeepsLimits act = Unit {0}
+KeepsLimits (act.Sub line) = SubKeepsLimits line
+KeepsLimits (act.Boot line) = BootKeepsLimits line
+KeepsLimits (act.Submit spec) = JobKeepsLimits spec
+KeepsLimits other = Unit {0}
 
--- ---- hosts
+-- ---- hosts that are silent
 
--- the host is up and was heard at the moment
-abbrev pub heard_row : ℕ → ℕ → HostRow → HostRow
-heard_row seq moment h = record h { seq = seq; heard = moment; state = host_state.Up }
+-- the host of that number is unheard at the moment
+abbrev pub is_silent : Farm → ℕ → ℕ → Bool
+is_silent f moment host = for_some (slice_get f.hosts host) (is_unheard moment)
 
--- each host that is up counts as heard at the moment
-abbrev pub reopened_row : ℕ → HostRow → HostRow
-reopened_row moment h = if is_up h.state then record h { heard = moment } else h
+-- Each unheard host goes down, and the attempts on it are lost.
+abbrev pub expire : Farm → ℕ → Farm
+expire f moment = record f { hosts = silenced moment f.hosts; slots = lose_on (is_silent f moment) f.slots }
+
+-- ---- boots
+
+-- where a new life of a host begins, the attempts on it are lost
+abbrev pub lose_life : BootLine → ℕ → Option HostRow → List SlotRow → List SlotRow
+lose_life line host None slots = slots
+lose_life line host (Some h) slots = if is_same_life line h then slots else lose_on (λ n. n == host) slots
+
+abbrev pub slots_at_boot : Farm → BootLine → Option ℕ → List SlotRow
+slots_at_boot f line None = f.slots
+slots_at_boot f line (Some host) = lose_life line host (slice_get f.hosts host) f.slots
+
+-- the farm after the boot of a host of the allocation of that number
+abbrev pub after_boot : Farm → BootLine → ℕ → Option ℕ → Farm
+after_boot f line moment None = f
+after_boot f line moment (Some alloc) = record f { hosts = booted f.hosts line alloc moment; slots = slots_at_boot f line (host_named f line.host) }
 
 -- ---- completions
 
@@ -158,11 +235,35 @@ abbrev pub after_submit : Farm → JobSpec → Option ℕ → Farm
 after_submit f spec None = f
 after_submit f spec (Some show) = with_lists f (with_job (lists_of f) show spec)
 
+-- the number of the subscription that the line speaks of
+abbrev pub sub_named : Farm → SubLine → Option ℕ
+sub_named f line = option_and_then (λ show. option_map (λ alloc. sub_of show alloc) (alloc_named f line.alloc)) (show_named f line.show)
+
+-- the farm with the subscription of that number, as the line sets it
+abbrev pub sub_row : ℕ → SubLine → SubRow
+sub_row sub line = record { sub = sub; size = line.size; burst = line.burst }
+
+abbrev pub after_sub : Farm → SubLine → Option ℕ → Farm
+after_sub f line None = f
+after_sub f line (Some sub) = record f { subs = with_sub (sub_row sub line) f.subs }
+
+-- the farm with the host locked or opened
+abbrev pub after_lock : Farm → LockState → Option ℕ → Farm
+after_lock f lock None = f
+after_lock f lock (Some host) = record f { hosts = changed_at f.hosts host (locked_row lock) }
+
+-- A report, a boot and a tick first see which hosts are silent.
 abbrev pub after_act : Farm → ℕ → Act → Farm
-after_act f moment Opened = record f { hosts = map (reopened_row moment) f.hosts }
-after_act f moment (Heard act) = after_heard f act moment (host_named f act.host)
-after_act f moment (Submit spec) = after_submit f spec (show_named f spec.show)
-after_act f moment (Book slot host) = with_proc f slot (new_proc f slot host moment)
+after_act f moment act.Opened = record f { hosts = map (reopened_row moment) f.hosts }
+after_act f moment (act.Show name) = record f { shows = f.shows ++ record { name = name } ∷ [] }
+after_act f moment (act.Alloc facility tag) = record f { allocs = f.allocs ++ record { facility = facility; tag = tag } ∷ [] }
+after_act f moment (act.Sub line) = after_sub f line (sub_named f line)
+after_act f moment (act.Boot line) = after_boot (expire f moment) line moment (alloc_named f line.alloc)
+after_act f moment (act.Heard heard) = after_heard (expire f moment) heard moment (host_named f heard.host)
+after_act f moment (act.Submit spec) = after_submit f spec (show_named f spec.show)
+after_act f moment (act.Lock host lock) = after_lock f lock (host_named f host)
+after_act f moment act.Tick = expire f moment
+after_act f moment (act.Book slot host) = with_proc f slot (new_proc f slot host moment)
 
 -- the farm at a moment, marked as one that an entry made
 abbrev pub at_moment : Farm → ℕ → Farm

@@ -1,5 +1,5 @@
 -- What live attempts use, added up anew each time.
-use Rattle.std.specs.Prelude.{ℕ, ◌==◌, Option, None, Some, sum_by, if◌then◌else◌}
+use Rattle.std.specs.Prelude.{ℕ, ◌==◌, List, Option, None, Some, sum_by, slice_get, if◌then◌else◌}
 use Rattle.farm_types.specs.declared.attempt.ProcRow.{ProcRow}
 use Rattle.farm_types.specs.declared.slot_row.SlotRow.{SlotRow}
 use Rattle.farm_types.specs.Farm.{Farm}
@@ -31,3 +31,13 @@ used_on f host = (used_cores f host, used_memory f host)
 -- the cores that are booked of a subscription
 abbrev pub booked_in : Farm → ℕ → ℕ
 booked_in f sub = sum_by (λ (s : SlotRow). cores_in sub s.proc) f.slots
+
+-- ---- kept totals
+
+abbrev pub total_in : Option ℕ → ℕ
+total_in None = 0
+total_in (Some total) = total
+
+-- the total at a place of a list, 0 past the last
+abbrev pub total_at : List ℕ → ℕ → ℕ
+total_at totals place = total_in (slice_get totals place)

@@ -1,11 +1,13 @@
 -- What is answered to lines: the entries that a line makes, its reply, and the bytes of a whole session.
-use Rattle.std.specs.Prelude.{ℕ, List, [], ◌∷◌, ◌++◌, map, take, length, codes, nat_lt, Option, None, Some, Result, Ok, Err, if◌then◌else◌}
-use Rattle.serde_json.specs.Data.{Data}
-use Rattle.serde_json.specs.Written.{compact_text}
+use Rattle.std.specs.Prelude.{ℕ, List, [], ◌∷◌, ◌++◌, map, take, length, nat_lt, Option, None, Some, Result, Ok, Err, if◌then◌else◌}
 use Rattle.farm_types.specs.declared.entry.Entry.{Entry}
-use Rattle.farm_types.specs.declared.entry.Act.TheVariants.{Heard, Submit}
-use Rattle.farm_types.specs.declared.job.JobSpec.{JobSpec}
+use Rattle.farm_types.specs.declared.entry.Act.{Act}
+use Rattle.farm_types.specs.declared.entry.Act.TheVariants as act
 use Rattle.farm_types.specs.declared.refusal.Refusal.{Refusal}
+use Rattle.farm_types.specs.declared.reply.Cut.{Cut}
+use Rattle.farm_types.specs.declared.reply.Cut.TheVariants as cut
+use Rattle.farm_types.specs.declared.reply.Reply.{Reply}
+use Rattle.farm_types.specs.declared.reply.Reply.TheVariants as reply
 use Rattle.farm_types.specs.declared.report.Report.{Report}
 use Rattle.farm_types.specs.declared.request.Request.{Request}
 use Rattle.farm_types.specs.declared.request.Request.TheVariants as request
@@ -14,73 +16,90 @@ use Rattle.farm_types.specs.Step.{refusal_of, after}
 use Rattle.farm_types.specs.Run.{run_of}
 use Rattle.farm_types.specs.Dispatch.{round_for}
 use Rattle.farm_types.specs.Request.{RequestError, request_of}
-use Rattle.farm_types.specs.Reply.{no_memory, too_long, error_data, refusal_data, report_reply, submit_reply}
+use Rattle.farm_types.specs.Answers.{answer_of}
+use Rattle.farm_types.specs.Reply.{reply_text, error_reply, ok_reply, report_reply}
 
 -- What the outside did while a line was answered: nothing; memory was wanting before anything was recorded; memory was wanting after so
 -- many bookings of the round; or it was wanting for the reply's text, after the whole round or after so many bookings.
 pub data Mark : Type 0 where
   Plain : Mark
   Memory : Mark
-  Cut : ℕ → Mark
+  CutAfter : ℕ → Mark
   LatePlain : Mark
   LateCut : ℕ → Mark
 
--- what a line makes: the entries recorded, in order, and the reply's text
+-- what a line makes: the entries recorded, in order, and the reply
 pub record Answered : Type 0 where
   pub entries : List Entry
-  pub reply : List ℕ
+  pub reply : Reply
 
-abbrev pub only_reply : Data → Answered
-only_reply reply = record { entries = []; reply = compact_text reply }
+abbrev pub only_reply : Reply → Answered
+only_reply r = record { entries = []; reply = r }
+
+-- ---- reports
 
 abbrev pub heard_entry : Report → ℕ → Entry
-heard_entry report moment = record { moment = moment; act = Heard (record { host = report.host; boot = report.boot; seq = report.seq; done = report.done }) }
+heard_entry report moment = record { moment = moment; act = act.Heard (record { host = report.host; boot = report.boot; seq = report.seq; done = report.done }) }
 
 -- the entry of a report, the bookings after it, and the reply over the farm that they leave
-abbrev pub with_round : Farm → ℕ → Report → Entry → List Entry → List ℕ → Answered
-with_round f host report heard round cut =
-    record { entries = heard ∷ round; reply = compact_text (report_reply (run_of (after f heard) round) host report cut) }
+abbrev pub with_round : Farm → ℕ → Report → Entry → List Entry → Cut → Answered
+with_round f host report heard round ended = record { entries = heard ∷ round; reply = report_reply (run_of (after f heard) round) host report ended }
 
 abbrev pub late : List Entry → Answered
-late entries = record { entries = entries; reply = compact_text no_memory }
+late entries = record { entries = entries; reply = reply.NoMemory }
 
 abbrev pub marked_answer : Farm → ℕ → Report → Entry → List Entry → Mark → Answered
-marked_answer f host report heard round Plain = with_round f host report heard round []
-marked_answer f host report heard round Memory = only_reply no_memory
-marked_answer f host report heard round (Cut k) = with_round f host report heard (take k round) (codes "memory")
+marked_answer f host report heard round Plain = with_round f host report heard round cut.Whole
+marked_answer f host report heard round Memory = only_reply reply.NoMemory
+marked_answer f host report heard round (CutAfter k) = with_round f host report heard (take k round) cut.Memory
 marked_answer f host report heard round LatePlain = late (heard ∷ round)
 marked_answer f host report heard round (LateCut k) = late (heard ∷ take k round)
 
 -- a report that the farm accepts is of a host that is there
 abbrev pub accepted_answer : Farm → Report → ℕ → Mark → Option ℕ → Answered
-accepted_answer f report moment mark None = only_reply no_memory
+accepted_answer f report moment mark None = only_reply reply.NoMemory
 accepted_answer f report moment mark (Some host) =
     marked_answer f host report (heard_entry report moment) (round_for (after f (heard_entry report moment)) host moment) mark
 
 abbrev pub report_answer : Farm → Report → ℕ → Mark → Option Refusal → Answered
-report_answer f report moment mark (Some why) = only_reply (refusal_data why)
+report_answer f report moment mark (Some why) = only_reply (reply.Refused why)
 report_answer f report moment mark None = accepted_answer f report moment mark (host_named f report.host)
 
--- the entry of a submit
-abbrev pub submit_entry : JobSpec → ℕ → Entry
-submit_entry spec moment = record { moment = moment; act = Submit spec }
+-- ---- other requests
 
-abbrev pub submit_answer : JobSpec → ℕ → Option Refusal → Answered
-submit_answer spec moment (Some why) = only_reply (refusal_data why)
-submit_answer spec moment None = record { entries = submit_entry spec moment ∷ []; reply = compact_text (submit_reply spec) }
+-- the entry that is made of what is asked
+abbrev pub act_of : Request → Act
+act_of (request.Show name) = act.Show name
+act_of (request.Alloc facility tag) = act.Alloc facility tag
+act_of (request.Sub line) = act.Sub line
+act_of (request.Boot line) = act.Boot line
+act_of (request.Report report) = act.Heard (record { host = report.host; boot = report.boot; seq = report.seq; done = report.done })
+act_of (request.Lock host lock) = act.Lock host lock
+act_of (request.Submit spec) = act.Submit spec
+act_of request.Tick = act.Tick
+
+abbrev pub entry_of : Request → ℕ → Entry
+entry_of asked moment = record { moment = moment; act = act_of asked }
+
+-- one entry, and the reply of its numbers; or its refusal
+abbrev pub entry_answer : Farm → Entry → Option Refusal → Answered
+entry_answer f e (Some why) = only_reply (reply.Refused why)
+entry_answer f e None = record { entries = e ∷ []; reply = ok_reply e.act (answer_of f e) }
+
+-- ---- a line
 
 -- what a request makes
 abbrev pub asked_answer : Farm → ℕ → Mark → Request → Answered
 asked_answer f moment mark (request.Report report) = report_answer f report moment mark (refusal_of f (heard_entry report moment))
-asked_answer f moment mark (request.Submit spec) = submit_answer spec moment (refusal_of f (submit_entry spec moment))
+asked_answer f moment mark asked = entry_answer f (entry_of asked moment) (refusal_of f (entry_of asked moment))
 
 -- a line that asks nothing, and one that asks something
 abbrev pub request_answer : Farm → ℕ → Mark → Result Request RequestError → Answered
-request_answer f moment mark (Err error) = only_reply (error_data error)
+request_answer f moment mark (Err error) = only_reply (error_reply error)
 request_answer f moment mark (Ok asked) = asked_answer f moment mark asked
 
 abbrev pub unless_memory : Mark → Answered → Answered
-unless_memory Memory answered = only_reply no_memory
+unless_memory Memory answered = only_reply reply.NoMemory
 unless_memory mark answered = answered
 
 -- a line has at most so many bytes
@@ -90,7 +109,7 @@ line_limit = 1048576
 -- what a line makes of the farm at a moment, by what the outside did
 unfoldable pub answer_to : Farm → List ℕ → ℕ → Mark → Answered
 answer_to f line moment mark =
-    if nat_lt line_limit (length line) then only_reply too_long
+    if nat_lt line_limit (length line) then only_reply reply.TooLong
     else unless_memory mark (request_answer f moment mark (request_of line))
 
 -- one line with the clock's reading and its mark
@@ -117,7 +136,7 @@ entries_in f (t ∷ ts) = (answer_at f t).entries ++ entries_in (farm_next f t) 
 -- the replies, each with its newline
 abbrev pub transcript : Farm → List Turn → List ℕ
 transcript f [] = []
-transcript f (t ∷ ts) = (answer_at f t).reply ++ 10 ∷ transcript (farm_next f t) ts
+transcript f (t ∷ ts) = reply_text (answer_at f t).reply ++ 10 ∷ transcript (farm_next f t) ts
 
 abbrev pub lines_in : List Turn → List (List ℕ)
 lines_in ts = map (λ t. t.line) ts

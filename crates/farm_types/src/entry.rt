@@ -1,9 +1,12 @@
 //! Entries: what changes the farm.
 
 use crate::attempt::DoneItem;
+use crate::boot::BootLine;
 use crate::items::Items;
 use crate::job::JobSpec;
 use crate::numbers::{HostNo, Slot};
+use crate::states::LockState;
+use crate::sub_line::SubLine;
 use crate::text::Text;
 
 /// One change of the farm, at a moment in seconds.
@@ -13,13 +16,20 @@ pub struct Entry {
     pub act: Act,
 }
 
-/// What an entry does: the scheduler was opened, a host was heard, a job is submitted, or a waiting frame is booked on
-/// a host. A submitted job is within its limits.
+/// What an entry does: the scheduler was opened; a show or an allocation is added; a subscription is set; a host
+/// booted; a host was heard; a job is submitted; a host is locked or opened; time passed; or a waiting frame is
+/// booked on a host. Each amount is within its limits.
 #[derive(Debug, Drop)]
 pub enum Act {
     Opened,
+    Show { name: Text },
+    Alloc { facility: Text, tag: Text },
+    Sub(SubLine),
+    Boot(BootLine),
     Heard(HeardAct),
     Submit(JobSpec),
+    Lock { host: Text, lock: LockState },
+    Tick,
     Book { slot: Slot, host: HostNo },
 }
 

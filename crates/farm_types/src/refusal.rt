@@ -22,9 +22,14 @@ pub enum Refusal {
     Full { limit: u64, what: Counted },
 }
 
-/// What is counted up to a limit: the numbers that were given to jobs.
+/// What is counted up to a limit: shows, allocations, hosts, a host's boot numbers, and the numbers that were given
+/// to jobs.
 #[derive(Clone, Copy, Debug, PartialEq, Eq)]
 pub enum Counted {
+    Shows,
+    Allocs,
+    Hosts,
+    Boots,
     Jobs,
 }
 
@@ -34,6 +39,10 @@ impl Counted {
         ensures { result.now ≡ counted_word self }
     {
         match self {
+            Counted::Shows => "shows",
+            Counted::Allocs => "allocs",
+            Counted::Hosts => "hosts",
+            Counted::Boots => "boots",
             Counted::Jobs => "jobs",
         }
     }

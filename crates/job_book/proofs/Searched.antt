@@ -1,7 +1,7 @@
 -- A binary search by keys that rise ends at the place of the first item with the key, or says that there is none.
-use Rattle.std.proofs.Common.{◌≡◌, ℕ, zero, suc, ◌+◌, ◌<◌, ◌≤◌, ◌*◌, ◌&&◌, eqb, true, List, [], ◌∷◌, length, get_or, Result, Ok, Err, ◌⊎◌, inl, inr, refl, sym, ◌∙◌, arith}
+use Rattle.std.proofs.Common.{◌≡◌, ℕ, zero, suc, ◌+◌, ◌<◌, ◌≤◌, ◌*◌, ◌&&◌, eqb, leb, ltb, true, false, List, [], ◌∷◌, length, get_or, Result, Ok, Err, ◌⊎◌, inl, inr, refl, sym, ◌∙◌, arith}
 use Rattle.std.specs.List.{position_or_len, list_all}
-use Rattle.std.specs.List.Sorted.{IsSearchInRange, IsBinarySearchResult, IsNonDecreasingBy}
+use Rattle.std.specs.List.Sorted.{IsSearchInRange, IsBinarySearchResult, IsNonDecreasingBy, IsPartitionPoint}
 use Rattle.std.specs.Ordering.{nat_cmp, ordering_index}
 use Rattle.std.specs.declared.cmp.Ordering.TheVariants.{Equal}
 use Rattle.std.proofs.lemmas.Bool.{cases_eq, cases_lt, eq-eqb, ne_eqb, ltb-true}
@@ -67,6 +67,18 @@ module _ {X : Type 0} (key : X → ℕ) where
   searched [] low high rise k (Err at) bound position = refl
   searched (y ∷ ys) low high rise k (Ok at) bound position = found (y ∷ ys) low high rise k at y bound (position y)
   searched (y ∷ ys) low high rise k (Err at) bound position = absent (y ∷ ys) low high rise k at y position
+
+  pub rising_keys : (xs : List X) (low high : ℕ) → IsRising key low xs high → IsNonDecreasingBy key xs
+  rising_keys xs low high rise = keys_rise xs low high rise 0
+
+  -- the answer of a partition by a bound of the keys
+  pub parted_at : (xs : List X) (bound at : ℕ) → at ≤ length xs → IsPartitionPoint (λ x. leb (key x) bound ≡ true) (λ x. leb (key x) bound ≡ false) xs at
+      → at ≡ position_or_len (λ x. ltb bound (key x)) xs
+  parted_at [] bound at within point = omega arith
+  parted_at (y ∷ ys) bound at within point =
+      sym (position_or_len_is (λ x. ltb bound (key x)) (y ∷ ys) at y within
+      (λ i less. let below = point.0 i y (omega arith) less in grind (arith, nat_tests, below))
+      (λ in_range. let above = point.1 at y (omega arith) in_range in grind (arith, nat_tests, above)))
 
 -- ---- layers by job and place
 

@@ -1,5 +1,5 @@
 -- What the calls of the job book answer and change.
-use Rattle.std.specs.Prelude.{◌≡◌, ℕ, ◌==◌, ◌&&◌, ◌+◌, Bool, not, is_some, List, [], ◌∷◌, option_map, option_and_then, sum_by, Option, None, Some, find, slice_get, bytes_eq, Result, Ok, Err, if◌then◌else◌}
+use Rattle.std.specs.Prelude.{◌≡◌, ℕ, ◌==◌, ◌&&◌, ◌+◌, Bool, not, is_some, List, [], ◌∷◌, option_map, option_and_then, sum_by, Option, None, Some, find, slice_get, nat_lt, bytes_eq, Result, Ok, Err, if◌then◌else◌}
 use Rattle.std.specs.List.{prefix_len}
 use Rattle.farm_types.specs.declared.attempt.ProcRow.{ProcRow}
 use Rattle.farm_types.specs.declared.job.JobSpec.{JobSpec}
@@ -57,6 +57,10 @@ attempted_row proc s = record s { proc = proc }
 -- the number of the first job of that name
 abbrev pub job_named : JobLists → List ℕ → Option ℕ
 job_named b name = option_map (λ (j : JobRow). j.job) (find (λ j. bytes_eq j.name name) b.jobs)
+
+-- the number of the job with the least number above that one: numbers rise, so it is the first
+abbrev pub job_after : JobLists → ℕ → Option ℕ
+job_after b after = option_map (λ (j : JobRow). j.job) (find (λ j. nat_lt after j.job) b.jobs)
 
 abbrev pub frame_view : ℕ → FrameRow → FrameView
 frame_view version x =

@@ -1,6 +1,6 @@
 //! Where a job and a layer stand.
 
-ghost use Rattle.std.specs.Prelude.{◌≡◌, ◌==◌, ◌&&◌, ◌+◌, ◌*◌, ℕ};
+ghost use Rattle.std.specs.Prelude.{◌≡◌, ◌==◌, ◌&&◌, ◌+◌, ◌*◌, ℕ, nat_lt};
 ghost use Rattle.std.specs.List.{position_or_len};
 ghost use Rattle.job_book.specs.Inside.{IsRising, job_key, layer_key};
 
@@ -22,6 +22,13 @@ impl Jobs {
     {
         layer_place_in(self.layers.as_slice(), key_of(job.0, place))
     }
+
+    /// The place of the first job with a number above `after`, and how many jobs there are where none has.
+    pub(crate) fn place_after(&self, after: u32) -> usize
+        ensures { result ≡ position_or_len (λ j. nat_lt after j.job) self.now.jobs }
+    {
+        place_above(self.jobs.as_slice(), after)
+    }
 }
 
 // The place of a number among jobs whose numbers rise.
@@ -33,6 +40,14 @@ fn place_in(jobs: &[JobRow], job: u32) -> usize
         Ok(place) => place,
         Err(_) => jobs.len(),
     }
+}
+
+// The place of the first number above `after` among jobs whose numbers rise.
+fn place_above(jobs: &[JobRow], after: u32) -> usize
+    requires { (high : ℕ) × IsRising job_key 0 jobs.now high }
+    ensures { result ≡ position_or_len (λ j. nat_lt after (job_key j)) jobs.now }
+{
+    jobs.partition_point(|j| j.job.0 <= after)
 }
 
 // The place of a key among layers whose keys rise.

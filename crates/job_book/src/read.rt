@@ -1,8 +1,8 @@
 //! What is read of the book.
 
-ghost use Rattle.std.specs.Prelude.{◌≡◌, ◌==◌, ◌&&◌, ◌≤◌, length, slice_get, find, option_copied, true, Some};
+ghost use Rattle.std.specs.Prelude.{◌≡◌, ◌==◌, ◌&&◌, ◌≤◌, length, slice_get, find, nat_lt, option_copied, true, Some};
 ghost use Rattle.farm_types.specs.Farm.{for_some};
-ghost use Rattle.job_book.specs.Book.{job_named, frame_at, frame_view, state_at, is_placed, slot_from, has_frame, has_job, counts_of};
+ghost use Rattle.job_book.specs.Book.{job_named, job_after, frame_at, frame_view, state_at, is_placed, slot_from, has_frame, has_job, counts_of};
 
 use crate::counts::Counts;
 use crate::frame_view::FrameView;
@@ -30,6 +30,23 @@ impl Jobs {
         ensures { option_copied result ≡ find (λ j. j.job == job) self.now.jobs }
     {
         job_at(self.jobs.as_slice(), self.place_of(job))
+    }
+
+    /// The number of the job with the least number above `after`.
+    pub fn next(&self, after: u32) -> Option<JobNo>
+        ensures { result ≡ job_after self.now after }
+    {
+        match self.row_after(after) {
+            None => None,
+            Some(job) => Some(job.job),
+        }
+    }
+
+    // The first job with a number above `after`.
+    fn row_after(&self, after: u32) -> Option<&JobRow>
+        ensures { option_copied result ≡ find (λ j. nat_lt after j.job) self.now.jobs }
+    {
+        job_at(self.jobs.as_slice(), self.place_after(after))
     }
 
     /// The layer at that place (from 0) of a job.

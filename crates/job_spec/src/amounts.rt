@@ -3,14 +3,15 @@
 ghost use Rattle.std.specs.Prelude.{IfOk, OnOk};
 ghost use Rattle.farm_types.specs.Forms.{cores_of};
 ghost use Rattle.farm_types.specs.Spec.{layer_cores, within};
-ghost use Rattle.farm_types.specs.SpecLimits.{IsBetween};
+ghost use Rattle.farm_types.specs.Limits.{IsBetween};
 ghost use Rattle.job_spec.specs.Answers.{GivesSpec};
 
 use crate::fault::SpecFault;
 use farm_types::{Cores, read_cores};
 use std::alloc::Global;
 
-/// Nothing where the amount of the field is within its limits. It has 128 bits, so that a sum of lengths is one too.
+/// Nothing where the amount of the field is from `least` to `most`, else `Amount` with the field. It has 128 bits, so that a sum of
+/// lengths is one too.
 pub fn within(
     alloc: Global,
     field: &str,

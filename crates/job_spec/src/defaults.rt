@@ -60,7 +60,7 @@ pub fn tags(alloc: Global, object: &Map, field: &str) -> Result<Items<Text>, Fie
     ensures { Gives (λ tags. tags) result (or_default (codes "general" ∷ []) tags_at field.now (members_view object.now.entries)) }
 {
     if cue_json::has(object, field) {
-        tags::tags(alloc, object, field)
+        tags::read_tags(alloc, object, field)
     } else {
         Ok(tags::default_tags(alloc)?)
     }

@@ -14,5 +14,7 @@ mod tags;
 mod tests;
 mod words;
 
+pub use amounts::within;
 pub use fault::SpecFault;
 pub use spec::read_spec;
+pub use tags::read_tags;

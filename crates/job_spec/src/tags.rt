@@ -11,18 +11,19 @@ use farm_types::{Items, Text, is_tag};
 use serde_json::Value;
 use std::alloc::{AllocError, Global};
 
-/// The tags in the field's list, in order.
-pub fn tags(alloc: Global, object: &Map, field: &str) -> Result<Items<Text>, FieldFault>
+/// The tags in the field's list, in order and of any number: `Missing` where the key is absent, `WrongKind` with the
+/// list's `field` where it is no list, or where an item of it is no text or no tag.
+pub fn read_tags(alloc: Global, object: &Map, field: &str) -> Result<Items<Text>, FieldFault>
     ensures { Gives (λ tags. tags) result (tags_at field.now (members_view object.now.entries)) }
 {
     match cue_json::list(alloc, object, field) {
-        Ok(values) => read_tags(alloc, field, values),
+        Ok(values) => read_values(alloc, field, values),
         Err(fault) => Err(fault),
     }
 }
 
 // The tags of the list of that field.
-fn read_tags(alloc: Global, field: &str, values: &[Value]) -> Result<Items<Text>, FieldFault>
+fn read_values(alloc: Global, field: &str, values: &[Value]) -> Result<Items<Text>, FieldFault>
     ensures { Gives (λ tags. tags) result (tags_in field.now (items_view values.now)) }
 {
     let mut found = Items::new(alloc);

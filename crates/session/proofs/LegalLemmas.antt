@@ -8,15 +8,15 @@ use Rattle.farm_types.specs.declared.refusal.Refusal.{Refusal}
 use Rattle.farm_types.specs.declared.report.Report.{Report}
 use Rattle.farm_types.specs.Farm.{Farm, host_named}
 use Rattle.farm_types.specs.Booking.{may_book, may_record, tags_match}
-use Rattle.farm_types.specs.Step.{refusal_of, after}
+use Rattle.farm_types.specs.Step.{HasCondition, refusal_of, after}
 use Rattle.farm_types.specs.Run.{run_of, IsLegal, IsLegalStep}
 use Rattle.farm_types.specs.Dispatch.{book_entry, round_from, round_for, bookings_each, plan_for}
-use Rattle.farm_types.specs.declared.job.JobSpec.{JobSpec}
 use Rattle.farm_types.specs.declared.request.Request.{Request}
 use Rattle.farm_types.specs.declared.request.Request.TheVariants as request
 use Rattle.farm_types.specs.Request.{RequestError, request_of}
-use Rattle.farm_types.specs.Transcript.{Mark, Plain, Memory, Cut, LatePlain, LateCut, Answered, Turn, heard_entry, marked_answer, accepted_answer, report_answer, submit_answer, submit_entry, request_answer, unless_memory, answer_to, answer_at, farm_next, entries_in, line_limit, only_reply}
-use Rattle.farm_types.specs.Reply.{too_long}
+use Rattle.farm_types.specs.Transcript.{Mark, Plain, Memory, CutAfter, LatePlain, LateCut, Answered, Turn, heard_entry, entry_of, marked_answer, accepted_answer, report_answer, entry_answer, asked_answer, request_answer, unless_memory, answer_to, answer_at, farm_next, entries_in, line_limit, only_reply}
+use Rattle.farm_types.specs.declared.reply.Reply.TheVariants as reply
+use Rattle.session.proofs.AnswerLemmas.{asked_condition}
 
 -- both tests are true where both together are
 both_of : (a b : Bool) → (a && b) ≡ true → (a ≡ true) × (b ≡ true)
@@ -58,7 +58,7 @@ marked_legal : (f : Farm) (host : ℕ) (report : Report) (moment : ℕ) (mark : 
     → IsLegal f (marked_answer f host report (heard_entry report moment) (round_for (after f (heard_entry report moment)) host moment) mark).entries
 marked_legal f host report moment Plain h = heard_legal f report moment h _ (legal_round bookings_each (after f (heard_entry report moment)) moment (plan_for (after f (heard_entry report moment)) host))
 marked_legal f host report moment Memory h = tt
-marked_legal f host report moment (Cut k) h = heard_legal f report moment h _ (legal_take (after f (heard_entry report moment)) k _ (legal_round bookings_each (after f (heard_entry report moment)) moment (plan_for (after f (heard_entry report moment)) host)))
+marked_legal f host report moment (CutAfter k) h = heard_legal f report moment h _ (legal_take (after f (heard_entry report moment)) k _ (legal_round bookings_each (after f (heard_entry report moment)) moment (plan_for (after f (heard_entry report moment)) host)))
 marked_legal f host report moment LatePlain h = heard_legal f report moment h _ (legal_round bookings_each (after f (heard_entry report moment)) moment (plan_for (after f (heard_entry report moment)) host))
 marked_legal f host report moment (LateCut k) h = heard_legal f report moment h _ (legal_take (after f (heard_entry report moment)) k _ (legal_round bookings_each (after f (heard_entry report moment)) moment (plan_for (after f (heard_entry report moment)) host)))
 
@@ -72,21 +72,32 @@ report_legal : (f : Farm) (report : Report) (moment : ℕ) (mark : Mark) (why : 
 report_legal f report moment mark (Some why) h = tt
 report_legal f report moment mark None h = accepted_legal f report moment mark (host_named f report.host) h
 
--- a submit that the farm accepts
-submit_legal : (f : Farm) (spec : JobSpec) (moment : ℕ) (why : Option Refusal) → refusal_of f (submit_entry spec moment) ≡ why
-    → IsLegal f (submit_answer spec moment why).entries
-submit_legal f spec moment (Some why) h = tt
-submit_legal f spec moment None h = (record { accepted = h; condition = tt }, tt)
+-- an entry that the farm accepts
+entry_legal : (f : Farm) (e : Entry) (why : Option Refusal) → refusal_of f e ≡ why → HasCondition f e.act → IsLegal f (entry_answer f e why).entries
+entry_legal f e (Some why) h condition = tt
+entry_legal f e None h condition = (record { accepted = h; condition = condition }, tt)
+
+one : (f : Farm) (moment : ℕ) (asked : Request) → IsLegal f (entry_answer f (entry_of asked moment) (refusal_of f (entry_of asked moment))).entries
+one f moment asked = entry_legal f (entry_of asked moment) (refusal_of f (entry_of asked moment)) refl (asked_condition f asked)
+
+asked_legal : (f : Farm) (moment : ℕ) (mark : Mark) (asked : Request) → IsLegal f (asked_answer f moment mark asked).entries
+asked_legal f moment mark (request.Report report) = report_legal f report moment mark (refusal_of f (heard_entry report moment)) refl
+asked_legal f moment mark (request.Show name) = one f moment (request.Show name)
+asked_legal f moment mark (request.Alloc facility tag) = one f moment (request.Alloc facility tag)
+asked_legal f moment mark (request.Sub line) = one f moment (request.Sub line)
+asked_legal f moment mark (request.Boot line) = one f moment (request.Boot line)
+asked_legal f moment mark (request.Lock host lock) = one f moment (request.Lock host lock)
+asked_legal f moment mark (request.Submit spec) = one f moment (request.Submit spec)
+asked_legal f moment mark request.Tick = one f moment request.Tick
 
 request_legal : (f : Farm) (moment : ℕ) (mark : Mark) (read : Result Request RequestError) → IsLegal f (request_answer f moment mark read).entries
 request_legal f moment mark (Err error) = tt
-request_legal f moment mark (Ok (request.Report report)) = report_legal f report moment mark (refusal_of f (heard_entry report moment)) refl
-request_legal f moment mark (Ok (request.Submit spec)) = submit_legal f spec moment (refusal_of f (submit_entry spec moment)) refl
+request_legal f moment mark (Ok asked) = asked_legal f moment mark asked
 
 unless_legal : (f : Farm) (mark : Mark) (answered : Answered) → IsLegal f answered.entries → IsLegal f (unless_memory mark answered).entries
 unless_legal f Memory answered l = tt
 unless_legal f Plain answered l = l
-unless_legal f (Cut k) answered l = l
+unless_legal f (CutAfter k) answered l = l
 unless_legal f LatePlain answered l = l
 unless_legal f (LateCut k) answered l = l
 
@@ -95,7 +106,7 @@ answer_legal : (f : Farm) (line : List ℕ) (moment : ℕ) (mark : Mark) → IsL
 unfolding answer_to
 answer_legal f line moment mark = by (nat_lt line_limit (length line))
   where
-    by : (b : Bool) → IsLegal f (cond b (only_reply too_long) (unless_memory mark (request_answer f moment mark (request_of line)))).entries
+    by : (b : Bool) → IsLegal f (cond b (only_reply reply.TooLong) (unless_memory mark (request_answer f moment mark (request_of line)))).entries
     by true = tt
     by false = unless_legal f mark (request_answer f moment mark (request_of line)) (request_legal f moment mark (request_of line))
 

@@ -1,10 +1,9 @@
 pub mod AnswerLemmas
 pub mod LaunchLemmas
 pub mod LegalLemmas
-pub mod NewlineLemmas
+pub mod LineLemmas
+pub mod OpeningLemmas
 pub mod OutcomeLemmas
-pub mod ReplyLemmas
-pub mod RoundLemmas
 pub mod RunLemmas
 pub mod SessionLemmas
 pub mod TurnLemmas

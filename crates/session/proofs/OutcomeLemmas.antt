@@ -8,10 +8,10 @@ use Rattle.farm_types.specs.declared.request.Request.{Request}
 use Rattle.farm_types.specs.declared.request.Request.TheVariants as request
 use Rattle.farm_types.specs.Dispatch.{round_for}
 use Rattle.farm_types.specs.Farm.{Farm, host_named}
-use Rattle.farm_types.specs.Reply.{too_long}
+use Rattle.farm_types.specs.declared.reply.Reply.TheVariants as reply
 use Rattle.farm_types.specs.Request.{RequestError, request_of}
 use Rattle.farm_types.specs.Step.{refusal_of, after, host_refusal}
-use Rattle.farm_types.specs.Transcript.{Mark, Plain, Memory, Cut, LatePlain, LateCut, answer_to, heard_entry, line_limit, marked_answer, accepted_answer, report_answer, request_answer, unless_memory, only_reply}
+use Rattle.farm_types.specs.Transcript.{Mark, Plain, Memory, CutAfter, LatePlain, LateCut, answer_to, heard_entry, line_limit, marked_answer, accepted_answer, report_answer, request_answer, unless_memory, only_reply}
 use Rattle.session.specs.Outcomes.{WalksWhole, IsTaken, HasWholeRound, IsAnsweredFully}
 use Rattle.session.proofs.AnswerLemmas.{line_within, accepted_is}
 use Rattle.session.proofs.TurnLemmas.{long_answer}
@@ -33,7 +33,7 @@ whole_entries : (f : Farm) (host : ℕ) (report : Report) (heard : Entry) (round
 whole_entries f host report heard round Plain whole = refl
 whole_entries f host report heard round LatePlain whole = refl
 whole_entries f host report heard round Memory whole = absurd whole
-whole_entries f host report heard round (Cut k) whole = absurd whole
+whole_entries f host report heard round (CutAfter k) whole = absurd whole
 whole_entries f host report heard round (LateCut k) whole = absurd whole
 
 pub whole_round : (f : Farm) (line : List ℕ) (moment : ℕ) (mark : Mark) (report : Report) → WalksWhole mark → IsTaken f line moment report
@@ -63,14 +63,20 @@ late_report f report moment (Some why) = refl
 late_request : (f : Farm) (moment : ℕ) (read : Result Request RequestError) → (request_answer f moment LatePlain read).entries ≡ (request_answer f moment Plain read).entries
 late_request f moment (Err error) = refl
 late_request f moment (Ok (request.Report report)) = late_report f report moment (refusal_of f (heard_entry report moment))
+late_request f moment (Ok (request.Show name)) = refl
+late_request f moment (Ok (request.Alloc facility tag)) = refl
+late_request f moment (Ok (request.Sub line)) = refl
+late_request f moment (Ok (request.Boot line)) = refl
+late_request f moment (Ok (request.Lock host lock)) = refl
 late_request f moment (Ok (request.Submit spec)) = refl
+late_request f moment (Ok request.Tick) = refl
 
 late_line : (f : Farm) (line : List ℕ) (moment : ℕ) → (answer_to f line moment LatePlain).entries ≡ (answer_to f line moment Plain).entries
 unfolding answer_to
 late_line f line moment = by (nat_lt line_limit (length line))
   where
-    by : (b : Bool) → (cond b (only_reply too_long) (request_answer f moment LatePlain (request_of line))).entries
-        ≡ (cond b (only_reply too_long) (request_answer f moment Plain (request_of line))).entries
+    by : (b : Bool) → (cond b (only_reply reply.TooLong) (request_answer f moment LatePlain (request_of line))).entries
+        ≡ (cond b (only_reply reply.TooLong) (request_answer f moment Plain (request_of line))).entries
     by true = refl
     by false = late_request f moment (request_of line)
 

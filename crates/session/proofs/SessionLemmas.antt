@@ -8,6 +8,7 @@ use Rattle.cue_io.specs.Input.{Takes}
 use Rattle.cue_io.specs.Lines.{lines_of, lines_of-joined}
 use Rattle.cue_io.specs.Reader.{Held, Given, Whole, Long, AtEnd}
 use Rattle.farm_types.specs.Farm.{Farm}
+use Rattle.farm_types.specs.Reply.{reply_text}
 use Rattle.farm_types.specs.Transcript.{Mark, Turn, answer_to, answer_at, farm_next, farm_after, transcript, lines_in, moments_in, line_limit}
 use Rattle.session.specs.declared.turned.Turned.{Turned}
 use Rattle.session.specs.declared.turned.Turned.TheVariants as turned
@@ -16,11 +17,11 @@ use Rattle.session.specs.Sessions.{Answers, IsTurn, IsStep, HasAnswered, HasServ
 
 -- ---- one turn more
 
-transcript-append : (f : Farm) (ts : List Turn) (t : Turn) → transcript f (ts ++ t ∷ []) ≡ transcript f ts ++ ((answer_at (farm_after f ts) t).reply ++ 10 ∷ [])
+transcript-append : (f : Farm) (ts : List Turn) (t : Turn) → transcript f (ts ++ t ∷ []) ≡ transcript f ts ++ (reply_text (answer_at (farm_after f ts) t).reply ++ 10 ∷ [])
 transcript-append f [] t = refl
 transcript-append f (u ∷ ts) t =
-    ap (λ bytes. (answer_at f u).reply ++ 10 ∷ bytes) (transcript-append (farm_next f u) ts t)
-    ∙ sym (append_assoc (answer_at f u).reply (10 ∷ transcript (farm_next f u) ts) ((answer_at (farm_after (farm_next f u) ts) t).reply ++ 10 ∷ []))
+    ap (λ bytes. reply_text (answer_at f u).reply ++ 10 ∷ bytes) (transcript-append (farm_next f u) ts t)
+    ∙ sym (append_assoc (reply_text (answer_at f u).reply) (10 ∷ transcript (farm_next f u) ts) (reply_text (answer_at (farm_after (farm_next f u) ts) t).reply ++ 10 ∷ []))
 
 farm_after-append : (f : Farm) (ts : List Turn) (t : Turn) → farm_after f (ts ++ t ∷ []) ≡ farm_next (farm_after f ts) t
 farm_after-append f [] t = refl
@@ -39,7 +40,7 @@ answered_more : (first : Farm) (turns : List Turn) (farm : Farm) (wrote seen : L
 answered_more first turns farm wrote seen t after reply answered answer = record {
   farm_is = answer.farm ∙ ap (λ g. farm_next g t) answered.farm_is ∙ sym (farm_after-append first turns t);
   replies = ap (λ bytes. bytes ++ reply) answered.replies
-      ∙ ap (λ bytes. transcript first turns ++ bytes) (answer.text ∙ ap (λ g. (answer_at g t).reply ++ 10 ∷ []) answered.farm_is)
+      ∙ ap (λ bytes. transcript first turns ++ bytes) (answer.text ∙ ap (λ g. reply_text (answer_at g t).reply ++ 10 ∷ []) answered.farm_is)
       ∙ sym (transcript-append first turns t);
   moments = ap (λ moments. moments ++ t.moment ∷ []) answered.moments ∙ sym (moments_in-append turns t);
 }

@@ -1,13 +1,13 @@
 -- One turn, by what the reader gave and how much of the reply was written.
 use Rattle.std.proofs.Common.{◌≡◌, ℕ, ◌<◌, ◌≤◌, true, false, cond, List, [], ◌∷◌, ◌++◌, length, take, drop, refl, sym, ap, ◌∙◌, subst, Option, Result, Ok, arith, append-nil, length-drop, take-append-drop}
 use Rattle.std.proofs.lemmas.Bool.{lt-ltb}
-use Rattle.serde_json.specs.Written.{compact_text}
 use Rattle.cue_io.specs.declared.line.Line.{Line}
 use Rattle.cue_io.specs.declared.line.LineFault.{LineFault}
 use Rattle.cue_io.specs.Input.{IsAtEnd}
 use Rattle.cue_io.specs.Reader.{Held, Given, Whole, Long, Goes, IsPending, given_by}
 use Rattle.farm_types.specs.Farm.{Farm}
-use Rattle.farm_types.specs.Reply.{too_long}
+use Rattle.farm_types.specs.declared.reply.Reply.TheVariants as reply
+use Rattle.farm_types.specs.Reply.{reply_text}
 use Rattle.farm_types.specs.Request.{request_of}
 use Rattle.farm_types.specs.Transcript.{Mark, Plain, answer_to, line_limit, only_reply, request_answer, unless_memory}
 use Rattle.session.specs.declared.turned.Turned.{Turned}
@@ -20,12 +20,12 @@ pub sent_part : (text : List ℕ) (count : ℕ) → count < length text → Send
 sent_part text count short = (drop count text, omega (arith, length-drop count text), take-append-drop count text)
 
 -- a line that is too long
-pub long_answer : (f : Farm) (line : List ℕ) (moment : ℕ) (mark : Mark) → line_limit < length line → answer_to f line moment mark ≡ only_reply too_long
+pub long_answer : (f : Farm) (line : List ℕ) (moment : ℕ) (mark : Mark) → line_limit < length line → answer_to f line moment mark ≡ only_reply reply.TooLong
 unfolding answer_to
 long_answer f line moment mark h =
-    ap (λ b. cond b (only_reply too_long) (unless_memory mark (request_answer f moment mark (request_of line)))) (lt-ltb line_limit (length line) h)
+    ap (λ b. cond b (only_reply reply.TooLong) (unless_memory mark (request_answer f moment mark (request_of line)))) (lt-ltb line_limit (length line) h)
 
-pub answers_long : (f : Farm) (moment : ℕ) (text : List ℕ) → text ≡ compact_text too_long ++ 10 ∷ [] → Answers Long f moment Plain f text
+pub answers_long : (f : Farm) (moment : ℕ) (text : List ℕ) → text ≡ reply_text reply.TooLong ++ 10 ∷ [] → Answers Long f moment Plain f text
 answers_long f moment text e line long =
     subst (λ (a : _). IsAnswer f a f text) (sym (long_answer f line moment Plain long)) (record { farm = refl; text = e })
 

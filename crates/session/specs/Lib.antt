@@ -1,6 +1,6 @@
 pub mod Answers
 pub mod Launches
+pub mod Lines
 pub mod Outcomes
-pub mod Reads
-pub mod Replies
 pub mod Sessions
+pub mod Words

@@ -4,7 +4,7 @@ use Rattle.farm_types.specs.declared.report.Report.{Report}
 use Rattle.farm_types.specs.declared.request.Request.TheVariants as request
 use Rattle.farm_types.specs.Dispatch.{round_for}
 use Rattle.farm_types.specs.Farm.{Farm, host_named}
-use Rattle.farm_types.specs.Reply.{too_long}
+use Rattle.farm_types.specs.declared.reply.Reply.TheVariants as reply
 use Rattle.farm_types.specs.Request.{request_of}
 use Rattle.farm_types.specs.Step.{refusal_of, after}
 use Rattle.farm_types.specs.Transcript.{Mark, Plain, LatePlain, answer_to, heard_entry, line_limit, only_reply, request_answer}
@@ -30,6 +30,6 @@ pub record HasWholeRound (f : Farm) (line : List ℕ) (moment : ℕ) (mark : Mar
 -- A line past the limit is told so, whatever happens. Each other, where nothing is wanting, is answered by what it asks. Where memory is
 -- wanting for nothing but the reply to a report, the same is recorded.
 pub record IsAnsweredFully (f : Farm) (line : List ℕ) (moment : ℕ) : Type 0 where
-  pub long : line_limit < length line → (mark : Mark) → answer_to f line moment mark ≡ only_reply too_long
+  pub long : line_limit < length line → (mark : Mark) → answer_to f line moment mark ≡ only_reply reply.TooLong
   pub plain : length line ≤ line_limit → answer_to f line moment Plain ≡ request_answer f moment Plain (request_of line)
   pub late : (answer_to f line moment LatePlain).entries ≡ (answer_to f line moment Plain).entries

@@ -1,18 +1,18 @@
 -- What a whole call does: the lines that it took, what it wrote, and how it ended.
-use Rattle.std.specs.Prelude.{◌≡◌, ◌<◌, ◌++◌, ◌∷◌, [], ◌⊎◌, ℕ, List, Bool, true, false, length, codes, bytes_eq, Option, Result, Ok, Err}
+use Rattle.std.specs.Prelude.{◌≡◌, ◌<◌, ◌++◌, ◌∷◌, [], ◌⊎◌, ℕ, List, true, false, length, is_some, Option, Some, Result, Ok, Err}
 use Rattle.cue_io.specs.declared.line.LineFault.{LineFault}
 use Rattle.cue_io.specs.declared.line.LineFault.TheVariants as line_fault
 use Rattle.cue_io.specs.History.{HasGiven, IsUnfinished}
 use Rattle.cue_io.specs.Input.{IsAtEnd}
 use Rattle.cue_io.specs.Lines.{lines_of}
 use Rattle.cue_io.specs.Reader.{Held, Given, Whole, Long, AtEnd, Goes, byte_limit}
-use Rattle.farm_types.specs.Demo.{demo_farm}
 use Rattle.farm_types.specs.Farm.{Farm}
 use Rattle.farm_types.specs.Run.{IsLegal, IsSafe}
 use Rattle.farm_types.specs.Transcript.{Mark, Turn, answer_to, line_limit, transcript, farm_after, entries_in, lines_in, moments_in}
 use Rattle.session.specs.Answers.{IsAnswer}
 use Rattle.session.specs.declared.turned.Turned.{Turned}
 use Rattle.session.specs.declared.turned.Turned.TheVariants as turned
+use Rattle.session.specs.Words.{WordForm, form_of, opened_farm}
 
 -- ---- one line
 
@@ -108,11 +108,6 @@ Ends turned.Write first turns taken wrote seen left = EndsInReply first turns ta
 
 -- ---- the call
 
--- the one form of the words: `demo`
-abbrev pub is_demo : List (List ℕ) → Bool
-is_demo (word ∷ []) = bytes_eq word (codes "demo")
-is_demo words = false
-
 -- the status of a session, by how it ended
 abbrev pub status_of : Turned → ℕ
 status_of turned.Went = 0
@@ -121,18 +116,20 @@ status_of turned.Read = 4
 status_of turned.Write = 5
 status_of turned.Spent = 8
 
--- The farm of the demonstration was opened at the clock's first reading, and a session over it ended with this status. The entries that
--- it recorded are a legal run from the opened farm, and a safe one.
-pub record IsSession (status : ℕ) (taken wrote seen : List ℕ) (left : Option (List ℕ)) : Type 0 where
+-- The farm of the words was opened at the clock's first reading, and a session over it ended with this status. The entries that it recorded
+-- are a legal run from the opened farm, and a safe one.
+pub record IsSession (words : List (List ℕ)) (status : ℕ) (taken wrote seen : List ℕ) (left : Option (List ℕ)) : Type 0 where
+  pub form : WordForm
   pub ended : Turned
   pub opened : ℕ
   pub later : List ℕ
   pub turns : List Turn
+  pub formed : form_of words ≡ Some form
   pub status_is : status ≡ status_of ended
   pub read : seen ≡ opened ∷ later
-  pub ends : Ends ended (demo_farm opened) turns taken wrote later left
-  pub legal : IsLegal (demo_farm opened) (entries_in (demo_farm opened) turns)
-  pub safe : IsSafe (demo_farm opened) (entries_in (demo_farm opened) turns)
+  pub ends : Ends ended (opened_farm form opened) turns taken wrote later left
+  pub legal : IsLegal (opened_farm form opened) (entries_in (opened_farm form opened) turns)
+  pub safe : IsSafe (opened_farm form opened) (entries_in (opened_farm form opened) turns)
 
 -- The words were of no form, or memory was wanting before the first line: nothing was taken or written.
 pub record IsNoSession (status : ℕ) (taken wrote : List ℕ) : Type 0 where
@@ -140,8 +137,8 @@ pub record IsNoSession (status : ℕ) (taken wrote : List ℕ) : Type 0 where
   pub none_taken : taken ≡ []
   pub none_written : wrote ≡ []
 
-abbrev pub IsCall : ℕ → List ℕ → List ℕ → List ℕ → Option (List ℕ) → Type 0
-IsCall status taken wrote seen left = IsNoSession status taken wrote ⊎ IsSession status taken wrote seen left
+abbrev pub IsCall : List (List ℕ) → ℕ → List ℕ → List ℕ → List ℕ → Option (List ℕ) → Type 0
+IsCall words status taken wrote seen left = IsNoSession status taken wrote ⊎ IsSession words status taken wrote seen left
 
 -- ---- what ends a call
 
@@ -149,8 +146,8 @@ IsCall status taken wrote seen left = IsNoSession status taken wrote ⊎ IsSessi
 abbrev pub EndsWell : ℕ → List ℕ → List ℕ → Type 0
 EndsWell status taken wrote = (status ≡ 0) ⊎ ((status ≡ 7) × (taken ≡ []) × (wrote ≡ []))
 
--- Nothing but a fault of the outside ends a call early: where the words are of the form, no fault of reading or of writing was counted, and
+-- Nothing but a fault of the outside ends a call early: where the words are of a form, no fault of reading or of writing was counted, and
 -- fewer bytes were taken than one session takes, it ends well.
 abbrev pub IsComplete : List (List ℕ) → ℕ → List ℕ → List ℕ → Type 0 → Type 0 → Type 0
 IsComplete words status taken wrote ReadFails WriteFails =
-    is_demo words ≡ true → (ReadFails → ⊥) → (WriteFails → ⊥) → length taken < byte_limit → EndsWell status taken wrote
+    is_some (form_of words) ≡ true → (ReadFails → ⊥) → (WriteFails → ⊥) → length taken < byte_limit → EndsWell status taken wrote

@@ -1,11 +1,10 @@
 //! Laws of sessions. The public functions here do nothing: their contracts are the laws.
 
-ghost use Rattle.std.specs.Prelude.{◌≡◌, ℕ, List, false};
-ghost use Rattle.cue_io.specs.Lines.{has_newline};
+ghost use Rattle.std.specs.Prelude.{ℕ, List};
 ghost use Rattle.farm_types.specs.declared.report.Report.{Report};
 ghost use Rattle.farm_types.specs.Farm.{Farm};
 ghost use Rattle.farm_types.specs.Run.{IsLegal};
-ghost use Rattle.farm_types.specs.Transcript.{Mark, Turn, answer_to, entries_in};
+ghost use Rattle.farm_types.specs.Transcript.{Mark, Turn, entries_in};
 ghost use Rattle.session.specs.Outcomes.{WalksWhole, IsTaken, HasWholeRound, IsAnsweredFully};
 
 /// Whatever lines come, at whatever moments, and whatever the outside does, the entries that are recorded are a legal run.
@@ -26,10 +25,4 @@ pub fn taken_reports_have_their_round()
 #[tactic(auto, using(crate::proofs::OutcomeLemmas::answered_fully))]
 pub fn lines_are_answered_by_what_they_ask()
     ensures { (f : Farm) (line : List ℕ) (moment : ℕ) → IsAnsweredFully f line moment }
-{}
-
-/// No reply has a newline within, so that each is one line.
-#[tactic(auto, using(crate::proofs::NewlineLemmas::reply_is_one_line))]
-pub fn replies_are_single_lines()
-    ensures { (f : Farm) (line : List ℕ) (moment : ℕ) (mark : Mark) → has_newline (answer_to f line moment mark).reply ≡ false }
 {}

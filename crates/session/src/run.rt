@@ -1,17 +1,19 @@
 //! The top call of the program `cuebot`.
 
-ghost use Rattle.std.specs.Prelude.{◌≡◌, ◌↔◌, ℕ, List, false};
+ghost use Rattle.std.specs.Prelude.{◌≡◌, ◌↔◌, ℕ, List, None};
 ghost use Rattle.cue_io.specs.Faults.{HasRisen};
 ghost use Rattle.cue_io.specs.Input.{Takes};
 ghost use Rattle.cue_io.specs.Output.{Adds};
 ghost use Rattle.cue_io.specs.Readings.{Shows};
-ghost use Rattle.session.specs.Sessions.{IsCall, IsComplete, is_demo, status_of};
+ghost use Rattle.session.specs.Sessions.{IsCall, IsComplete, status_of};
+ghost use Rattle.session.specs.Words.{form_of};
 
+use crate::opening::open_farm;
 use crate::serve::serve;
 use crate::turned::Turned;
 use crate::word_forms::form;
 use cue_io::{Clock, LineReader, Sink, Source};
-use farm_core::{demo_farm, legal_runs_are_safe};
+use farm_core::legal_runs_are_safe;
 use farm_types::Text;
 use std::alloc::Global;
 
@@ -26,8 +28,8 @@ const USAGE: Status = 2;
 
 const NO_MEMORY: Status = 7;
 
-/// Runs `cuebot` for the words after its name: opens the farm of the demonstration at the clock's first reading, and answers the source's
-/// lines in the sink, each at the clock's next reading, until the source ends or a fault comes.
+/// Runs `cuebot` for the words after its name: opens the farm of the words at the clock's first reading, and answers the source's lines in
+/// the sink, each at the clock's next reading, until the source ends or a fault comes.
 pub fn run_cuebot<S: Source, W: Sink, C: Clock>(
     alloc: Global,
     words: &[Text],
@@ -36,27 +38,27 @@ pub fn run_cuebot<S: Source, W: Sink, C: Clock>(
     clock: &mut C,
 ) -> Status
     // Status 2 comes exactly where the words are of no form.
-    ensures usage { (result ≡ 2) ↔ (is_demo words.now ≡ false) }
+    ensures usage { (result ≡ 2) ↔ (form_of words.now ≡ None) }
 
     // What was taken, written and read of the clock; the bytes written are the transcript of the lines taken, and the entries recorded are
     // a legal and safe run from the opened farm. Nothing but a fault of the outside ends the call before the input does.
     ensures call { (taken wrote seen : List ℕ) × Takes (S.left source.old) (S.left source.new) taken
         × Adds (W.written sink.old) (W.written sink.new) wrote × Shows (C.readings clock.old) (C.readings clock.new) seen
-        × IsCall result taken wrote seen (S.left source.new)
+        × IsCall words.now result taken wrote seen (S.left source.new)
         × IsComplete words.now result taken wrote (HasRisen (S.faults source.old) (S.faults source.new)) (HasRisen (W.faults sink.old) (W.faults sink.new)) }
 
     // A fault of reading or of writing comes only where the source's or the sink's count rose in this call.
     ensures read { result ≡ 4 → HasRisen (S.faults source.old) (S.faults source.new) }
     ensures write { result ≡ 5 → HasRisen (W.faults sink.old) (W.faults sink.new) }
 {
-    if form(words).is_none() {
+    let Some(form) = form(words) else {
         return USAGE;
-    }
+    };
     let Ok(mut reader) = LineReader::make(alloc, LINE_LIMIT) else {
         return NO_MEMORY;
     };
     let moment = clock.now();
-    let Ok(mut farm) = demo_farm(alloc, moment) else {
+    let Ok(mut farm) = open_farm(alloc, form, moment) else {
         return NO_MEMORY;
     };
     legal_runs_are_safe();

@@ -8,10 +8,10 @@ ghost use Rattle.cue_io.specs.Reader.{IsPending};
 ghost use Rattle.farm_types.specs.Transcript.{line_limit};
 ghost use Rattle.cue_io.specs.Readings.{Shows};
 ghost use Rattle.session.specs.Sessions.{IsStep, Sends};
-ghost use Rattle.session.specs.Replies.{shown};
+ghost use Rattle.session.specs.Lines.{shown};
 
 use crate::answer::answer_line;
-use crate::reply::Reply;
+use crate::reply_line::ReplyLine;
 use crate::turned::Turned;
 use cue_io::{Clock, Line, LineFault, LineReader, Sink, Source, write_all};
 use farm_core::Farm;
@@ -43,7 +43,7 @@ pub fn turn<S: Source, W: Sink, C: Clock>(
         }
         Ok(Line::TooLong) => {
             let _moment = clock.now();
-            send(sink, &Reply::TooLong)
+            send(sink, &ReplyLine::TooLong)
         }
         Ok(Line::End) => Turned::End,
         Err(LineFault::Read) => Turned::Read,
@@ -52,7 +52,7 @@ pub fn turn<S: Source, W: Sink, C: Clock>(
 }
 
 // Writes a reply.
-fn send<W: Sink>(sink: &mut W, reply: &Reply) -> Turned
+fn send<W: Sink>(sink: &mut W, reply: &ReplyLine) -> Turned
     ensures sends { (wrote : List ℕ) × Adds (W.written sink.old) (W.written sink.new) wrote × Sends result (shown reply.now) wrote }
     ensures cause { result ≡ Turned.Write → HasRisen (W.faults sink.old) (W.faults sink.new) }
     ensures rises { W.faults sink.old ≤ W.faults sink.new }

@@ -49,6 +49,9 @@ fn jobs_and_layers_are_found(rt: HostRuntime) -> Result<(), Fail> {
     assert!(rt; book.find("shot-1") == Some(JobNo(1)));
     assert!(rt; book.find("shot-2") == Some(JobNo(2)));
     assert!(rt; book.find("shot-3").is_none());
+    assert!(rt; book.next(0) == Some(JobNo(1)));
+    assert!(rt; book.next(1) == Some(JobNo(2)));
+    assert!(rt; book.next(2).is_none());
     for (job, place, name) in [(1, 0, "render"), (1, 1, "comp"), (2, 1, "comp")] {
         let Some(layer) = book.layer(JobNo(job), place) else {
             return Err(Fail::from("no layer"));

@@ -1,10 +1,10 @@
 -- A line that is within the limit or too long is answered.
 use Rattle.std.proofs.Common.{◌≡◌, ◌≤◌, ℕ, List, [], ◌∷◌, ◌++◌, length, Ok, ap, ◌∙◌, refl, subst}
-use Rattle.serde_json.specs.Written.{compact_text}
 use Rattle.cue_io.specs.Reader.{Whole, Long, given_by}
-use Rattle.farm_types.specs.Reply.{too_long}
+use Rattle.farm_types.specs.declared.reply.Reply.TheVariants as reply
+use Rattle.farm_types.specs.Reply.{reply_text}
 use Rattle.farm_types.specs.Transcript.{Plain}
-use Rattle.session.specs.Replies.{shown}
+use Rattle.session.specs.Lines.{shown}
 use Rattle.session.proofs.TurnLemmas.{step_answered, line_fits, answers_long}
 use Rattle.session.proofs.turn.turn.Goals as goal
 
@@ -36,7 +36,7 @@ returns-in-Ok-TooLong-clause-step g c =
     let is : given_by c.next.result ≡ Ok Long = ap given_by (c.in-Ok-TooLong.is ∙ ap Ok c.in-Ok-TooLong.field-0-is) in
     let moves = c.next.follows.holds-at-none in
     let sent = c.send-in-Ok-TooLong.ensures.sends in
-    let text : List ℕ = compact_text too_long ++ 10 ∷ [] in (
+    let text : List ℕ = reply_text reply.TooLong ++ 10 ∷ [] in (
       moves.took,
       sent.0,
       c.now-moment-in-Ok-TooLong.result ∷ [],

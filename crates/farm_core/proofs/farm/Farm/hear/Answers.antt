@@ -1,5 +1,7 @@
-use Rattle.farm_core.proofs.Kept.{heard_kept}
+use Rattle.std.proofs.Common.{refl}
+use Rattle.farm_types.specs.Hosts.{heard_row}
+use Rattle.farm_core.proofs.Kept.{changed_kept}
 use Rattle.farm_core.proofs.farm.Farm.hear.Goals as goal
 
 pub invariant_of-self : goal.invariant_of-self
-invariant_of-self c = rw c.hear_at.ensures (heard_kept _ _ c.args.host c.args.seq c.args.moment c.self.invariant)
+invariant_of-self c = rw c.apply_heard.ensures (changed_kept _ _ c.args.host (heard_row c.args.seq c.args.moment) (λ h. (refl, refl)) c.self.invariant)

@@ -1,5 +1,7 @@
-use Rattle.farm_core.proofs.Kept.{opened_kept}
+use Rattle.farm_types.specs.Hosts.{reopened_row}
+use Rattle.farm_core.proofs.Hosts.{reopened_amounts}
+use Rattle.farm_core.proofs.Kept.{mapped_kept}
 use Rattle.farm_core.proofs.farm.Farm.reopen.Goals as goal
 
 pub invariant_of-self : goal.invariant_of-self
-invariant_of-self c = rw c.reopen_each.ensures (opened_kept _ _ c.args.moment c.self.invariant)
+invariant_of-self c = rw c.reopen.ensures (mapped_kept _ _ (reopened_row c.args.moment) (reopened_amounts c.args.moment) c.self.invariant)

@@ -1,0 +1,16 @@
+//! The book of allocations, and which hosts a layer's tags match.
+#![tactic(auto)]
+
+mod allocs;
+mod copy;
+mod names;
+mod read;
+mod spare;
+mod tags;
+
+pub use allocs::{AllocRefusal, Allocs};
+pub use spare::Spare;
+pub use tags::matches;
+
+#[cfg(test)]
+mod tests;

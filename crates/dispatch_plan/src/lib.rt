@@ -1,0 +1,14 @@
+//! The order in which frames are offered to a host, and the round of bookings that follows a report.
+#![tactic(auto)]
+
+mod law;
+mod planning;
+mod rank;
+mod rounds;
+
+pub use law::dispatch_lists_each_once;
+pub use planning::plan;
+pub use rounds::round;
+
+#[cfg(test)]
+mod tests;

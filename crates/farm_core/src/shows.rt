@@ -1,0 +1,94 @@
+//! The shows, in the order of their numbers.
+
+ghost use Rattle.std.specs.Prelude.{◌≡◌, ◌≤◌, ◌<◌, ◌++◌, ◌∷◌, [], length, slice_get, option_copied, IfOk};
+ghost use Rattle.std.specs.Vec.{vec_capacity};
+ghost use Rattle.farm_types.specs.Farm.{show_from};
+ghost use Rattle.farm_types.specs.Limits.{most_shows};
+
+use farm_types::{ShowNo, ShowRow, Text};
+use std::alloc::{AllocError, Global};
+use std::marker::Model;
+
+/// How many shows there are at most.
+pub(crate) const MOST_SHOWS: usize = 64;
+
+/// The shows, each at its number, with room for 64. Contracts see them as a list.
+#[derive(Debug, Drop)]
+pub(crate) struct Shows {
+    rows: Vec<ShowRow>,
+}
+
+impl Model for Shows {
+    ghost use Rattle.std.specs.Prelude.{◌≤◌, List, length};
+    ghost use Rattle.std.specs.Vec.{vec_capacity};
+    ghost use Rattle.farm_types.specs.Limits.{most_shows};
+    ghost use Rattle.farm_types.specs.declared.rows.ShowRow as row;
+
+    ghost Value = { List row.ShowRow };
+
+    ghost view = { λ a. a.rows.items };
+
+    ghost invariant = { λ a. (length a.rows.items ≤ most_shows) × (most_shows ≤ vec_capacity a.rows) };
+}
+
+impl Shows {
+    // No shows. It takes the room of all.
+    pub(crate) fn make(alloc: Global) -> Result<Shows, AllocError>
+        ensures { IfOk result (λ b. b ≡ []) }
+    {
+        Ok(Shows {
+            rows: Vec::with_capacity(alloc, MOST_SHOWS)?,
+        })
+    }
+
+    // How many shows there are.
+    pub(crate) fn count(&self) -> usize
+        ensures value { result ≡ length self.now }
+        ensures within { result ≤ most_shows }
+    {
+        self.rows.len()
+    }
+
+    // The show of that number.
+    pub(crate) fn row(&self, show: ShowNo) -> Option<&ShowRow>
+        ensures { option_copied result ≡ slice_get self.now show }
+    {
+        row_at(self.rows.as_slice(), show)
+    }
+
+    // The number of the first show of that name.
+    pub(crate) fn find(&self, name: &str) -> Option<ShowNo>
+        ensures { result ≡ show_from 0 name.now self.now }
+    {
+        show_in(self.rows.as_slice(), name)
+    }
+
+    // Adds a show. It takes no memory.
+    pub(crate) fn add(&mut self, name: Text)
+        requires { length self.old < most_shows }
+        ensures { self.new ≡ self.old ++ record { name = name } ∷ [] }
+    {
+        let row = ShowRow { name };
+        self.rows.push_reserved(row);
+    }
+}
+
+// The show at a place of the list.
+fn row_at(shows: &[ShowRow], show: ShowNo) -> Option<&ShowRow>
+    ensures { option_copied result ≡ slice_get shows.now show }
+{
+    shows.get(usize::from(show.0))
+}
+
+// The place of the first show of that name.
+fn show_in(shows: &[ShowRow], name: &str) -> Option<ShowNo>
+    requires { length shows.now ≤ 65536 }
+    ensures { result ≡ show_from 0 name.now shows.now }
+{
+    for (place, row) in shows.iter().enumerate() {
+        if row.name.is(name) {
+            return Some(ShowNo(place as u16));
+        }
+    }
+    None
+}

@@ -1,0 +1,4 @@
+pub mod Booted
+pub mod Changed
+pub mod Named
+pub mod Walked

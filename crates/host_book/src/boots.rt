@@ -1,0 +1,34 @@
+//! What a boot or a report comes to.
+
+use farm_types::AllocNo;
+
+/// What a boot comes to: the boot number that it answers, and the host's allocation.
+#[derive(Clone, Copy, Debug, PartialEq, Eq)]
+pub enum BootPlan {
+    /// A new host.
+    New { boot: u32, alloc: AllocNo },
+    /// The life of a host that is known.
+    Same { boot: u32, alloc: AllocNo },
+    /// A new life of a host that is there.
+    Again { boot: u32, alloc: AllocNo },
+}
+
+/// Why a boot isn't taken.
+#[derive(Clone, Copy, Debug, PartialEq, Eq)]
+pub enum HostRefusal {
+    /// The host is there, with that other allocation.
+    OtherAlloc { alloc: AllocNo },
+    /// The host is new, and 4,096 are there.
+    HostsFull,
+    /// The host's boot number is the last, and the nonce is new.
+    BootsSpent,
+}
+
+/// Why a report isn't taken.
+#[derive(Clone, Copy, Debug, PartialEq, Eq)]
+pub enum HeardRefusal {
+    /// The host's boot number is another: this one.
+    WrongBoot { boot: u32 },
+    /// The sequence number isn't above the last one: this one.
+    Stale { last: u64 },
+}

@@ -1,0 +1,18 @@
+//! The book of hosts: their boots, when they were heard, and which of them are silent.
+#![tactic(auto)]
+
+mod apply;
+mod boots;
+mod change;
+mod check;
+mod copy;
+mod hosts;
+mod spare;
+mod walk;
+
+pub use boots::{BootPlan, HeardRefusal, HostRefusal};
+pub use hosts::Hosts;
+pub use spare::HostSpare;
+
+#[cfg(test)]
+mod tests;

@@ -1,0 +1,81 @@
+//! Reading the line that adds an allocation.
+
+ghost use Rattle.std.specs.Prelude.{◌≡◌, IfOk};
+ghost use Rattle.std.specs.Option.{option_copied};
+ghost use Rattle.serde_json.specs.View.{members_view};
+ghost use Rattle.cue_json.specs.Fields.{Gives, of_kind};
+ghost use Rattle.farm_types.specs.Forms.{after_point, before_point};
+ghost use Rattle.farm_types.specs.Request.{alloc_at, alloc_name_at, alloc_of_name, alloc_parts, asked, asks_alloc};
+ghost use Rattle.report_codec.specs.Reads.{AsksWithin, IsRequest};
+
+use crate::fault::field_fault;
+use cue_json::{FieldFault, Map};
+use farm_types::{AllocRow, Request, RequestFault, Text, is_tag};
+use std::alloc::Global;
+
+/// The allocation that the object adds, or its first fault.
+pub fn read_alloc(alloc: Global, object: &Map) -> Result<Request, RequestFault>
+    ensures gives { IsRequest result (asked asks_alloc (alloc_at (members_view object.now.entries))) }
+    ensures limits { IfOk result AsksWithin }
+{
+    match allocation(alloc, object) {
+        Ok(AllocRow { facility, tag }) => Ok(Request::Alloc { facility, tag }),
+        Err(fault) => Err(field_fault(fault)),
+    }
+}
+
+// The allocation's name, and no other field.
+#[tactic(auto, unfolding(farm_types::specs::Request::alloc_at))]
+fn allocation(alloc: Global, object: &Map) -> Result<AllocRow, FieldFault>
+    ensures { Gives (λ row. row) result (alloc_at (members_view object.now.entries)) }
+{
+    let row = read_alloc_name(alloc, object, "name")?;
+    cue_json::no_others(alloc, object, &["name", "op"])?;
+    Ok(row)
+}
+
+// The allocation that the field's text names.
+fn read_alloc_name(alloc: Global, object: &Map, field: &str) -> Result<AllocRow, FieldFault>
+    ensures { Gives (λ row. row) result (alloc_name_at field.now (members_view object.now.entries)) }
+{
+    match cue_json::text(alloc, object, field) {
+        Ok(name) => named(alloc, field, name),
+        Err(fault) => Err(fault),
+    }
+}
+
+// The allocation of that name, whose parts stand around the first point.
+fn named(alloc: Global, field: &str, name: &str) -> Result<AllocRow, FieldFault>
+    ensures { Gives (λ row. row) result (of_kind field.now (alloc_of_name name.now)) }
+{
+    let (facility, tag) = split_at_point(name);
+    match tag {
+        Some(tag) => parts(alloc, field, facility, tag),
+        None => Err(FieldFault::wrong_kind(alloc, field)),
+    }
+}
+
+// The allocation of these parts, each of which has the form of a tag.
+fn parts(alloc: Global, field: &str, facility: &str, tag: &str) -> Result<AllocRow, FieldFault>
+    ensures { Gives (λ row. row) result (of_kind field.now (alloc_parts facility.now (Some tag.now))) }
+{
+    if is_tag(facility) && is_tag(tag) {
+        Ok(AllocRow {
+            facility: Text::from_str(alloc, facility)?,
+            tag: Text::from_str(alloc, tag)?,
+        })
+    } else {
+        Err(FieldFault::wrong_kind(alloc, field))
+    }
+}
+
+// What stands before the first point, and what follows it.
+fn split_at_point(text: &str) -> (&str, Option<&str>)
+    ensures before { result.0.now ≡ before_point text.now }
+    ensures after { option_copied result.1 ≡ after_point text.now }
+{
+    match text.split_once('.') {
+        Some((facility, tag)) => (facility, Some(tag)),
+        None => (text, None),
+    }
+}

@@ -1,0 +1,71 @@
+//! Reading a line as a request.
+
+ghost use Rattle.std.specs.Prelude.{Err, IfOk, None};
+ghost use Rattle.serde_json.specs.View.{members_view};
+ghost use Rattle.farm_types.specs.Request.{by_op, request_at, request_in, request_of};
+ghost use Rattle.report_codec.specs.Reads.{AsksWithin, IsRequest};
+
+use crate::alloc_line::read_alloc;
+use crate::boot_line::read_boot;
+use crate::fault::field_fault;
+use crate::lock_line::read_lock;
+use crate::report_line::read_report;
+use crate::show_line::read_show;
+use crate::sub_line::read_sub;
+use crate::submit_line::read_submit;
+use crate::tick_line::read_tick;
+use cue_json::{FieldFault, LineFault, Map};
+use farm_types::{Request, RequestFault, Text};
+use std::alloc::Global;
+
+/// What the line asks, or its first fault. The amounts of what is asked are within their limits.
+#[tactic(auto, unfolding(farm_types::specs::Request::request_of))]
+pub fn read_request(alloc: Global, line: &[u8]) -> Result<Request, RequestFault>
+    ensures gives { IsRequest result (request_of line.now) }
+    ensures limits { IfOk result AsksWithin }
+{
+    match cue_json::object_of(alloc, line) {
+        Ok(object) => request(alloc, &object),
+        Err(LineFault::NotAnObject) => Err(no_object(alloc)),
+        Err(LineFault::NoMemory) => Err(RequestFault::NoMemory),
+    }
+}
+
+// The fault of a line that is no object: the empty field.
+fn no_object(alloc: Global) -> RequestFault
+    ensures { IsRequest (Err result) (request_in None) }
+{
+    match Text::from_str(alloc, "") {
+        Ok(field) => RequestFault::BadLine { field },
+        Err(_) => RequestFault::NoMemory,
+    }
+}
+
+// The request that the object is.
+fn request(alloc: Global, object: &Map) -> Result<Request, RequestFault>
+    ensures gives { IsRequest result (request_at (members_view object.now.entries)) }
+    ensures limits { IfOk result AsksWithin }
+{
+    match cue_json::text(alloc, object, "op") {
+        Ok(op) => request_by_op(alloc, object, op),
+        Err(fault) => Err(field_fault(fault)),
+    }
+}
+
+// The request that `op` names.
+fn request_by_op(alloc: Global, object: &Map, op: &str) -> Result<Request, RequestFault>
+    ensures gives { IsRequest result (by_op (members_view object.now.entries) op.now) }
+    ensures limits { IfOk result AsksWithin }
+{
+    match op {
+        "boot" => read_boot(alloc, object),
+        "report" => read_report(alloc, object),
+        "show" => read_show(alloc, object),
+        "alloc" => read_alloc(alloc, object),
+        "sub" => read_sub(alloc, object),
+        "host" => read_lock(alloc, object),
+        "submit" => read_submit(alloc, object),
+        "tick" => read_tick(alloc, object),
+        _ => Err(field_fault(FieldFault::wrong_kind(alloc, "op"))),
+    }
+}

@@ -1,0 +1,34 @@
+-- The words that the program is given, and the farm that they open.
+use Rattle.std.specs.Prelude.{ℕ, List, [], ◌∷◌, ◌&&◌, codes, bytes_eq, Option, None, Some, if◌then◌else◌}
+use Rattle.farm_types.specs.declared.entry.Entry.{Entry}
+use Rattle.farm_types.specs.declared.entry.Act.TheVariants as act
+use Rattle.farm_types.specs.Demo.{demo_farm}
+use Rattle.farm_types.specs.Farm.{Farm, empty_farm}
+use Rattle.farm_types.specs.Step.{after}
+use Rattle.session.specs.declared.words.Form.{Form}
+use Rattle.session.specs.declared.words.Form.TheVariants as form
+
+-- what words ask for: the farm of the demonstration, or the farm of a store
+pub data WordForm : Type 0 where
+  Demo : WordForm
+  Script : List ℕ → WordForm
+
+-- the code's form
+abbrev pub word_form : Form → WordForm
+word_form form.Demo = Demo
+word_form (form.Script store) = Script store.now
+
+-- the forms: `demo`, and `script :memory:`
+abbrev pub form_of : List (List ℕ) → Option WordForm
+form_of (word ∷ []) = if bytes_eq word (codes "demo") then Some Demo else None
+form_of (word ∷ store ∷ []) = if bytes_eq word (codes "script") && bytes_eq store (codes ":memory:") then Some (Script store) else None
+form_of words = None
+
+-- the scheduler was opened at that moment
+abbrev pub opened_entry : ℕ → Entry
+opened_entry moment = record { moment = moment; act = act.Opened }
+
+-- The farm of the words as it is opened at a moment. A store in memory begins empty, and its opening is recorded.
+abbrev pub opened_farm : WordForm → ℕ → Farm
+opened_farm Demo moment = demo_farm moment
+opened_farm (Script store) moment = after empty_farm (opened_entry moment)

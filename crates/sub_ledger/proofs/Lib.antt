@@ -1,0 +1,3 @@
+pub mod Books
+pub mod Changed
+pub mod Rows

@@ -1,0 +1,12 @@
+//! The ledger of subscriptions: their sizes and bursts, and what is booked of them.
+#![tactic(auto)]
+
+mod places;
+mod ratio;
+mod subs;
+
+pub use ratio::by_ratio;
+pub use subs::{SubState, Subs};
+
+#[cfg(test)]
+mod tests;
