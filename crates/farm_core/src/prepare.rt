@@ -21,6 +21,9 @@ use farm_types::{
 use job_book::JobFault;
 use std::alloc::Global;
 
+/// How many allocations there are at most.
+const MOST_ALLOCS: u64 = 16;
+
 impl Farm {
     /// Prepares what the entry does, and changes nothing. An entry to book is one whose booking may be recorded, and the
     /// amounts of a subscription, a boot and a job are within their limits.
@@ -71,7 +74,7 @@ impl Farm {
             return Err(existing(alloc, name));
         }
         if self.shows.count() >= MOST_SHOWS {
-            return Err(full(64, Counted::Shows));
+            return Err(full(MOST_SHOWS as u64, Counted::Shows));
         }
         let name = name.copy(alloc)?;
         Ok(self.change_at(moment, Effect::Show { name }))
@@ -96,7 +99,7 @@ impl Farm {
             Err(AllocRefusal::Exists) => {
                 Err(existing_alloc(alloc, facility.as_str(), tag.as_str()))
             }
-            Err(AllocRefusal::Full) => Err(full(16, Counted::Allocs)),
+            Err(AllocRefusal::Full) => Err(full(MOST_ALLOCS, Counted::Allocs)),
         }
     }
 

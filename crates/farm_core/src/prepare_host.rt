@@ -18,6 +18,12 @@ use farm_types::{
 use host_book::{HeardRefusal, HostRefusal};
 use std::alloc::{AllocError, Global};
 
+/// How many hosts there are at most.
+const MOST_HOSTS: u64 = 4096;
+
+/// The boot number of a host's last life.
+const LAST_BOOT: u64 = 4294967295;
+
 impl Farm {
     // Prepares that a host of the allocation that it names boots.
     pub(crate) fn prepare_boot(
@@ -46,8 +52,8 @@ impl Farm {
     {
         match refusal {
             HostRefusal::OtherAlloc { alloc: other } => self.existing_number(alloc, other),
-            HostRefusal::HostsFull => full(4096, Counted::Hosts),
-            HostRefusal::BootsSpent => full(4294967295, Counted::Boots),
+            HostRefusal::HostsFull => full(MOST_HOSTS, Counted::Hosts),
+            HostRefusal::BootsSpent => full(LAST_BOOT, Counted::Boots),
         }
     }
 

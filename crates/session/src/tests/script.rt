@@ -68,6 +68,52 @@ const BOOTED: &str = r#"{"frames":1,"job":"a","ok":true}
 {"code":4,"name":"farm.general","ok":false,"why":"exists"}
 "#;
 
+/// A host of a new life tells the completion of its old life's attempt while a newer one of the same slot runs.
+const OLD: &str =
+    r#"{"op":"submit","job":{"name":"a","show":"alpha","facility":"farm","layers":[{"name":"l","range":"1","command":"true"}]}}
+{"op":"report","host":"h1","boot":1,"seq":1,"running":[],"done":[]}
+{"op":"boot","host":"h1","nonce":8,"alloc":"farm.general","tags":[],"cores":1600,"memory":67108864}
+{"op":"report","host":"h1","boot":2,"seq":1,"running":[],"done":[]}
+{"op":"report","host":"h1","boot":2,"seq":2,"running":[{"slot":0,"version":2}],"done":[{"slot":0,"version":1,"status":0,"signal":0}]}
+{"op":"report","host":"h1","boot":2,"seq":3,"running":[{"slot":0,"version":2}],"done":[]}
+"#;
+
+/// The completion is acknowledged and doesn't count: the newer attempt goes on.
+const STILL_NEW: &str = r#"{"frames":1,"job":"a","ok":true}
+{"acks":[],"boot":1,"cut":"","kills":[],"launches":[{"command":"true","cores":100,"frame":"0001-l","job":"a","layer":"l","memory":3355443,"slot":0,"version":1}],"ok":true,"seq":1}
+{"boot":2,"nonce":8,"ok":true}
+{"acks":[],"boot":2,"cut":"","kills":[],"launches":[{"command":"true","cores":100,"frame":"0001-l","job":"a","layer":"l","memory":3355443,"slot":0,"version":2}],"ok":true,"seq":1}
+{"acks":[{"slot":0,"version":1}],"boot":2,"cut":"","kills":[],"launches":[],"ok":true,"seq":2}
+{"acks":[],"boot":2,"cut":"","kills":[],"launches":[],"ok":true,"seq":3}
+"#;
+
+/// A host tells of the attempt of another one, whose boot number is the same, that it runs and that it is done.
+const OTHERS: &str =
+    r#"{"op":"submit","job":{"name":"a","show":"alpha","facility":"farm","layers":[{"name":"l","range":"1","command":"true"}]}}
+{"op":"report","host":"h1","boot":1,"seq":1,"running":[],"done":[]}
+{"op":"boot","host":"h2","nonce":7,"alloc":"farm.general","tags":[],"cores":1600,"memory":67108864}
+{"op":"report","host":"h2","boot":1,"seq":1,"running":[{"slot":0,"version":1}],"done":[{"slot":0,"version":1,"status":0,"signal":0}]}
+{"op":"report","host":"h1","boot":1,"seq":2,"running":[{"slot":0,"version":1}],"done":[]}
+"#;
+
+/// It is told to stop it, and the attempt goes on where it is.
+const STOPPED: &str = r#"{"frames":1,"job":"a","ok":true}
+{"acks":[],"boot":1,"cut":"","kills":[],"launches":[{"command":"true","cores":100,"frame":"0001-l","job":"a","layer":"l","memory":3355443,"slot":0,"version":1}],"ok":true,"seq":1}
+{"boot":1,"nonce":7,"ok":true}
+{"acks":[{"slot":0,"version":1}],"boot":1,"cut":"","kills":[{"slot":0,"version":1}],"launches":[],"ok":true,"seq":1}
+{"acks":[],"boot":1,"cut":"","kills":[],"launches":[],"ok":true,"seq":2}
+"#;
+
+/// Three frames, of which the host's memory takes exactly two.
+const SHORT: &str =
+    r#"{"op":"submit","job":{"name":"a","show":"alpha","facility":"farm","layers":[{"name":"l","range":"1-3","command":"true","memory":33554432}]}}
+{"op":"report","host":"h1","boot":1,"seq":1,"running":[],"done":[]}
+"#;
+
+const TWO_FIT: &str = r#"{"frames":3,"job":"a","ok":true}
+{"acks":[],"boot":1,"cut":"","kills":[],"launches":[{"command":"true","cores":100,"frame":"0001-l","job":"a","layer":"l","memory":33554432,"slot":0,"version":1},{"command":"true","cores":100,"frame":"0002-l","job":"a","layer":"l","memory":33554432,"slot":1,"version":1}],"ok":true,"seq":1}
+"#;
+
 /// No frame is booked on a host that is locked.
 const LOCKED: &str =
     r#"{"op":"submit","job":{"name":"a","show":"alpha","facility":"farm","layers":[{"name":"l","range":"1","command":"true"}]}}
@@ -86,7 +132,15 @@ const UNLOCKED: &str = r#"{"frames":1,"job":"a","ok":true}
 
 #[test]
 fn a_farm_is_built_from_lines(rt: HostRuntime) -> Result<(), Fail> {
-    for (lines, replies) in [(LOWERED, KEPT), (BOOTS, BOOTED), (LOCKED, UNLOCKED)] {
+    let rows = [
+        (LOWERED, KEPT),
+        (BOOTS, BOOTED),
+        (OLD, STILL_NEW),
+        (OTHERS, STOPPED),
+        (SHORT, TWO_FIT),
+        (LOCKED, UNLOCKED),
+    ];
+    for (lines, replies) in rows {
         let input = both(rt.alloc(), STUDIO, lines)?;
         let output = both(rt.alloc(), OPENED, replies)?;
         let ended = run(rt.alloc(), &SCRIPT, &input)?;
