@@ -5,12 +5,12 @@ use Rattle.std.specs.List.{list_any}
 use Rattle.farm_types.specs.declared.rows.AllocRow.{AllocRow}
 use Rattle.farm_types.specs.Farm.{alloc_from, alloc_name}
 
-found_step : (b rest : Bool) (place : ℕ) (name : List ℕ) (allocs : List AllocRow) → is_some (alloc_from (place + 1) name allocs) ≡ rest
+found_from_step : (b rest : Bool) (place : ℕ) (name : List ℕ) (allocs : List AllocRow) → is_some (alloc_from (place + 1) name allocs) ≡ rest
     → is_some (cond b (Some place) (alloc_from (place + 1) name allocs)) ≡ (b || rest)
-found_step true rest place name allocs later = refl
-found_step false rest place name allocs later = later
+found_from_step true rest place name allocs later = refl
+found_from_step false rest place name allocs later = later
 
 -- there is a number of that name where an allocation has it
-pub found_from : (place : ℕ) (name : List ℕ) (allocs : List AllocRow) → is_some (alloc_from place name allocs) ≡ list_any (λ a. bytes_eq (alloc_name a.facility a.tag) name) allocs
+pub found_from : (place : ℕ) (name : List ℕ) (allocs : List AllocRow) → is_some (alloc_from place name allocs) ≡ list_any (λ row. bytes_eq (alloc_name row.facility row.tag) name) allocs
 found_from place name [] = refl
-found_from place name (a ∷ allocs) = found_step (bytes_eq (alloc_name a.facility a.tag) name) _ place name allocs (found_from (place + 1) name allocs)
+found_from place name (row ∷ rows) = found_from_step (bytes_eq (alloc_name row.facility row.tag) name) _ place name rows (found_from (place + 1) name rows)

@@ -6,12 +6,10 @@ ghost use Rattle.alloc_tags.specs.Book.{check_of};
 
 use crate::read::is_named_among;
 use crate::spare::Spare;
-use farm_types::{AllocNo, AllocRow, Text};
+use farm_types::{AllocNo, AllocRow, MOST_ALLOCS, Text};
 use std::alloc::{AllocError, Global};
+use std::fmt;
 use std::marker::Model;
-
-/// How many allocations there are at most.
-pub(crate) const MOST_ALLOCS: usize = 16;
 
 /// Why an allocation can't be added.
 #[derive(Clone, Copy, Debug, PartialEq, Eq)]
@@ -20,6 +18,15 @@ pub enum AllocRefusal {
     Exists,
     /// So many are there as there may be.
     Full,
+}
+
+impl fmt::Display for AllocRefusal {
+    fn fmt<W: fmt::Write>(&self, f: &mut fmt::Formatter<W>) -> fmt::Result {
+        match self {
+            AllocRefusal::Exists => write!(f, "an allocation of that name is there"),
+            AllocRefusal::Full => write!(f, "{MOST_ALLOCS} allocations are there"),
+        }
+    }
 }
 
 /// The allocations, each at its number, 16 at most. Contracts see them as a list.
@@ -36,18 +43,18 @@ impl Model for Allocs {
 
     ghost use Rattle.alloc_tags.specs.Inside.{KeepsBook};
 
-    ghost view = { λ a. a.rows.items };
+    ghost view = { λ book. book.rows.items };
 
     ghost invariant = { KeepsBook };
 }
 
 impl Allocs {
-    /// No allocations. It takes the room of all.
+    /// No allocations. It takes the memory of all.
     pub fn make(alloc: Global) -> Result<Allocs, AllocError>
         ensures { IfOk result (λ b. b ≡ []) }
     {
         Ok(Allocs {
-            rows: Vec::with_capacity(alloc, MOST_ALLOCS)?,
+            rows: Vec::with_capacity(alloc, MOST_ALLOCS as usize)?,
         })
     }
 
@@ -60,7 +67,7 @@ impl Allocs {
         if is_named_among(self.rows.as_slice(), facility, tag) {
             return Err(AllocRefusal::Exists);
         }
-        if self.rows.len() >= MOST_ALLOCS {
+        if self.rows.len() >= MOST_ALLOCS as usize {
             return Err(AllocRefusal::Full);
         }
         Ok(AllocNo(self.rows.len() as u16))
@@ -69,7 +76,7 @@ impl Allocs {
     /// Takes the memory that the allocation needs. The book is as before.
     pub fn reserve(&mut self, alloc: Global, facility: &str, tag: &str) -> Result<Spare, AllocError>
         ensures book { self.new ≡ self.old }
-        ensures spare { IfOk result (λ spare. spare ≡ record { facility = facility.now; tag = tag.now }) }
+        ensures reserved { IfOk result (λ reserved. reserved ≡ record { facility = facility.now; tag = tag.now }) }
     {
         Ok(Spare {
             row: AllocRow {
@@ -79,13 +86,13 @@ impl Allocs {
         })
     }
 
-    /// Adds an allocation that may be added, in the memory that was taken for it, and gives its number. It takes no memory.
-    pub fn add(&mut self, spare: Spare) -> AllocNo
-        requires { check_of self.old (alloc_name spare.facility spare.tag) ≡ Ok (length self.old) }
-        ensures book { self.new ≡ self.old ++ spare ∷ [] }
+    /// Adds an allocation that may be added, in the memory that was reserved for it, and gives its number. It takes no memory.
+    pub fn add(&mut self, reserved: Spare) -> AllocNo
+        requires { check_of self.old (alloc_name reserved.facility reserved.tag) ≡ Ok (length self.old) }
+        ensures book { self.new ≡ self.old ++ reserved ∷ [] }
         ensures number { result ≡ length self.old }
     {
-        let Spare { row } = spare;
+        let Spare { row } = reserved;
         let number = AllocNo(self.rows.len() as u16);
         self.rows.push_reserved(row);
         number

@@ -2,14 +2,14 @@
 
 ghost use Rattle.std.specs.Prelude.{◌≡◌, ◌≤◌, IfOk};
 ghost use Rattle.std.specs.Vec.{vec_capacity};
-ghost use Rattle.farm_types.specs.Limits.{most_allocs};
+ghost use Rattle.farm_types.specs.declared.limits.TheConstants.{MOST_ALLOCS};
 
-use crate::allocs::{Allocs, MOST_ALLOCS};
-use farm_types::AllocRow;
+use crate::allocs::Allocs;
+use farm_types::{AllocRow, MOST_ALLOCS};
 use std::alloc::{AllocError, Global};
 
 impl Allocs {
-    /// An equal book, with the same room.
+    /// An equal book, with the same capacity.
     pub fn copy(&self, alloc: Global) -> Result<Allocs, AllocError>
         ensures { IfOk result (λ b. b ≡ self.now) }
     {
@@ -19,12 +19,12 @@ impl Allocs {
     }
 }
 
-// Equal allocations, in the room of all.
+// Equal allocations, with the capacity for all.
 fn copy_rows(alloc: Global, rows: &[AllocRow]) -> Result<Vec<AllocRow>, AllocError>
     ensures items { IfOk result (λ copies. copies.items ≡ rows.now) }
-    ensures room { IfOk result (λ copies. most_allocs ≤ vec_capacity copies) }
+    ensures capacity { IfOk result (λ copies. MOST_ALLOCS ≤ vec_capacity copies) }
 {
-    let mut copies = Vec::with_capacity(alloc, MOST_ALLOCS)?;
+    let mut copies = Vec::with_capacity(alloc, MOST_ALLOCS as usize)?;
     for row in rows {
         copies.push(copy_row(alloc, row)?)?;
     }

@@ -11,6 +11,3 @@ mod tags;
 pub use allocs::{AllocRefusal, Allocs};
 pub use spare::Spare;
 pub use tags::matches;
-
-#[cfg(test)]
-mod tests;

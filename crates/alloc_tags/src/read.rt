@@ -3,7 +3,7 @@
 ghost use Rattle.std.specs.Prelude.{◌≡◌, ◌≤◌, length, slice_get, option_copied, bytes_eq};
 ghost use Rattle.std.specs.List.{list_any};
 ghost use Rattle.farm_types.specs.Farm.{alloc_from, alloc_name, is_facility};
-ghost use Rattle.farm_types.specs.Limits.{most_allocs};
+ghost use Rattle.farm_types.specs.declared.limits.TheConstants.{MOST_ALLOCS};
 
 use crate::allocs::Allocs;
 use crate::names::{is_joined, is_same_name};
@@ -13,7 +13,7 @@ impl Allocs {
     /// How many allocations there are.
     pub fn count(&self) -> usize
         ensures value { result ≡ length self.now }
-        ensures within { result ≤ most_allocs }
+        ensures within { result ≤ MOST_ALLOCS }
     {
         self.rows.len()
     }
@@ -42,7 +42,7 @@ impl Allocs {
 
 // Whether an allocation has the name of that facility and tag.
 pub(crate) fn is_named_among(rows: &[AllocRow], facility: &str, tag: &str) -> bool
-    ensures { result ≡ list_any (λ a. bytes_eq (alloc_name a.facility a.tag) (alloc_name facility.now tag.now)) rows.now }
+    ensures { result ≡ list_any (λ row. bytes_eq (alloc_name row.facility row.tag) (alloc_name facility.now tag.now)) rows.now }
 {
     rows.iter().any(|row| has_name_of(row, facility, tag))
 }
@@ -61,7 +61,7 @@ fn has_name_of(row: &AllocRow, facility: &str, tag: &str) -> bool
 
 // The number of the first allocation of that name.
 fn number_in(rows: &[AllocRow], name: &str) -> Option<AllocNo>
-    requires { length rows.now ≤ most_allocs }
+    requires { length rows.now ≤ MOST_ALLOCS }
     ensures { result ≡ alloc_from 0 name.now rows.now }
 {
     for (place, row) in rows.iter().enumerate() {

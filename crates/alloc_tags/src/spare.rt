@@ -5,7 +5,7 @@ ghost use Rattle.std.specs.Prelude.{ℕ};
 use farm_types::AllocRow;
 use std::marker::Model;
 
-/// The memory that was taken for an allocation, which contracts see as its row.
+/// The memory that was reserved for an allocation, which contracts see as its row.
 #[derive(Debug, Drop)]
 pub struct Spare {
     pub(crate) row: AllocRow,
@@ -16,5 +16,5 @@ impl Model for Spare {
 
     ghost Value = { alloc_row.AllocRow };
 
-    ghost view = { λ spare. spare.row };
+    ghost view = { λ reserved. reserved.row };
 }

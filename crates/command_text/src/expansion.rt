@@ -1,7 +1,7 @@
 //! Commands with their tokens replaced.
 
 ghost use Rattle.std.specs.Prelude.{◌≡◌, ◌<◌, length, IfOk, string_bytes};
-ghost use Rattle.farm_types.specs.Names.{expanded};
+ghost use Rattle.farm_lines.specs.Names.{expanded};
 ghost use Rattle.command_text.specs.Steps.{IsCopied, IsStep};
 ghost use Rattle.command_text.specs.Tokens.{meaning_of};
 
@@ -12,7 +12,7 @@ use std::alloc::{AllocError, Global};
 
 /// A layer's command for one of its frames: `#ZFRAME#` becomes the frame's number in four places, `#IFRAME#` the
 /// number itself, `#LAYER#` and `#JOB#` the names, and `#FRAME#` the frame's name. Every other byte stays. It goes once
-/// from the left, and what was put in isn't looked at again. The only error is want of memory.
+/// from the left, and what was put in isn't looked at again. The only error is that memory ran out.
 pub fn expand(
     alloc: Global,
     command: &str,

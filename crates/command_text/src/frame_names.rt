@@ -1,7 +1,7 @@
 //! Names of frames.
 
 ghost use Rattle.std.specs.Prelude.{◌≡◌, IfOk};
-ghost use Rattle.farm_types.specs.Names.{four_places, frame_name};
+ghost use Rattle.farm_lines.specs.Names.{four_places, frame_name};
 
 use farm_types::Text;
 use std::alloc::{AllocError, Global};
@@ -13,7 +13,7 @@ pub(crate) fn four_places(alloc: Global, number: i32) -> Result<Text, AllocError
     Ok(Text::from_string(format!(in alloc; "{number:04}")?))
 }
 
-/// A frame's name: its number in four places, a dash, and its layer's name, as `0001-render`. The only error is want of memory.
+/// A frame's name: its number in four places, a dash, and its layer's name, as `0001-render`. The only error is that memory ran out.
 pub fn frame_name(alloc: Global, number: i32, layer: &str) -> Result<Text, AllocError>
     ensures { IfOk result (λ name. name ≡ frame_name number layer.now) }
 {

@@ -7,6 +7,3 @@ mod token;
 
 pub use expansion::expand;
 pub use frame_names::frame_name;
-
-#[cfg(test)]
-mod tests;

@@ -1,5 +1,5 @@
 -- What a call answers after its steps.
-use Rattle.std.proofs.Common.{◌≡◌, ℕ, ◌+◌, ◌<◌, ◌≤◌, Bool, true, false, ◌==◌, List, [], ◌∷◌, ◌++◌, length, take, drop, if◌then◌else◌, Option, Ok, Err, inl, inr, refl, sym, ap, ◌∙◌, subst, arith, append_assoc, append-nil, length-append, length-drop, length-take, true≢false, eqb-true}
+use Rattle.std.proofs.Common.{◌≡◌, ℕ, ◌+◌, ◌<◌, ◌≤◌, Bool, true, false, ◌==◌, List, [], ◌∷◌, ◌++◌, length, take, drop, if◌then◌else◌, Option, None, Some, ◌-◌, Ok, Err, inl, inr, refl, sym, ap, ◌∙◌, subst, arith, append_assoc, append-nil, length-append, length-drop, length-take, true≢false, eqb-true}
 use Rattle.std.proofs.lemmas.List.{take-append-drop, nil_from_length}
 use Rattle.std.proofs.Math.Seq.{take-append_seam}
 use Rattle.std.proofs.lemmas.Bool.{eqb-false}
@@ -7,10 +7,12 @@ use Rattle.cue_io.specs.declared.line.Found.{Found}
 use Rattle.cue_io.specs.declared.line.Found.TheVariants.{Bytes, TooLong, End}
 use Rattle.cue_io.specs.declared.line.LineFault.TheVariants.{Read, Spent}
 use Rattle.cue_io.specs.Input.{Takes, Takes-none, Takes-append}
-use Rattle.cue_io.specs.Lines.{has_newline}
-use Rattle.cue_io.specs.Reader.{Held, IsPending, ArePassed, Goes, Moves, Leaves, IsUncut, AtEnd, byte_limit, ends_left}
+use Rattle.std.proofs.lemmas.List.Folds.{list_any-append}
+use Rattle.cue_io.specs.Lines.{has_newline, is_newline, or-false-right}
+use Rattle.cue_io.specs.Reader.{WasNeeded, Held, IsPending, ArePassed, Goes, Moves, Leaves, IsUncut, AtEnd, ends_left}
 use Rattle.cue_io.specs.Steps.{Fetches, GoesOn, IsFirstNewline, IsSound, after_last, after_line, found_at, found_last, is_long, passed_over, shown_as}
-use Rattle.cue_io.proofs.StepLemmas.{pending_in_line, pending_long, none_passed, within_limit, GoesOn-passed, GoesOn-filled}
+use Rattle.cue_io.proofs.StepLemmas.{none_joined, pending_in_line, pending_long, none_passed, within_limit, GoesOn-passed, GoesOn-filled}
+use Rattle.cue_io.specs.declared.limits.TheConstants.{BYTE_LIMIT}
 
 -- the source of a reader can still end
 still : (ended : Bool) → ended ≡ false → ends_left ended ≡ 1
@@ -129,7 +131,7 @@ leaves_last false false old mid took before is none_is goes in_line is_pending =
     }
 
 -- what is held at the end of the source
-Goes-last : (old mid : Held) (took : List ℕ) → GoesOn old took mid → has_newline mid.bytes ≡ false → mid.taken < byte_limit
+Goes-last : (old mid : Held) (took : List ℕ) → GoesOn old took mid → has_newline mid.bytes ≡ false → mid.taken < BYTE_LIMIT
     → Goes old took (shown_as (Ok (found_last mid)) (after_last mid).line) (after_last mid)
 Goes-last old mid took goes in_line unspent = record {
   limit_is = goes.limit_is;
@@ -155,7 +157,7 @@ uncut old new took before goes in_line is_pending =
     }
 
 -- all bytes that the reader may take were taken
-Goes-spent : (old new : Held) (took : List ℕ) → GoesOn old took new → has_newline new.bytes ≡ false → new.taken ≡ byte_limit
+Goes-spent : (old new : Held) (took : List ℕ) → GoesOn old took new → has_newline new.bytes ≡ false → new.taken ≡ BYTE_LIMIT
     → Goes old took (Err Spent) new
 Goes-spent old new took goes in_line spent = record {
   limit_is = goes.limit_is;
@@ -172,7 +174,7 @@ Goes-spent old new took goes in_line spent = record {
 }
 
 -- the source failed
-Goes-failed : (old mid : Held) (took : List ℕ) → GoesOn old took mid → has_newline mid.bytes ≡ false → mid.taken < byte_limit
+Goes-failed : (old mid : Held) (took : List ℕ) → GoesOn old took mid → has_newline mid.bytes ≡ false → mid.taken < BYTE_LIMIT
     → Goes old took (Err Read) (record mid { line = [] })
 Goes-failed old mid took goes in_line unspent = record {
   limit_is = goes.limit_is;
@@ -228,11 +230,11 @@ taken_in_passed false mid = refl
 pub record MayFetch (old : Held) (took : List ℕ) (mid : Held) : Type 0 where
   pub goes_on : GoesOn old took mid
   pub none : has_newline mid.bytes ≡ false
-  pub unspent : mid.taken < byte_limit
+  pub unspent : mid.taken < BYTE_LIMIT
 
 -- that holds when the reader has let go the bytes of a line that is too long
 pub MayFetch-passed : (old mid pass : Held) (took : List ℕ) → GoesOn old took mid → has_newline mid.bytes ≡ false
-    → (mid.taken ≡ byte_limit → ⊥) → pass ≡ passed_over mid → MayFetch old took pass
+    → (mid.taken ≡ BYTE_LIMIT → ⊥) → pass ≡ passed_over mid → MayFetch old took pass
 MayFetch-passed old mid pass took goes none unspent is =
     let long = is_long mid (length mid.bytes) in
     subst (λ (reader : Held). MayFetch old took reader) (sym is) (record {
@@ -294,7 +296,7 @@ Moves-line left left' old mid new took at found takes goes inside first found_is
 
 -- all bytes that the reader may take were taken
 pub Moves-spent : (left left' : Option (List ℕ)) (old new : Held) (took : List ℕ) → Takes left left' took → GoesOn old took new
-    → has_newline new.bytes ≡ false → new.taken ≡ byte_limit → Moves left left' old (Err Spent) new
+    → has_newline new.bytes ≡ false → new.taken ≡ BYTE_LIMIT → Moves left left' old (Err Spent) new
 Moves-spent left left' old new took takes goes in_line spent = record {
   took = took;
   takes = takes;
@@ -322,3 +324,25 @@ Moves-ended left reader ended sound = record {
   goes = Goes-ended reader ended sound;
   end = λ going is. absurd (true≢false (sym ended ∙ going));
 }
+
+-- a read was needed where nothing that was held or taken before it has a newline
+pub WasNeeded-read : (held took fresh : List ℕ) (old mid new : Option (List ℕ)) (last : ℕ) → Takes old mid took → Takes mid new fresh
+    → last ≡ length fresh → has_newline (held ++ took) ≡ false → WasNeeded held old new last
+WasNeeded-read held took fresh None mid new last takes more is none = tt
+WasNeeded-read held took fresh (Some old) mid None last takes more is none = tt
+WasNeeded-read held took fresh (Some old) None (Some new) last takes more is none = absurd takes
+WasNeeded-read held took fresh (Some old) (Some mid) (Some new) last takes more is none =
+    let before : length old - (length new + last) ≡ length took =
+    omega (arith, is, ap length takes, ap length more, length-append took mid, length-append fresh new) in
+    ap (λ n. has_newline (held ++ take n old)) before
+    ∙ ap (λ all. has_newline (held ++ take (length took) all)) takes
+    ∙ ap (λ front. has_newline (held ++ front)) (take-append_seam took mid)
+    ∙ none
+
+-- what was held and taken has no newline after a read, where what the reader holds then has none
+pub none_after_read : (held took fresh pass new : List ℕ) → has_newline (held ++ took) ≡ false → new ≡ pass ++ fresh
+    → has_newline new ≡ false → has_newline (held ++ (took ++ fresh)) ≡ false
+none_after_read held took fresh pass new before is none =
+    let in_fresh : has_newline fresh ≡ false =
+    or-false-right (has_newline pass) (has_newline fresh) (sym (list_any-append is_newline pass fresh) ∙ sym (ap has_newline is) ∙ none) in
+    ap has_newline (sym (append_assoc held took fresh)) ∙ none_joined (held ++ took) fresh before in_fresh

@@ -3,8 +3,9 @@ use Rattle.std.proofs.Common.{◌≡◌, ℕ, ◌+◌, ◌<◌, ◌≤◌, Bool,
 use Rattle.std.proofs.lemmas.List.Folds.{list_any-append}
 use Rattle.std.proofs.lemmas.Bool.{ltb-true, ltb-false}
 use Rattle.cue_io.specs.Lines.{has_newline, is_newline}
-use Rattle.cue_io.specs.Reader.{Held, IsPending, ArePassed, byte_limit}
+use Rattle.cue_io.specs.Reader.{Held, IsPending, ArePassed}
 use Rattle.cue_io.specs.Steps.{GoesOn, filled, is_long, passed_over}
+use Rattle.cue_io.specs.declared.limits.TheConstants.{BYTE_LIMIT}
 
 -- two lists without a newline, one after the other
 pub none_joined : (first second : List ℕ) → has_newline first ≡ false → has_newline second ≡ false → has_newline (first ++ second) ≡ false
@@ -35,7 +36,7 @@ within_limit false limit count short = ltb-false limit count short
 within_limit true limit count short = absurd (true≢false short)
 
 -- nothing was done yet
-pub GoesOn-start : (reader : Held) → reader.ended ≡ false → reader.taken ≤ byte_limit → GoesOn reader [] reader
+pub GoesOn-start : (reader : Held) → reader.ended ≡ false → reader.taken ≤ BYTE_LIMIT → GoesOn reader [] reader
 GoesOn-start reader going within = record {
   limit_is = refl;
   was_going = going;
@@ -72,7 +73,7 @@ pub GoesOn-passed : (old mid : Held) (took : List ℕ) → GoesOn old took mid �
 GoesOn-passed old mid took goes none = passed_by (is_long mid (length mid.bytes)) old mid took refl goes none
 
 -- the reader took more
-pub GoesOn-filled : (old mid : Held) (took fresh : List ℕ) → GoesOn old took mid → mid.taken + length fresh ≤ byte_limit
+pub GoesOn-filled : (old mid : Held) (took fresh : List ℕ) → GoesOn old took mid → mid.taken + length fresh ≤ BYTE_LIMIT
     → GoesOn old (took ++ fresh) (filled mid fresh)
 GoesOn-filled old mid took fresh goes within = record {
   limit_is = goes.limit_is;

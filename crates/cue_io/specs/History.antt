@@ -5,7 +5,8 @@ use Rattle.cue_io.specs.declared.line.LineFault.{LineFault}
 use Rattle.cue_io.specs.declared.line.LineFault.TheVariants.{Read, Spent}
 use Rattle.cue_io.specs.Input.{Takes, IsAtEnd, IsAtEnd-kept}
 use Rattle.cue_io.specs.Lines.{has_newline, lines_of, joined, AreLines, joined-append, AreLines-append, lines_of-last, lines_of-joined}
-use Rattle.cue_io.specs.Reader.{Held, Given, Whole, Long, AtEnd, Goes, IsPending, byte_limit, new_reader, IsNext, IsOver, IsUncut, Leaves, Moves}
+use Rattle.cue_io.specs.Reader.{Held, Given, Whole, Long, AtEnd, Goes, IsPending, new_reader, IsNext, IsOver, IsUncut, Leaves, Moves}
+use Rattle.cue_io.specs.declared.limits.TheConstants.{BYTE_LIMIT}
 
 -- the bytes taken are those of the lines, with their newlines, and then those pending
 pub record IsGoing (taken : List ℕ) (lines : List (List ℕ)) (pending : List ℕ) : Type 0 where
@@ -44,8 +45,8 @@ Continues limit taken lines (Ok (Whole line)) reader left = (length line ≤ lim
 Continues limit taken lines (Ok Long) reader left =
     (line : List ℕ) × (limit < length line) × HasGiven limit taken (lines ++ line ∷ []) reader left
 Continues limit taken lines (Ok AtEnd) reader left = (lines_of taken ≡ lines) × IsAtEnd left × HasGiven limit taken lines reader left
-Continues limit taken lines (Err Read) reader left = IsUnfinished taken lines × (length taken < byte_limit) × HasGiven limit taken lines reader left
-Continues limit taken lines (Err Spent) reader left = IsUnfinished taken lines × (length taken ≡ byte_limit) × HasGiven limit taken lines reader left
+Continues limit taken lines (Err Read) reader left = IsUnfinished taken lines × (length taken < BYTE_LIMIT) × HasGiven limit taken lines reader left
+Continues limit taken lines (Err Spent) reader left = IsUnfinished taken lines × (length taken ≡ BYTE_LIMIT) × HasGiven limit taken lines reader left
 
 -- a reader that was just made has given nothing
 pub HasGiven-new : (limit : ℕ) (left : Option (List ℕ)) → HasGiven limit [] [] (new_reader limit) left
@@ -199,7 +200,7 @@ continues-open limit taken lines old left took (Ok AtEnd) new left' so_far goes 
     over-next leaves.rest so_far goes going end leaves.is_pending leaves.cuts
 continues-open limit taken lines old left took (Err Read) new left' so_far goes unended going end leaves = (
   unfinished-next taken so_far.pending took leaves.rest lines new going leaves.cuts.0,
-  subst (λ (count : ℕ). count < byte_limit) (taken-append so_far goes) leaves.cuts.1,
+  subst (λ (count : ℕ). count < BYTE_LIMIT) (taken-append so_far goes) leaves.cuts.1,
   uncut-next leaves.rest so_far goes going end leaves.is_pending leaves.cuts.0,
 )
 continues-open limit taken lines old left took (Err Spent) new left' so_far goes unended going end leaves = (

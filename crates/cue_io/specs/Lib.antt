@@ -8,3 +8,4 @@ pub mod Window
 pub mod Steps
 pub mod History
 pub mod Memory
+pub mod Adapters

@@ -25,30 +25,31 @@ with_fault plan = record plan { faults = counted plan.faults }
 abbrev pub after_call : Plan → Plan
 after_call plan = record plan { calls = counted plan.calls; faults = if is_to_fail plan then counted plan.faults else plan.faults }
 
--- a source: the bytes left, the most that a read gives, and its calls
+-- a source: the bytes left, the most that a read gives, how many the last one gave, and its calls
 pub record Supply : Type 0 where
   pub left : List ℕ
   pub most : ℕ
+  pub last : ℕ
   pub plan : Plan
 
--- how many bytes a read gives into a room of this size
+-- how many bytes a read gives into a buffer of this size
 abbrev pub read_count : Supply → ℕ → ℕ
-read_count supply room = min supply.most (min room (length supply.left))
+read_count supply size = min supply.most (min size (length supply.left))
 
 -- the source after a read that gave so many bytes
 abbrev pub after_read : Supply → ℕ → Supply
-after_read supply count = record supply { left = drop count supply.left; plan = after_call supply.plan }
+after_read supply count = record supply { left = drop count supply.left; last = count; plan = after_call supply.plan }
 
--- a sink: the bytes written, the most that a write takes, its whole room, and its calls
+-- a sink: the bytes written, the most that a write takes, its capacity, and its calls
 pub record Store : Type 0 where
   pub written : List ℕ
   pub most : ℕ
-  pub room : ℕ
+  pub capacity : ℕ
   pub plan : Plan
 
 -- how many bytes of a piece of this length a write takes
 abbrev pub write_count : Store → ℕ → ℕ
-write_count store piece = min store.most (min piece (store.room - length store.written))
+write_count store piece = min store.most (min piece (store.capacity - length store.written))
 
 -- whether nothing was taken of a piece that isn't empty
 abbrev pub takes_none : ℕ → ℕ → Bool

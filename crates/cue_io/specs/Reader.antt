@@ -1,15 +1,12 @@
 -- What a reader of lines holds between its calls, and what a call does to it.
-use Rattle.std.specs.Prelude.{◌≡◌, ℕ, ◌+◌, ◌-◌, ◌<◌, ◌≤◌, Bool, true, false, List, [], ◌∷◌, ◌++◌, length, Option, Result, Ok, Err, ◌⊎◌}
+use Rattle.std.specs.Prelude.{◌≡◌, ℕ, ◌+◌, ◌-◌, ◌<◌, ◌≤◌, Bool, true, false, List, [], ◌∷◌, ◌++◌, length, take, Option, None, Some, Result, Ok, Err, ◌⊎◌}
 use Rattle.cue_io.specs.declared.line.Line.{Line}
 use Rattle.cue_io.specs.declared.line.Line.TheVariants.{Bytes, TooLong, End}
 use Rattle.cue_io.specs.declared.line.LineFault.{LineFault}
 use Rattle.cue_io.specs.declared.line.LineFault.TheVariants.{Read, Spent}
 use Rattle.cue_io.specs.Input.{Takes, IsAtEnd}
 use Rattle.cue_io.specs.Lines.{has_newline}
-
--- the most bytes that a reader takes, counted from when it was made
-abbrev pub byte_limit : ℕ
-byte_limit = 1099511627776
+use Rattle.cue_io.specs.declared.limits.TheConstants.{BYTE_LIMIT}
 
 -- a reader between two calls: its limit, how many bytes it took, whether it let go the first bytes of a line that is
 -- longer than the limit, whether the source has ended, the bytes that it took and neither gave nor let go, and the
@@ -45,6 +42,12 @@ pub record IsPending (reader : Held) (pending : List ℕ) : Type 0 where
 -- a reader that can answer without a read: its source has ended, or it holds a whole line
 abbrev pub IsAhead : Held → Type 0
 IsAhead reader = (reader.ended ≡ true) ⊎ (has_newline reader.bytes ≡ true)
+
+-- where the source tells its bytes, those that were held and those that it gave before its last read have no newline
+abbrev pub WasNeeded : List ℕ → Option (List ℕ) → Option (List ℕ) → ℕ → Type 0
+WasNeeded held None new last = Unit {0}
+WasNeeded held (Some old) None last = Unit {0}
+WasNeeded held (Some old) (Some new) last = has_newline (held ++ take (length old - (length new + last)) old) ≡ false
 
 -- what an answer that is no fault says: a line, that a line was too long, or that there is no more
 pub data Given : Type 0 where
@@ -94,8 +97,8 @@ abbrev pub Cuts : ℕ → List ℕ → Result Given LineFault → List ℕ → H
 Cuts limit all (Ok (Whole line)) rest new = IsNext all line rest new × (length line ≤ limit)
 Cuts limit all (Ok Long) rest new = (line : List ℕ) × IsNext all line rest new × (limit < length line)
 Cuts limit all (Ok AtEnd) rest new = IsOver all rest new
-Cuts limit all (Err Read) rest new = IsUncut all rest new × (new.taken < byte_limit)
-Cuts limit all (Err Spent) rest new = IsUncut all rest new × (new.taken ≡ byte_limit)
+Cuts limit all (Err Read) rest new = IsUncut all rest new × (new.taken < BYTE_LIMIT)
+Cuts limit all (Err Spent) rest new = IsUncut all rest new × (new.taken ≡ BYTE_LIMIT)
 
 -- whether an answer gives a line or passes over one
 abbrev pub IsLineGiven : Result Given LineFault → Type 0
@@ -111,7 +114,7 @@ ends_left true = 0
 
 -- at most how many more lines a reader can give
 abbrev pub lines_left : Held → ℕ
-lines_left reader = (byte_limit - reader.taken) + length reader.bytes + ends_left reader.ended
+lines_left reader = (BYTE_LIMIT - reader.taken) + length reader.bytes + ends_left reader.ended
 
 -- after the end nothing is taken, nothing changes, and each answer is the end
 pub record StaysAtEnd (old : Held) (took : List ℕ) (answer : Result Given LineFault) (new : Held) : Type 0 where
@@ -129,8 +132,8 @@ pub record Leaves (old : Held) (before took : List ℕ) (answer : Result Given L
 pub record Goes (old : Held) (took : List ℕ) (answer : Result Given LineFault) (new : Held) : Type 0 where
   pub limit_is : new.limit ≡ old.limit
   pub taken_is : new.taken ≡ old.taken + length took
-  pub within : new.taken ≤ byte_limit
-  pub unspent : new.ended ≡ true → new.taken < byte_limit
+  pub within : new.taken ≤ BYTE_LIMIT
+  pub unspent : new.ended ≡ true → new.taken < BYTE_LIMIT
   pub at_end : old.ended ≡ true → StaysAtEnd old took answer new
   pub fewer : IsLineGiven answer → lines_left new < lines_left old
   pub leaves : (before : List ℕ) → IsPending old before → Leaves old before took answer new

@@ -23,17 +23,17 @@ abbrev pub AreNext : List ℕ → List ℕ → Type 0
 AreNext readings [] = Unit {0}
 AreNext readings (reading ∷ seen) = (reading ≡ next_reading readings) × AreNext (after_reading readings) seen
 
--- a clock that had these readings to come showed those seen, and has the rest to come
-abbrev pub Shows : Option (List ℕ) → Option (List ℕ) → List ℕ → Type 0
-Shows None None seen = Unit {0}
-Shows None (Some new) seen = ⊥
-Shows (Some old) None seen = ⊥
-Shows (Some old) (Some new) seen = AreNext old seen × (new ≡ after_readings old seen)
+-- a clock that had these readings to come told those seen, and has the rest to come
+abbrev pub Tells : Option (List ℕ) → Option (List ℕ) → List ℕ → Type 0
+Tells None None seen = Unit {0}
+Tells None (Some new) seen = ⊥
+Tells (Some old) None seen = ⊥
+Tells (Some old) (Some new) seen = AreNext old seen × (new ≡ after_readings old seen)
 
 -- a clock that isn't read keeps its readings
-pub Shows-none : (readings : Option (List ℕ)) → Shows readings readings []
-Shows-none None = tt
-Shows-none (Some readings) = (tt, refl)
+pub Tells-none : (readings : Option (List ℕ)) → Tells readings readings []
+Tells-none None = tt
+Tells-none (Some readings) = (tt, refl)
 
 after_readings-append : (readings first second : List ℕ)
     → after_readings readings (first ++ second) ≡ after_readings (after_readings readings first) second
@@ -46,15 +46,15 @@ AreNext-append readings [] second a b = b
 AreNext-append readings (reading ∷ first) second a b =
     (a.0, AreNext-append (after_reading readings) first second a.1 b)
 
--- what two calls show, one after the other
-pub Shows-append : (old mid new : Option (List ℕ)) (first second : List ℕ) → Shows old mid first → Shows mid new second
-    → Shows old new (first ++ second)
-Shows-append None None None first second a b = tt
-Shows-append None None (Some new) first second a b = b
-Shows-append None (Some mid) new first second a b = absurd a
-Shows-append (Some old) None new first second a b = absurd a
-Shows-append (Some old) (Some mid) None first second a b = absurd b
-Shows-append (Some old) (Some mid) (Some new) first second a b =
+-- what two calls tell, one after the other
+pub Tells-append : (old mid new : Option (List ℕ)) (first second : List ℕ) → Tells old mid first → Tells mid new second
+    → Tells old new (first ++ second)
+Tells-append None None None first second a b = tt
+Tells-append None None (Some new) first second a b = b
+Tells-append None (Some mid) new first second a b = absurd a
+Tells-append (Some old) None new first second a b = absurd a
+Tells-append (Some old) (Some mid) None first second a b = absurd b
+Tells-append (Some old) (Some mid) (Some new) first second a b =
     let Next : List ℕ → Type 0 = λ readings. AreNext readings second in (
       AreNext-append old first second a.0 (subst Next a.1 b.0),
       b.1 ∙ ap (λ readings. after_readings readings second) a.1 ∙ sym (after_readings-append old first second),

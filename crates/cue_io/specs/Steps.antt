@@ -5,7 +5,8 @@ use Rattle.cue_io.specs.declared.line.Found.TheVariants.{Bytes, TooLong, End}
 use Rattle.cue_io.specs.declared.line.LineFault.{LineFault}
 use Rattle.cue_io.specs.Lines.{has_newline}
 use Rattle.cue_io.specs.Input.{Takes, IsAtEnd}
-use Rattle.cue_io.specs.Reader.{Held, Given, Whole, Long, AtEnd, IsPending, byte_limit}
+use Rattle.cue_io.specs.Reader.{Held, Given, Whole, Long, AtEnd, IsPending}
+use Rattle.cue_io.specs.declared.limits.TheConstants.{BYTE_LIMIT}
 
 -- whether a line is too long of which the reader holds this many bytes
 abbrev pub is_long : Held → ℕ → Bool
@@ -49,17 +50,17 @@ pub record IsFirstNewline (bytes : List ℕ) (at : ℕ) : Type 0 where
 
 -- what a reader always is: within the most bytes; at the end of the source it holds nothing and passes over nothing
 pub record IsSound (taken : ℕ) (passing ended : Bool) (bytes : List ℕ) : Type 0 where
-  pub within : taken ≤ byte_limit
+  pub within : taken ≤ BYTE_LIMIT
   pub empty : ended ≡ true → bytes ≡ []
   pub still : ended ≡ true → passing ≡ false
-  pub unspent : ended ≡ true → taken < byte_limit
+  pub unspent : ended ≡ true → taken < BYTE_LIMIT
 
 -- a read that took these bytes
 pub record Fetches (left left' : Option (List ℕ)) (count : ℕ) (fresh : List ℕ) (old new : Held) : Type 0 where
   pub count_is : length fresh ≡ count
   pub takes : Takes left left' fresh
   pub end : count ≡ 0 → IsAtEnd left'
-  pub within : old.taken + count ≤ byte_limit
+  pub within : old.taken + count ≤ BYTE_LIMIT
   pub new_is : new ≡ filled old fresh
 
 -- a call that took these bytes so far, found no newline, and goes on
@@ -68,6 +69,6 @@ pub record GoesOn (old : Held) (took : List ℕ) (new : Held) : Type 0 where
   pub was_going : old.ended ≡ false
   pub going : new.ended ≡ false
   pub taken_is : new.taken ≡ old.taken + length took
-  pub within : new.taken ≤ byte_limit
-  pub no_more : (byte_limit - new.taken) + length new.bytes ≤ (byte_limit - old.taken) + length old.bytes
+  pub within : new.taken ≤ BYTE_LIMIT
+  pub no_more : (BYTE_LIMIT - new.taken) + length new.bytes ≤ (BYTE_LIMIT - old.taken) + length old.bytes
   pub pending : (before : List ℕ) → IsPending old before → IsPending new (before ++ took)

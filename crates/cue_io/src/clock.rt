@@ -1,6 +1,6 @@
 //! What time it is.
 ghost use Rattle.std.specs.Prelude.{◌≡◌, ℕ, List, [], ◌∷◌, Option, IfOk};
-ghost use Rattle.cue_io.specs.Readings.{Shows};
+ghost use Rattle.cue_io.specs.Readings.{Tells};
 
 use std::alloc::{AllocError, Global};
 
@@ -10,7 +10,7 @@ pub trait Clock {
 
     /// The next reading.
     fn now(&mut self) -> u64
-        ensures { Shows (readings self.old) (readings self.new) (result ∷ []) };
+        ensures { Tells (readings self.old) (readings self.new) (result ∷ []) };
 
     /// A clock of its own that has the same readings to come.
     fn fork(&self, alloc: Global) -> Result<Self, AllocError>

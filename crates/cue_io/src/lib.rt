@@ -1,10 +1,11 @@
-//! Lines in, bytes out, counts of faults and clocks: what the programs use of the outside.
+//! Input by lines, output, counts of faults, and clocks: what the programs use of their surroundings.
 #![tactic(auto)]
 
 mod clock;
 mod fault_plan;
 mod history;
 mod input_source;
+mod limits;
 mod line;
 mod line_reader;
 mod memory_clock;
@@ -15,13 +16,12 @@ mod output_sink;
 mod sink;
 mod source;
 mod system_clock;
-#[cfg(test)]
-mod tests;
 mod window;
 
 pub use clock::Clock;
 pub use history::lines_follow_bytes;
 pub use input_source::InputSource;
+pub use limits::BYTE_LIMIT;
 pub use line::{Line, LineFault};
 pub use line_reader::LineReader;
 pub use memory_clock::MemoryClock;

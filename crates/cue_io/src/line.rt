@@ -1,5 +1,8 @@
 //! What a reader of lines answers.
 
+use std::error::Error;
+use std::fmt;
+
 /// A line without its newline, a line that was passed over because it is longer than the limit, or the end.
 #[derive(Clone, Copy, Debug, PartialEq, Eq)]
 pub enum Line<'a> {
@@ -14,6 +17,17 @@ pub enum LineFault {
     Read,
     Spent,
 }
+
+impl fmt::Display for LineFault {
+    fn fmt<W: fmt::Write>(&self, f: &mut fmt::Formatter<W>) -> fmt::Result {
+        match self {
+            LineFault::Read => write!(f, "the input failed"),
+            LineFault::Spent => write!(f, "the input is longer than a reader takes"),
+        }
+    }
+}
+
+impl Error for LineFault {}
 
 /// What a reader found: a line that it shows, one that it passed over, or the end.
 #[derive(Clone, Copy)]

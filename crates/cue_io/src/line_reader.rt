@@ -1,24 +1,19 @@
 //! Lines from a source.
-ghost use Rattle.std.specs.Prelude.{◌≡◌, ℕ, ◌+◌, ◌<◌, ◌≤◌, List, false, nat_eq, length, take, IfOk, IsErrOf, OnErr, MatchOption, []};
+ghost use Rattle.std.specs.Prelude.{◌≡◌, ℕ, ◌+◌, ◌<◌, ◌≤◌, List, false, nat_eq, length, take, IfOk, IsErrOf, OnErr, MatchOption, MatchResult, [], ◌⊎◌};
 ghost use Rattle.std.specs.List.{position};
 ghost use Rattle.std.specs.Borrow.{sem};
 ghost use Rattle.std.specs.Io.BufRead.{Rests};
 ghost use Rattle.cue_io.specs.Faults.{HasRisen};
 ghost use Rattle.cue_io.specs.Lines.{has_newline, is_newline};
-ghost use Rattle.cue_io.specs.Reader.{Held, IsAhead, Moves, byte_limit, given_by, new_reader};
+ghost use Rattle.cue_io.specs.Reader.{Held, IsAhead, Moves, WasNeeded, given_by, new_reader};
 ghost use Rattle.cue_io.specs.Steps.{IsSound, Fetches, after_last, after_line, found_at, found_last, passed_over, shown_as, IsFirstNewline};
 
+use crate::limits::{BYTE_LIMIT, READ_CAPACITY};
 use crate::line::{Found, Line, LineFault};
 use crate::source::{Source, SourceFault};
 use crate::window::Window;
 use std::alloc::{AllocError, Global};
 use std::marker::Model;
-
-/// The room behind the longest line: what one read may bring at least.
-const READ_ROOM: usize = 65536;
-
-/// The most bytes that a reader takes, counted from when it was made.
-const BYTE_LIMIT: u64 = 1099511627776;
 
 /// A reader of lines of at most `limit` bytes. It holds no more than a line and what one read brought.
 #[derive(Drop)]
@@ -34,6 +29,7 @@ impl Model for LineReader {
     ghost use Rattle.std.specs.Prelude.{◌≡◌, ◌+◌};
     ghost use Rattle.cue_io.specs.Reader.{Held};
     ghost use Rattle.cue_io.specs.Steps.{IsSound};
+    ghost use Rattle.cue_io.specs.declared.limits.TheConstants.{READ_CAPACITY};
 
     ghost Value = { Held };
 
@@ -46,15 +42,15 @@ impl Model for LineReader {
       line = r.window.line;
     } };
 
-    ghost invariant = { λ r. (r.window.size ≡ r.limit + 65536) × IsSound r.taken r.passing r.ended r.window.held };
+    ghost invariant = { λ r. (r.window.size ≡ r.limit + READ_CAPACITY) × IsSound r.taken r.passing r.ended r.window.held };
 }
 
 impl LineReader {
-    /// Takes all the room that the reader ever uses.
+    /// Reserves all the memory that the reader ever uses.
     pub fn make(alloc: Global, limit: usize) -> Result<LineReader, AllocError>
         ensures { IfOk result (λ reader. reader ≡ new_reader limit) }
     {
-        let Some(size) = limit.checked_add(READ_ROOM) else {
+        let Some(size) = limit.checked_add(READ_CAPACITY) else {
             return Err(AllocError);
         };
         Ok(LineReader {
@@ -88,7 +84,7 @@ impl LineReader {
     }
 
     fn is_spent(&self) -> bool
-        ensures { result ≡ nat_eq self.now.taken byte_limit }
+        ensures { result ≡ nat_eq self.now.taken BYTE_LIMIT }
     {
         self.taken == BYTE_LIMIT
     }
@@ -111,7 +107,7 @@ impl LineReader {
 
     /// Gives what is held at the end of the source.
     fn finish(&mut self) -> Found
-        requires { self.old.taken < byte_limit }
+        requires { self.old.taken < BYTE_LIMIT }
         ensures found { result ≡ found_last self.old }
         ensures after { self.new ≡ after_last self.old }
     {
@@ -142,12 +138,13 @@ impl LineReader {
 
     /// One read: how many bytes came.
     fn fetch<S: Source>(&mut self, source: &mut S) -> Result<usize, SourceFault>
-        requires room { length self.old.bytes ≤ self.old.limit }
+        requires capacity { length self.old.bytes ≤ self.old.limit }
         requires going { self.old.ended ≡ false }
-        requires unspent { self.old.taken < byte_limit }
+        requires unspent { self.old.taken < BYTE_LIMIT }
         ensures ok { IfOk result (λ n. (fresh : List ℕ) ×
             Fetches (S.left source.old) (S.left source.new) n fresh self.old self.new) }
         ensures err { OnErr result (self.new ≡ record self.old { line = [] }) }
+        ensures brought { MatchResult result (λ n. S.last source.new ≡ n) (λ _. S.last source.new ≡ 0) }
         ensures kept { OnErr result (S.left source.new ≡ S.left source.old) }
         ensures cause { OnErr result (HasRisen (S.faults source.old) (S.faults source.new)) }
         ensures rises { S.faults source.old ≤ S.faults source.new }
@@ -162,6 +159,8 @@ impl LineReader {
     fn advance<S: Source>(&mut self, source: &mut S) -> Result<Found, LineFault>
         ensures moves { Moves (S.left source.old) (S.left source.new) self.old (shown_as result self.new.line) self.new }
         ensures unread { IsAhead self.old → source.new ≡ source.old }
+        ensures needed { (source.new ≡ source.old)
+            ⊎ WasNeeded self.old.bytes (S.left source.old) (S.left source.new) (S.last source.new) }
         ensures cause { IsErrOf result LineFault.Read → HasRisen (S.faults source.old) (S.faults source.new) }
         ensures rises { S.faults source.old ≤ S.faults source.new }
     {
@@ -169,7 +168,7 @@ impl LineReader {
             return Ok(Found::End);
         }
         let mut searched = 0;
-        'turns: loop {
+        'reads: loop {
             if let Some(at) = newline_from(self.held(), searched) {
                 return Ok(self.give(at));
             }
@@ -194,7 +193,8 @@ impl LineReader {
     /// is longer than the limit is passed over to its newline, and is TooLong. At the end of the source, where nothing
     /// is left, the answer is End, and so is each later one.
     ///
-    /// The source isn't read while a whole line is held, nor after its end.
+    /// The source isn't read while a whole line is held, nor after its end: each read comes while all that was taken
+    /// before it has no newline.
     ///
     /// Read comes only where the source's count of faults rose in this call, and loses nothing. Spent comes exactly
     /// where the reader has taken 1,099,511,627,776 bytes and no whole line of them is left to give.
@@ -202,6 +202,8 @@ impl LineReader {
         ensures* moves { sem 𝓛 (Rests the_row self.entry (λ new.
             Moves (S.left source.old) (S.left source.new) self.old (given_by result) new)) }
         ensures unread { IsAhead self.old → source.new ≡ source.old }
+        ensures needed { (source.new ≡ source.old)
+            ⊎ WasNeeded self.old.bytes (S.left source.old) (S.left source.new) (S.last source.new) }
         ensures cause { IsErrOf result LineFault.Read → HasRisen (S.faults source.old) (S.faults source.new) }
         ensures rises { S.faults source.old ≤ S.faults source.new }
     {

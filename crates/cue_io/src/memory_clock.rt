@@ -1,12 +1,12 @@
 //! A clock in memory.
 ghost use Rattle.std.specs.Prelude.{◌≡◌, ℕ, ◌<◌, [], ◌∷◌, Some, length, IfOk};
-ghost use Rattle.cue_io.specs.Readings.{Shows, next_reading, after_reading};
+ghost use Rattle.cue_io.specs.Readings.{Tells, next_reading, after_reading};
 
 use crate::clock::Clock;
 use std::alloc::{AllocError, Global};
 use std::marker::Model;
 
-/// A clock that shows the readings of a list, and then its last one for ever.
+/// A clock that tells the readings of a list, and then its last one for ever.
 #[derive(Drop)]
 pub struct MemoryClock {
     readings: Vec<u64>,
@@ -40,7 +40,7 @@ impl Clock for MemoryClock {
     ghost readings = { λ readings. Some readings };
 
     fn now(&mut self) -> u64
-        ensures shows { Shows (Some self.old) (Some self.new) (result ∷ []) }
+        ensures tells { Tells (Some self.old) (Some self.new) (result ∷ []) }
         ensures next { result ≡ next_reading self.old }
         ensures after { self.new ≡ after_reading self.old }
     {

@@ -14,7 +14,7 @@ use std::marker::Model;
 pub struct MemorySink {
     bytes: Vec<u8>,
     most: usize,
-    room: usize,
+    capacity: usize,
     plan: FaultPlan,
 }
 
@@ -24,26 +24,26 @@ impl Model for MemorySink {
 
     ghost Value = { Store };
 
-    ghost view = { λ s. record { written = s.bytes.items; most = s.most; room = s.room; plan = s.plan } };
+    ghost view = { λ s. record { written = s.bytes.items; most = s.most; capacity = s.capacity; plan = s.plan } };
 
-    ghost invariant = { λ s. (vec_len s.bytes ≤ s.room) × (s.room ≤ vec_capacity s.bytes) };
+    ghost invariant = { λ s. (vec_len s.bytes ≤ s.capacity) × (s.capacity ≤ vec_capacity s.bytes) };
 }
 
 impl MemorySink {
-    /// A sink with room for so many bytes, all taken here. A write takes at most `most` bytes. The calls in `fails`
+    /// A sink with capacity for so many bytes, all reserved here. A write takes at most `most` bytes. The calls in `fails`
     /// fail, by their number from 1.
     pub fn make(
         alloc: Global,
         most: usize,
-        room: usize,
+        capacity: usize,
         fails: &[u64],
     ) -> Result<MemorySink, AllocError>
-        ensures { IfOk result (λ s. s ≡ record { written = []; most = most; room = room; plan = new_plan fails.now }) }
+        ensures { IfOk result (λ s. s ≡ record { written = []; most = most; capacity = capacity; plan = new_plan fails.now }) }
     {
         Ok(MemorySink {
-            bytes: Vec::with_capacity(alloc, room)?,
+            bytes: Vec::with_capacity(alloc, capacity)?,
             most,
-            room,
+            capacity,
             plan: FaultPlan::make(alloc, fails)?,
         })
     }
@@ -86,7 +86,9 @@ impl Sink for MemorySink {
         if self.plan.call() {
             return Err(SinkFault::Failed);
         }
-        let count = self.most.min(piece.len().min(self.room - self.bytes.len()));
+        let count = self
+            .most
+            .min(piece.len().min(self.capacity - self.bytes.len()));
         self.bytes.extend_from_slice(&piece[..count]).unwrap();
         if count == 0 && !piece.is_empty() {
             self.plan.fault();

@@ -1,5 +1,5 @@
 //! A source in memory.
-ghost use Rattle.std.specs.Prelude.{◌≡◌, ◌<◌, ◌≤◌, ◌++◌, true, false, Some, length, take, drop, IfOk, OnErr};
+ghost use Rattle.std.specs.Prelude.{◌≡◌, ◌<◌, ◌≤◌, ◌++◌, true, false, Some, length, take, drop, IfOk, OnErr, MatchResult};
 ghost use Rattle.cue_io.specs.Faults.{HasRisen};
 ghost use Rattle.cue_io.specs.Input.{Takes, IsAtEnd};
 ghost use Rattle.cue_io.specs.Memory.{Supply, after_read, is_to_fail, new_plan, read_count};
@@ -15,6 +15,7 @@ pub struct MemorySource {
     bytes: Vec<u8>,
     at: usize,
     most: usize,
+    last: usize,
     plan: FaultPlan,
 }
 
@@ -24,7 +25,7 @@ impl Model for MemorySource {
 
     ghost Value = { Supply };
 
-    ghost view = { λ s. record { left = drop s.at s.bytes.items; most = s.most; plan = s.plan } };
+    ghost view = { λ s. record { left = drop s.at s.bytes.items; most = s.most; last = s.last; plan = s.plan } };
 
     ghost invariant = { λ s. (s.at ≤ vec_len s.bytes) × (0 < s.most) };
 }
@@ -38,12 +39,13 @@ impl MemorySource {
         fails: &[u64],
     ) -> Result<MemorySource, AllocError>
         requires { 0 < most }
-        ensures { IfOk result (λ s. s ≡ record { left = bytes.now; most = most; plan = new_plan fails.now }) }
+        ensures { IfOk result (λ s. s ≡ record { left = bytes.now; most = most; last = 0; plan = new_plan fails.now }) }
     {
         Ok(MemorySource {
             bytes: Vec::from_slice(alloc, bytes)?,
             at: 0,
             most,
+            last: 0,
             plan: FaultPlan::make(alloc, fails)?,
         })
     }
@@ -59,12 +61,15 @@ impl MemorySource {
 impl Source for MemorySource {
     ghost left = { λ s. Some s.left };
 
+    ghost last = { λ s. s.last };
+
     ghost faults = { λ s. s.plan.faults };
 
     fn read(&mut self, into: &mut [u8]) -> Result<usize, SourceFault>
         ensures count { IfOk result (λ n. n ≤ length into.new) }
         ensures takes { IfOk result (λ n. Takes (Some self.old.left) (Some self.new.left) (take n into.new)) }
         ensures end { IfOk result (λ n. n ≡ 0 → 0 < length into.new → IsAtEnd (Some self.new.left)) }
+        ensures brought { MatchResult result (λ n. self.new.last ≡ n) (λ _. self.new.last ≡ 0) }
         ensures kept { OnErr result (Some self.new.left ≡ Some self.old.left) }
         ensures cause { OnErr result (HasRisen self.old.plan.faults self.new.plan.faults) }
         ensures rises { self.old.plan.faults ≤ self.new.plan.faults }
@@ -76,11 +81,13 @@ impl Source for MemorySource {
             (result ≡ Ok n) × (into.new ≡ take n self.old.left ++ drop n into.old) × (self.new ≡ after_read self.old n) }
     {
         if self.plan.call() {
+            self.last = 0;
             return Err(SourceFault::Failed);
         }
         let count = self.most.min(into.len().min(self.bytes.len() - self.at));
         into[..count].copy_from_slice(&self.bytes[self.at..self.at + count]);
         self.at += count;
+        self.last = count;
         Ok(count)
     }
 }

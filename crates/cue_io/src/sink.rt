@@ -3,11 +3,24 @@ ghost use Rattle.std.specs.Prelude.{◌≡◌, ℕ, ◌<◌, ◌≤◌, List, Op
 ghost use Rattle.cue_io.specs.Faults.{HasRisen};
 ghost use Rattle.cue_io.specs.Output.{Adds};
 
+use std::error::Error;
+use std::fmt;
+
 /// Why a write took nothing.
 #[derive(Clone, Copy, Debug, PartialEq, Eq)]
 pub enum SinkFault {
     Failed,
 }
+
+impl fmt::Display for SinkFault {
+    fn fmt<W: fmt::Write>(&self, f: &mut fmt::Formatter<W>) -> fmt::Result {
+        match self {
+            SinkFault::Failed => write!(f, "the write failed"),
+        }
+    }
+}
+
+impl Error for SinkFault {}
 
 /// A sink of bytes. It tells what was `written` where it can, and counts its faults.
 pub trait Sink {

@@ -1,6 +1,7 @@
 //! The machine's clock.
-ghost use Rattle.std.specs.Prelude.{◌≡◌, ◌≤◌, [], ◌∷◌, None, IfOk};
-ghost use Rattle.cue_io.specs.Readings.{Shows};
+ghost use Rattle.std.specs.Prelude.{◌≡◌, ◌≤◌, ◌/◌, max, [], ◌∷◌, None, IfOk};
+ghost use Rattle.cue_io.specs.Readings.{Tells};
+ghost use Rattle.std.specs.Time.{system_time_nanos};
 
 use crate::clock::Clock;
 use std::alloc::{AllocError, Global};
@@ -25,7 +26,7 @@ impl<R> Model for SystemClock<R> {
 }
 
 impl<R> SystemClock<R> {
-    /// A clock that has shown nothing yet.
+    /// A clock that hasn't been read yet.
     pub fn make(rt: R) -> SystemClock<R>
         ensures { result ≡ 0 }
     {
@@ -37,14 +38,12 @@ impl<R: rt::Clock + Clone + Drop> Clock for SystemClock<R> {
     ghost readings = { λ _. None };
 
     fn now(&mut self) -> u64
-        ensures shows { Shows None None (result ∷ []) }
+        ensures tells { Tells None None (result ∷ []) }
         ensures last { self.new ≡ result }
         ensures never_back { self.old ≤ result }
     {
         if let Ok(time) = SystemTime::now(&self.rt) {
-            if let Ok(since) = time.duration_since(UNIX_EPOCH) {
-                self.last = self.last.max(since.as_secs());
-            }
+            self.last = later_of(self.last, time);
         }
         self.last
     }
@@ -56,5 +55,15 @@ impl<R: rt::Clock + Clone + Drop> Clock for SystemClock<R> {
             rt: self.rt.clone()?,
             last: self.last,
         })
+    }
+}
+
+/// The later one of a reading and a time, in whole seconds since 1970.
+fn later_of(last: u64, time: SystemTime) -> u64
+    ensures { result ≡ max last (system_time_nanos time / 1_000_000_000) }
+{
+    match time.duration_since(UNIX_EPOCH) {
+        Ok(since) => last.max(since.as_secs()),
+        Err(_) => last,
     }
 }

@@ -1,5 +1,5 @@
-//! The buffer of a reader of lines: a fixed room that the bytes pass through.
-ghost use Rattle.std.specs.Prelude.{◌≡◌, ℕ, ◌+◌, ◌-◌, ◌<◌, ◌≤◌, List, [], ◌++◌, length, take, drop, IfOk, OnErr, slice_range, vec_len};
+//! The buffer of a reader of lines: a fixed capacity that the bytes pass through.
+ghost use Rattle.std.specs.Prelude.{◌≡◌, ℕ, ◌+◌, ◌-◌, ◌<◌, ◌≤◌, List, [], ◌++◌, length, take, drop, IfOk, OnErr, MatchResult, slice_range, vec_len};
 ghost use Rattle.cue_io.specs.Faults.{HasRisen};
 ghost use Rattle.cue_io.specs.Window.{Framed, Fills};
 
@@ -91,17 +91,18 @@ impl Window {
     }
     /// One read from the source, of at most `most` bytes: how many came. Where it fails, nothing did.
     pub fn fill<S: Source>(&mut self, source: &mut S, most: usize) -> Result<usize, SourceFault>
-        requires room { length self.old.held < self.old.size }
+        requires capacity { length self.old.held < self.old.size }
         requires some { 0 < most }
         ensures ok { IfOk result (λ n. (fresh : List ℕ) × Fills (S.left source.old) (S.left source.new) n most fresh
             × (self.new ≡ record self.old { line = []; held = self.old.held ++ fresh })) }
         ensures err { OnErr result (self.new ≡ record self.old { line = [] }) }
+        ensures brought { MatchResult result (λ n. S.last source.new ≡ n) (λ _. S.last source.new ≡ 0) }
         ensures kept { OnErr result (S.left source.new ≡ S.left source.old) }
         ensures cause { OnErr result (HasRisen (S.faults source.old) (S.faults source.new)) }
         ensures rises { S.faults source.old ≤ S.faults source.new }
     {
         let length = self.end - self.start;
-        let start = with_room(&mut self.buffer, self.start, self.end);
+        let start = with_capacity(&mut self.buffer, self.start, self.end);
         let end = start + length;
         self.line_start = 0;
         self.line_end = 0;
@@ -114,14 +115,14 @@ impl Window {
     }
 }
 
-/// Where the bytes held in `start..end` start once there is room behind them: they are moved to the front where they
+/// Where the bytes held in `start..end` start once there is capacity behind them: they are moved to the front where they
 /// reach the end of the buffer.
-fn with_room(buffer: &mut Vec<u8>, start: usize, end: usize) -> usize
+fn with_capacity(buffer: &mut Vec<u8>, start: usize, end: usize) -> usize
     requires ordered { start ≤ end }
     requires within { end ≤ vec_len buffer.old }
     ensures len { vec_len buffer.new ≡ vec_len buffer.old }
     ensures held { slice_range buffer.new.items result (result + (end - start)) ≡ slice_range buffer.old.items start end }
-    ensures room { end - start < vec_len buffer.old → result + (end - start) < vec_len buffer.old }
+    ensures capacity { end - start < vec_len buffer.old → result + (end - start) < vec_len buffer.old }
     ensures fits { result + (end - start) ≤ vec_len buffer.old }
 {
     if end < buffer.len() {
@@ -143,6 +144,7 @@ fn read_into<S: Source>(
     ensures len { vec_len buffer.new ≡ vec_len buffer.old }
     ensures before { take from buffer.new.items ≡ take from buffer.old.items }
     ensures ok { IfOk result (λ n. Fills (S.left source.old) (S.left source.new) n (to - from) (take n (drop from buffer.new.items))) }
+    ensures brought { MatchResult result (λ n. S.last source.new ≡ n) (λ _. S.last source.new ≡ 0) }
     ensures kept { OnErr result (S.left source.new ≡ S.left source.old) }
     ensures cause { OnErr result (HasRisen (S.faults source.old) (S.faults source.new)) }
     ensures rises { S.faults source.old ≤ S.faults source.new }

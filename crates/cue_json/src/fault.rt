@@ -3,6 +3,7 @@
 ghost use Rattle.cue_json.specs.Fields.{Missing, WrongKind, Unknown, Names};
 
 use std::alloc::{AllocError, Global};
+use std::fmt;
 use std::marker::Model;
 
 /// The name of a field, which a contract sees as its bytes.
@@ -88,6 +89,17 @@ impl FieldFault {
         match FieldName::copy_of(alloc, field) {
             Ok(field) => FieldFault::Unknown { field },
             Err(_) => FieldFault::NoMemory,
+        }
+    }
+}
+
+impl fmt::Display for FieldFault {
+    fn fmt<W: fmt::Write>(&self, f: &mut fmt::Formatter<W>) -> fmt::Result {
+        match self {
+            FieldFault::Missing { field } => write!(f, "missing field `{}`", field.as_str()),
+            FieldFault::WrongKind { field } => write!(f, "invalid field `{}`", field.as_str()),
+            FieldFault::Unknown { field } => write!(f, "unknown field `{}`", field.as_str()),
+            FieldFault::NoMemory => write!(f, "out of memory"),
         }
     }
 }

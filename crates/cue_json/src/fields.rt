@@ -1,5 +1,5 @@
 //! One field of an object: a text, a number, a flag, a list or an object. The name in a fault is all that
-//! takes memory, so each error, want of memory too, comes only in place of a fault.
+//! takes memory, so each error, out of memory too, comes only in place of a fault.
 
 ghost use Rattle.std.specs.Prelude.{◌≡◌, option_map, OnErr, IsErr};
 ghost use Rattle.serde_json.specs.Find.{get_member};

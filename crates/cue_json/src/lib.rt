@@ -1,4 +1,4 @@
-//! Fields of JSON objects, each read or named as the fault.
+//! Fields of JSON objects, each read or named as the fault. What reads lines stands on it, and the model of the farm doesn't.
 #![tactic(auto)]
 
 mod fault;
@@ -6,8 +6,6 @@ mod fields;
 mod items;
 mod line;
 mod others;
-#[cfg(test)]
-mod tests;
 
 pub use fault::{FieldFault, FieldName};
 pub use fields::{Map, flag, has, list, object, signed, text, whole};

@@ -9,6 +9,7 @@ ghost use Rattle.cue_json.specs.Lines.{IsObjectIn, object_in};
 use crate::fields::Map;
 use serde_json::{Error, Value};
 use std::alloc::Global;
+use std::fmt;
 
 /// Why a line gave no object.
 #[derive(Clone, Copy, Debug, PartialEq, Eq, Drop)]
@@ -17,6 +18,15 @@ pub enum LineFault {
     NotAnObject,
     /// The value could not be held.
     NoMemory,
+}
+
+impl fmt::Display for LineFault {
+    fn fmt<W: fmt::Write>(&self, f: &mut fmt::Formatter<W>) -> fmt::Result {
+        match self {
+            LineFault::NotAnObject => write!(f, "not a JSON object"),
+            LineFault::NoMemory => write!(f, "out of memory"),
+        }
+    }
 }
 
 /// The object that the line is, nested at most 127 deep. Of a key that comes twice the last value counts.

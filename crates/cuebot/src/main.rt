@@ -2,63 +2,53 @@
 //! demonstration, and `cuebot script :memory:` over a farm that begins empty.
 #![tactic(auto)]
 
-ghost use Rattle.std.specs.Prelude.{◌≡◌, is_some, option_map};
-ghost use Rattle.session.specs.Words.{form_of};
-ghost use Rattle.cuebot.specs.Hints.{hint_of};
+ghost use Rattle.std.specs.Prelude.{◌≡◌};
+ghost use Rattle.std.specs.Process.{exit_status};
 
 use cue_io::{InputSource, OutputSink, SystemClock};
 use farm_types::{Items, Text};
-use session::{Status, form, run_cuebot};
+use session::{Status, run_program};
 use std::env;
-use std::io::{self, IsTerminal};
+use std::io::{self, IsTerminal, Write};
 use std::process::ExitCode;
 use std::rt::Runtime;
 
-const USAGE: &str =
-    "usage: cuebot demo | script STORE | load N | serve STORE PORT WORKERS CONNECTIONS";
-
-// The status where memory is wanting before the call.
+// The status where memory runs out before the call.
 const NO_MEMORY: Status = 7;
-
-const WAITING: &str = "cuebot: waiting for lines, each a JSON object; end the input with Ctrl-D";
 
 fn main(rt: HostRuntime) -> ExitCode {
     let at_terminal = rt.stdin().is_terminal();
-    ExitCode::from(run(&rt, at_terminal))
+    exit_code(run(&rt, at_terminal, rt.stderr()))
+}
+
+// What the system is answered: the status.
+fn exit_code(status: Status) -> ExitCode
+    ensures { exit_status result ≡ status }
+{
+    ExitCode::from(status)
 }
 
 // Runs the program over the standard streams and the machine's clock.
-fn run<R: Runtime + AllocGlobal>(rt: &R, at_terminal: bool) -> Status {
+fn run<R: Runtime + AllocGlobal, E: Write + Drop>(rt: &R, at_terminal: bool, stderr: E) -> Status {
     let Ok(words) = words_of(rt) else {
         return NO_MEMORY;
     };
-    if let Some(hint) = hint_for(words.as_slice(), at_terminal) {
-        let _ = rt.eprintln(hint);
-    }
     let Ok(clock_rt) = rt.clone() else {
         return NO_MEMORY;
     };
     let mut source = InputSource::make(rt.reader());
     let mut sink = OutputSink::make(io::writer(rt));
+    let mut errors = OutputSink::make(stderr);
     let mut clock = SystemClock::make(clock_rt);
-    run_cuebot(
+    run_program(
         rt.alloc(),
         words.as_slice(),
+        at_terminal,
         &mut source,
         &mut sink,
+        &mut errors,
         &mut clock,
     )
-}
-
-// What is said on standard error before the call: the usage for words of no form, and at a terminal what is waited for.
-fn hint_for(words: &[Text], at_terminal: bool) -> Option<&'static str>
-    ensures { option_map (λ hint. hint.now) result ≡ hint_of (is_some (form_of words.now)) at_terminal }
-{
-    match form(words) {
-        None => Some(USAGE),
-        Some(_) if at_terminal => Some(WAITING),
-        Some(_) => None,
-    }
 }
 
 // The words after the program's name.

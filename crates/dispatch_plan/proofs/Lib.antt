@@ -1,6 +1,5 @@
-pub mod Lists
+pub mod Offers
 pub mod Ordered
 pub mod Past
 pub mod RankOrder
 pub mod Ranks
-pub mod RoundLemmas

@@ -1,14 +1,25 @@
 -- A rank that is greater than the last of some that are in order is greater than each, and comes after them.
-use Rattle.std.proofs.Common.{◌≡◌, ℕ, zero, suc, Bool, true, false, cond, List, [], ◌∷◌, ◌++◌, length, take, get_or, refl, sym, ap, ◌∙◌, arith}
+use Rattle.std.proofs.Common.{◌≡◌, ℕ, zero, suc, Bool, true, false, cond, List, [], ◌∷◌, ◌++◌, ◌-◌, length, take, get_or, eqb, refl, sym, ap, ◌∙◌, arith}
 use Rattle.std.specs.Ordering.{is_gt}
-use Rattle.std.proofs.lemmas.Bool.{false≢true}
+use Rattle.std.specs.List.{slice_get}
+use Rattle.std.proofs.lemmas.Bool.{false≢true, eqb-true}
+use Rattle.std.proofs.lemmas.Option.{get_or_from_slice_get}
 use Rattle.std.proofs.lemmas.Cmp.{upto}
 use Rattle.farm_types.specs.declared.dispatch.Rank.{Rank}
 use Rattle.farm_types.specs.Farm.{Farm}
 use Rattle.farm_types.specs.Dispatch.{rank_cmp, insert_rank}
-use Rattle.dispatch_plan.specs.Order.{StandsBefore, AreInOrder}
-use Rattle.dispatch_plan.proofs.Lists.{take_front}
+use Rattle.farm_types.specs.declared.limits.TheConstants.{CANDIDATES_EACH}
+use Rattle.farm_types.proofs.Lists.{and_both, for_some_true}
+use Rattle.dispatch_plan.specs.Order.{StandsBefore, AreInOrder, is_past}
 use Rattle.dispatch_plan.proofs.RankOrder.{rank_total}
+
+-- the front of a list is as many as it has
+take_front : {X : Type 0} (xs ys all : List X) → xs ++ ys ≡ all → take (length xs) all ≡ xs
+take_front {X} xs ys all e = ap (take (length xs)) (sym e) ∙ front xs
+  where
+    front : (xs : List X) → take (length xs) (xs ++ ys) ≡ xs
+    front [] = refl
+    front (x ∷ xs) = ap (λ zs. x ∷ zs) (front xs)
 
 -- ---- the first of a list in order
 
@@ -45,9 +56,16 @@ past f x y d (z ∷ zs) (suc n) ordered count h =
     let first = above_by f x y z (is_gt (rank_cmp f x y)) refl ordered.0 later.0 in
     (first, put_after f x y (z ∷ zs) ((z ∷ zs) ++ x ∷ []) first later.1)
 
--- as many as there are stay as they are, where a rank is greater than the last of them
-pub past_all : (f : Farm) (x d : Rank) (ys : List Rank) (n : ℕ) → AreInOrder f ys → length ys ≡ suc n → is_gt (rank_cmp f x (get_or ys n d)) ≡ true → take (suc n) (insert_rank f x ys) ≡ ys
+past_all : (f : Farm) (x d : Rank) (ys : List Rank) (n : ℕ) → AreInOrder f ys → length ys ≡ suc n → is_gt (rank_cmp f x (get_or ys n d)) ≡ true → take (suc n) (insert_rank f x ys) ≡ ys
 past_all f x d [] n ordered count h = absurd (omega arith)
 past_all f x d (y ∷ ys) n ordered count h =
     let put = (past f x y d ys n ordered (omega arith) h).1 in
     ap (λ k. take k (insert_rank f x (y ∷ ys))) (sym count) ∙ take_front (y ∷ ys) (x ∷ []) (insert_rank f x (y ∷ ys)) (sym put)
+
+-- as many as may be kept stay as they are, where a rank is greater than the last of them
+pub past_kept : (f : Farm) (x : Rank) (ys : List Rank) → AreInOrder f ys → is_past f x ys ≡ true → take CANDIDATES_EACH (insert_rank f x ys) ≡ ys
+past_kept f x ys ordered h =
+    let last = for_some_true (slice_get ys (CANDIDATES_EACH - 1)) _ h in
+    let both = and_both (eqb (length ys) CANDIDATES_EACH) (is_gt (rank_cmp f x last.0)) last.2 in
+    let at : get_or ys 63 last.0 ≡ last.0 = get_or_from_slice_get ys 63 last.0 last.0 last.1 in
+    past_all f x last.0 ys 63 ordered (eqb-true (length ys) CANDIDATES_EACH both.0) (ap (λ (y : Rank). is_gt (rank_cmp f x y)) at ∙ both.1)

@@ -9,6 +9,3 @@ mod rounds;
 pub use law::dispatch_lists_each_once;
 pub use planning::plan;
 pub use rounds::round;
-
-#[cfg(test)]
-mod tests;

@@ -43,10 +43,10 @@ fn rank_in(farm: &Farm, host: HostNo, slot: Slot, row: &SlotRow) -> Option<Rank>
     let Some(job) = farm.job(frame.job) else {
         return None;
     };
-    let Some(h) = farm.host(host) else {
+    let Some(host_row) = farm.host(host) else {
         return None;
     };
-    let Some(sub) = farm.sub_of(job.show, h.alloc) else {
+    let Some(sub) = farm.sub_of(job.show, host_row.alloc) else {
         return None;
     };
     Some(Rank {

@@ -1,89 +1,47 @@
 //! The round of bookings that follows a report.
 
-ghost use Rattle.std.specs.Prelude.{◌≡◌, true, IfOk, OnOk, OnErr};
-ghost use Rattle.farm_types.specs.Booking.{may_book};
-ghost use Rattle.farm_types.specs.Dispatch.{book_entry, round_from, bookings_each};
-ghost use Rattle.farm_types.specs.Step.{after};
-ghost use Rattle.dispatch_plan.specs.Offers.{IsPartOf, IsOffered};
-ghost use Rattle.dispatch_plan.specs.Rounds.{IsRound};
+ghost use Rattle.std.specs.Prelude.{◌≡◌, ◌∷◌, List};
+ghost use Rattle.farm_types.specs.declared.dispatch.Candidate as dispatch;
+ghost use Rattle.farm_types.specs.declared.limits.TheConstants.{BOOKINGS_EACH};
+ghost use Rattle.dispatch_plan.specs.Rounds.{IsRound, after_offers};
 
 use crate::planning::plan;
-use farm_core::{Farm, PrepareFault};
-use farm_types::{Act, Candidate, Cut, Entry, HostNo};
-use std::alloc::{AllocError, Global};
+use farm_core::Farm;
+use farm_types::{BOOKINGS_EACH, Candidate, Cut, HostNo};
+use std::alloc::Global;
 
-/// How many bookings follow a report at most.
-const BOOKINGS: u32 = 12;
-
-/// Books the frames that the plan for the host offers, in turn, each where it still may be booked, until 12 are. Want of memory ends the
-/// round early, after some of its bookings.
+/// Books the frames that the plan for the host offers, in turn, each where it still may be booked, until 12 are.
+/// Memory is needed for the plan alone: where it runs out, nothing is booked.
 pub fn round(alloc: Global, farm: &mut Farm, host: HostNo, moment: u64) -> Cut
     ensures { IsRound farm.old host moment result farm.new }
 {
     match plan(alloc, farm, host) {
-        Ok(candidates) => book_in_turn(alloc, farm, moment, candidates.as_slice()),
+        Ok(candidates) => {
+            book_in_turn(farm, moment, candidates.as_slice());
+            Cut::Whole
+        }
         Err(_) => Cut::Memory,
     }
 }
 
 // The candidates in turn, until so many are booked.
-fn book_in_turn(alloc: Global, farm: &mut Farm, moment: u64, candidates: &[Candidate]) -> Cut
-    ensures { IsPartOf farm.old (round_from bookings_each farm.old moment candidates.now) result farm.new }
+fn book_in_turn(farm: &mut Farm, moment: u64, candidates: &[Candidate])
+    ensures { farm.new ≡ after_offers BOOKINGS_EACH farm.old moment candidates.now }
 {
-    let mut left = BOOKINGS;
+    let mut left = BOOKINGS_EACH;
     for candidate in candidates {
-        match offer(alloc, farm, left, candidate, moment) {
-            Ok(still_left) => left = still_left,
-            Err(_) => return Cut::Memory,
-        }
+        left = offer(farm, left, candidate, moment);
     }
-    Cut::Whole
 }
 
-// Books the candidate where bookings are left and it still may be booked, and says how many are left then. At an `Err` the farm is as before.
-fn offer(
-    alloc: Global,
-    farm: &mut Farm,
-    left: u32,
-    candidate: &Candidate,
-    moment: u64,
-) -> Result<u32, AllocError>
-    ensures ok { IfOk result (λ still_left. IsOffered farm.old left candidate.now moment farm.new still_left) }
-    ensures err { OnErr result (farm.new ≡ farm.old) }
+// Books the candidate where bookings are left and it still may be booked, and says how many are left then.
+fn offer(farm: &mut Farm, left: u32, candidate: &Candidate, moment: u64) -> u32
+    ensures { (later : List dispatch.Candidate) → after_offers result farm.new moment later ≡ after_offers left farm.old moment (candidate.now ∷ later) }
 {
     if left > 0 && farm.may_book(candidate.slot, candidate.host) {
-        book(alloc, farm, candidate, moment)?;
-        Ok(left - 1)
+        farm.book(candidate.slot, candidate.host, moment);
+        left - 1
     } else {
-        Ok(left)
-    }
-}
-
-// Records one booking. At an `Err` the farm is as before.
-fn book(
-    alloc: Global,
-    farm: &mut Farm,
-    candidate: &Candidate,
-    moment: u64,
-) -> Result<(), AllocError>
-    requires { may_book farm.old candidate.now.slot candidate.now.host ≡ true }
-    ensures ok { OnOk result (farm.new ≡ after farm.old (book_entry candidate.now moment)) }
-    ensures err { OnErr result (farm.new ≡ farm.old) }
-{
-    let entry = Entry {
-        moment,
-        act: Act::Book {
-            slot: candidate.slot,
-            host: candidate.host,
-        },
-    };
-    match farm.prepare(alloc, &entry) {
-        Ok(mut change) => {
-            farm.reserve(alloc, &mut change)?;
-            farm.apply(change);
-            Ok(())
-        }
-        Err(PrepareFault::NoMemory) => Err(AllocError),
-        Err(PrepareFault::Refused { .. }) => unreachable!(),
+        left
     }
 }

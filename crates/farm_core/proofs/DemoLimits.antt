@@ -3,7 +3,7 @@ use Rattle.std.proofs.Common.{[], refl, arith}
 use Rattle.std.proofs.lemmas.List.Elements.{All-nil, All-push}
 use Rattle.farm_types.specs.SpecLimits.{LayerKeepsLimits, JobKeepsLimits}
 use Rattle.farm_core.specs.DemoJob.{demo_spec, demo_layer_spec, demo_numbers}
-use Rattle.farm_core.proofs.Distinct.{all_apart}
+use Rattle.farm_core.proofs.DistinctNumbers.{all_apart}
 
 layer_keeps : LayerKeepsLimits demo_layer_spec
 layer_keeps =

@@ -7,7 +7,7 @@ use Rattle.std.proofs.lemmas.Bool.{false≢true, eqb-true}
 use Rattle.farm_types.specs.declared.attempt.ProcRow.{ProcRow}
 use Rattle.farm_types.specs.declared.boot.BootLine.{BootLine}
 use Rattle.farm_types.specs.declared.rows.SubRow.{SubRow}
-use Rattle.farm_types.specs.declared.slot_row.FrameRow.{FrameRow}
+use Rattle.farm_types.specs.declared.slot_row.Frame.{Frame}
 use Rattle.farm_types.specs.declared.slot_row.SlotRow.{SlotRow}
 use Rattle.farm_types.specs.Farm.{Farm, changed_at}
 use Rattle.farm_types.specs.Jobs.{place_frames}
@@ -15,10 +15,10 @@ use Rattle.farm_types.specs.Lost.{lose_on, lost_row, runs_on}
 use Rattle.farm_types.specs.Step.{slots_at_boot}
 use Rattle.farm_types.specs.Subs.{with_sub}
 use Rattle.farm_core.specs.Consistent.{OfSubIn, is_sub_within}
-use Rattle.farm_core.proofs.Booted.{boot_slots}
-use Rattle.farm_core.proofs.Changed.{changed_at_each, mapped_each}
-use Rattle.farm_core.proofs.Lists.{and_both}
-use Rattle.farm_core.proofs.Placed.{waits, placed_each}
+use Rattle.farm_law.proofs.Booted.{boot_slots}
+use Rattle.farm_types.proofs.Changed.{changed_at_each, mapped_each}
+use Rattle.farm_types.proofs.Lists.{and_both}
+use Rattle.farm_law.proofs.Placed.{waits, placed_each}
 
 -- each live attempt of the slots is booked of one of the subscriptions
 abbrev pub AreOf : List SubRow → List SlotRow → Type 0
@@ -92,5 +92,5 @@ lost_subs subs slots test of =
 pub boot_subs : (f : Farm) (line : BootLine) (o : Option ℕ) → AreOf f.subs f.slots → AreOf f.subs (slots_at_boot f line o)
 boot_subs f line o of = boot_slots (AreOf f.subs) f line o of (λ host. lost_subs f.subs f.slots (λ n. eqb n host) of)
 
-pub placed_subs : (subs : List SubRow) (slots : List SlotRow) (xs : List FrameRow) → list_all waits xs ≡ true → AreOf subs slots → AreOf subs (place_frames slots xs)
+pub placed_subs : (subs : List SubRow) (slots : List SlotRow) (xs : List Frame) → list_all waits xs ≡ true → AreOf subs slots → AreOf subs (place_frames slots xs)
 placed_subs subs slots xs all of = placed_each (λ i s. OfSubIn subs s.proc) slots xs all of (λ i s x at free w. of i s at) (λ i x past w. tt)

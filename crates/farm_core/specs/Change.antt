@@ -10,12 +10,12 @@ use Rattle.farm_types.specs.declared.attempt.ProcRow.{ProcRow}
 use Rattle.farm_types.specs.declared.boot.BootLine.{BootLine}
 use Rattle.farm_types.specs.declared.job.JobSpec.{JobSpec}
 use Rattle.farm_types.specs.declared.refusal.Refusal.TheVariants.{Unknown}
-use Rattle.farm_types.specs.Answers.{answer_of as entry_answer}
+use Rattle.farm_types.specs.EntryAnswers.{answer_of as entry_answer}
 use Rattle.farm_types.specs.Farm.{Farm, changed_at, host_named, alloc_name}
 use Rattle.farm_types.specs.Booking.{may_record}
 use Rattle.farm_types.specs.Hosts.{heard_row, locked_row, reopened_row}
 use Rattle.farm_types.specs.Jobs.{job_refusal, with_job}
-use Rattle.farm_types.specs.Limits.{most_shows, most_burst, sub_numbers, BootKeepsLimits}
+use Rattle.farm_types.specs.Limits.{BootKeepsLimits}
 use Rattle.farm_types.specs.SpecLimits.{JobKeepsLimits}
 use Rattle.farm_types.specs.Step.{refusal_of, booked_row, end_all, new_proc, lists_of, with_lists, at_moment, after, after_boot, expire}
 use Rattle.farm_types.specs.Subs.{with_sub}
@@ -27,10 +27,11 @@ use Rattle.job_book.specs.declared.placing.Placing.{Placing}
 use Rattle.farm_core.specs.declared.change.Change.{Change}
 use Rattle.farm_core.specs.declared.change.Effect.{Effect}
 use Rattle.farm_core.specs.declared.change.Effect.TheVariants as effect
-use Rattle.farm_core.specs.declared.change.Room.{Room}
-use Rattle.farm_core.specs.declared.change.Room.TheVariants as room
+use Rattle.farm_core.specs.declared.change.Reserved.{Reserved}
+use Rattle.farm_core.specs.declared.change.Reserved.TheVariants as taken
 use Rattle.farm_core.specs.declared.fault.PrepareFault.{PrepareFault}
 use Rattle.farm_core.specs.declared.fault.PrepareFault.TheVariants.{Refused, NoMemory}
+use Rattle.farm_types.specs.declared.limits.TheConstants.{MOST_BURST, MOST_SHOWS, SUB_NUMBERS}
 
 -- ---- what a change does
 
@@ -64,20 +65,20 @@ pub record IsPlacement (f : Farm) (placing : Placing) (spec : JobSpec) : Type 0 
   pub accepted : job_refusal (lists_of f) spec ≡ None
   pub placed : placing ≡ placing_of (lists_of f) placing.show spec
 
--- the boot keeps its limits, and comes to what is planned
+-- the boot keeps its limits, and is planned so
 pub record IsBoot (f : Farm) (planned : BootPlan) (line : BootLine) : Type 0 where
   pub limits : BootKeepsLimits line
   pub plan_is : plan_of f.hosts line (alloc_of planned) ≡ Ok planned
 
 -- a subscription's number and amounts are within their limits
 pub record IsSub (sub size burst : ℕ) : Type 0 where
-  pub number_within : sub < sub_numbers
-  pub size_within : size ≤ most_burst
-  pub burst_within : burst ≤ most_burst
+  pub number_within : sub < SUB_NUMBERS
+  pub size_within : size ≤ MOST_BURST
+  pub burst_within : burst ≤ MOST_BURST
 
 abbrev pub Fits : Farm → Effect → Type 0
 Fits f effect.Opened = Unit {0}
-Fits f (effect.Show name) = length f.shows < most_shows
+Fits f (effect.Show name) = length f.shows < MOST_SHOWS
 Fits f (effect.Alloc facility tag) = check_of f.allocs (alloc_name facility tag) ≡ Ok (length f.allocs)
 Fits f (effect.Sub sub size burst booked) = IsSub sub size burst
 Fits f (effect.Boot planned line) = IsBoot f planned line
@@ -93,20 +94,20 @@ pub record IsReady (f : Farm) (change : Change) : Type 0 where
   pub fits : Fits f change.effect
 
 -- the memory that the effect needs
-abbrev pub room_of : Effect → Room
-room_of (effect.Alloc facility tag) = room.Alloc (record { facility = facility; tag = tag })
-room_of (effect.Boot planned line) = room.Host line
-room_of (effect.Submit placing spec) = room.Job spec
-room_of other = room.None
+abbrev pub memory_of : Effect → Reserved
+memory_of (effect.Alloc facility tag) = taken.Alloc (record { facility = facility; tag = tag })
+memory_of (effect.Boot planned line) = taken.Host line
+memory_of (effect.Submit placing spec) = taken.Job spec
+memory_of other = taken.None
 
 -- the memory that the change needs was taken
 pub record IsReserved (change : Change) : Type 0 where
   pub taken : change.reserved ≡ true
-  pub room_is : change.room ≡ room_of change.effect
+  pub memory_is : change.memory ≡ memory_of change.effect
 
 -- the same change, with its memory taken
 abbrev pub reserved_of : Change → Change
-reserved_of change = record change { reserved = true; room = room_of change.effect }
+reserved_of change = record change { reserved = true; memory = memory_of change.effect }
 
 -- ---- answers
 
@@ -153,13 +154,13 @@ pub record Makes (f : Farm) (e : Entry) (change : Change) : Type 0 where
   pub farm : after_change f change ≡ after f e
   pub answer : answer_of change ≡ entry_answer f e
 
--- a change that makes the entry, or exactly the farm's refusal; want of memory needs no cause
+-- a change that makes the entry, or exactly the farm's refusal; running out of memory needs no cause
 abbrev pub Prepares : Farm → Entry → Result Change PrepareFault → Type 0
 Prepares f e (Ok change) = Makes f e change
 Prepares f e (Err (Refused why)) = refusal_of f e ≡ Some why
 Prepares f e (Err NoMemory) = Unit {0}
 
--- a refusal that nothing of that name is there, or want of memory
+-- a refusal that nothing of that name is there, or out of memory
 abbrev pub IsUnknown : List ℕ → PrepareFault → Type 0
 IsUnknown name (Refused why) = why ≡ Unknown name
 IsUnknown name NoMemory = Unit {0}

@@ -6,16 +6,16 @@ use Rattle.farm_types.specs.declared.rows.HostRow.{HostRow}
 use Rattle.farm_types.specs.declared.rows.SubRow.{SubRow}
 use Rattle.farm_types.specs.declared.slot_row.SlotRow.{SlotRow}
 use Rattle.farm_types.specs.Farm.{Farm}
-use Rattle.farm_types.specs.Limits.{most_shows, most_allocs, most_hosts, most_cores, most_memory, most_burst, sub_numbers}
 use Rattle.farm_types.specs.Run.{IsSound, HasItsHosts}
+use Rattle.farm_types.specs.declared.limits.TheConstants.{MOST_ALLOCS, MOST_BURST, MOST_CORES, MOST_HOSTS, MOST_MEMORY, MOST_SHOWS, SUB_NUMBERS}
 
 -- the host's amounts are within the greatest
 abbrev pub is_host_within : HostRow → Bool
-is_host_within h = nat_le h.cores most_cores && nat_le h.memory most_memory
+is_host_within h = nat_le h.cores MOST_CORES && nat_le h.memory MOST_MEMORY
 
 -- the subscription's number, size and burst are within the greatest
 abbrev pub is_sub_within : SubRow → Bool
-is_sub_within s = nat_lt s.sub sub_numbers && (nat_le s.size most_burst && nat_le s.burst most_burst)
+is_sub_within s = nat_lt s.sub SUB_NUMBERS && (nat_le s.size MOST_BURST && nat_le s.burst MOST_BURST)
 
 -- each live attempt is booked of a subscription that is there
 abbrev pub OfSubIn : List SubRow → Option ProcRow → Type 0
@@ -33,6 +33,6 @@ pub record IsConsistent (f : Farm) : Type 0 where
   pub subscribed : HasItsSubs f
   pub hosts_within : list_all is_host_within f.hosts ≡ true
   pub subs_within : list_all is_sub_within f.subs ≡ true
-  pub show_count : length f.shows ≤ most_shows
-  pub alloc_count : length f.allocs ≤ most_allocs
-  pub host_count : length f.hosts ≤ most_hosts
+  pub show_count : length f.shows ≤ MOST_SHOWS
+  pub alloc_count : length f.allocs ≤ MOST_ALLOCS
+  pub host_count : length f.hosts ≤ MOST_HOSTS

@@ -5,15 +5,15 @@ use Rattle.farm_types.specs.declared.job.JobSpec.{JobSpec}
 use Rattle.farm_types.specs.declared.job.LayerSpec.{LayerSpec}
 use Rattle.farm_types.specs.Demo.{demo_job, demo_layer, demo_slots}
 use Rattle.farm_types.specs.Jobs.{JobLists}
-use Rattle.farm_types.specs.Limits.{sub_numbers}
 use Rattle.sub_ledger.specs.Ledger.{Ledger}
+use Rattle.farm_types.specs.declared.limits.TheConstants.{SUB_NUMBERS}
 
 abbrev pub demo_line : BootLine
 demo_line = record { host = codes "h1"; nonce = 1; alloc = codes "farm.general"; tags = []; cores = 800; memory = 33554432 }
 
 -- the subscription, of which nothing is booked
 unfoldable pub demo_ledger : Ledger
-demo_ledger = record { subs = record { sub = 0; size = 400; burst = 400 } ∷ []; booked = replicate sub_numbers 0 }
+demo_ledger = record { subs = record { sub = 0; size = 400; burst = 400 } ∷ []; booked = replicate SUB_NUMBERS 0 }
 
 abbrev pub demo_numbers : List ℤ
 demo_numbers = pos 1 ∷ pos 2 ∷ pos 3 ∷ pos 4 ∷ pos 5 ∷ pos 6 ∷ pos 7 ∷ pos 8 ∷ pos 9 ∷ pos 10 ∷ []

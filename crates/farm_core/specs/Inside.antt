@@ -22,7 +22,7 @@ farm_of a =
       next_depend = a.next_depend;
       next_finish = a.next_finish;
       moment = a.moment;
-      marked = a.marked;
+      recorded = a.recorded;
     }
 
 -- the totals: those by host, and those of the ledger

@@ -2,8 +2,8 @@
 use Rattle.std.specs.Prelude.{ℕ, ◌≡◌, ◌+◌, ◌-◌, List, length}
 use Rattle.farm_types.specs.declared.attempt.ProcRow.{ProcRow}
 use Rattle.farm_types.specs.Farm.{Farm, changed_at}
-use Rattle.farm_types.specs.Limits.{sub_numbers}
 use Rattle.farm_types.specs.Sums.{used_cores, used_memory, booked_in, total_at}
+use Rattle.farm_types.specs.declared.limits.TheConstants.{SUB_NUMBERS}
 
 -- by host, the cores and the memory that live attempts use; by subscription number, the cores that are booked
 pub record Totals : Type 0 where
@@ -38,4 +38,4 @@ pub record KeepsTotals (f : Farm) (t : Totals) : Type 0 where
   pub booked_kept : (n : ℕ) → total_at t.booked n ≡ booked_in f n
   pub cores_counted : length t.cores ≡ length f.hosts
   pub memory_counted : length t.memory ≡ length f.hosts
-  pub booked_counted : length t.booked ≡ sub_numbers
+  pub booked_counted : length t.booked ≡ SUB_NUMBERS

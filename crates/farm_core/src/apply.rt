@@ -7,11 +7,11 @@ ghost use Rattle.farm_types.specs.Hosts.{heard_row};
 ghost use Rattle.farm_types.specs.Jobs.{with_job};
 ghost use Rattle.farm_types.specs.Step.{after_boot, at_moment, end_all, expire, lists_of, with_lists};
 ghost use Rattle.host_book.specs.Book.{alloc_of};
-ghost use Rattle.farm_core.specs.Change.{Fits, IsBoot, IsPlacement, IsReady, IsReserved, after_change, after_effect, answer_of, reserved_of, room_of};
-ghost use Rattle.farm_core.specs.Kinds.{is_of_hosts, is_plain};
-ghost use Rattle.farm_core.specs.declared.change.Room.TheVariants as taken;
+ghost use Rattle.farm_core.specs.Change.{Fits, IsBoot, IsPlacement, IsReady, IsReserved, after_change, after_effect, answer_of, reserved_of, memory_of};
+ghost use Rattle.farm_core.specs.EffectKinds.{is_of_hosts, is_plain};
+ghost use Rattle.farm_core.specs.declared.change.Reserved.TheVariants as taken;
 
-use crate::change::{Change, Effect, Room};
+use crate::change::{Change, Effect, Reserved};
 use crate::farm::Farm;
 use farm_types::{Answer, BootLine, DoneItem, HostNo, JobSpec, Text};
 use host_book::BootPlan;
@@ -25,25 +25,25 @@ impl Farm {
         ensures ok { OnOk result (change.new ≡ reserved_of change.old) }
         ensures err { OnErr result (change.new ≡ change.old) }
     {
-        let room = self.room_for(alloc, &change.effect)?;
+        let memory = self.memory_for(alloc, &change.effect)?;
         change.reserved = true;
-        change.room = room;
+        change.memory = memory;
         Ok(())
     }
 
     // The memory that the effect needs.
-    fn room_for(&mut self, alloc: Global, effect: &Effect) -> Result<Room, AllocError>
+    fn memory_for(&mut self, alloc: Global, effect: &Effect) -> Result<Reserved, AllocError>
         ensures farm { self.new ≡ self.old }
-        ensures room { IfOk result (λ room. room ≡ room_of effect.now) }
+        ensures memory { IfOk result (λ memory. memory ≡ memory_of effect.now) }
     {
         match effect {
             Effect::Alloc { facility, tag } => {
                 let spare = self.allocs.reserve(alloc, facility.as_str(), tag.as_str())?;
-                Ok(Room::Alloc(spare))
+                Ok(Reserved::Alloc(spare))
             }
-            Effect::Boot { line, .. } => Ok(Room::Host(self.hosts.reserve(alloc, line)?)),
-            Effect::Submit { spec, .. } => Ok(Room::Job(self.jobs.reserve(alloc, spec)?)),
-            _ => Ok(Room::None),
+            Effect::Boot { line, .. } => Ok(Reserved::Host(self.hosts.reserve(alloc, line)?)),
+            Effect::Submit { spec, .. } => Ok(Reserved::Job(self.jobs.reserve(alloc, spec)?)),
+            _ => Ok(Reserved::None),
         }
     }
 
@@ -56,21 +56,34 @@ impl Farm {
         ensures hosts { length self.old.hosts ≤ length self.new.hosts }
     {
         let answer = change.answer();
-        self.come_to(change.moment);
-        self.act(change.moment, change.effect, change.room);
+        self.advance_to(change.moment);
+        self.act(change.moment, change.effect, change.memory);
         answer
     }
 
+    /// Takes the memory that the change needs, and applies it. At an `Err`, where memory ran out, the farm is as before.
+    pub fn record(&mut self, alloc: Global, change: Change) -> Result<(), AllocError>
+        requires { IsReady self.old change }
+        ensures ok { OnOk result (self.new ≡ after_change self.old change) }
+        ensures err { OnErr result (self.new ≡ self.old) }
+        ensures hosts { length self.old.hosts ≤ length self.new.hosts }
+    {
+        let mut change = change;
+        self.reserve(alloc, &mut change)?;
+        self.apply(change);
+        Ok(())
+    }
+
     // What the effect does at the moment, with the memory that was taken for it.
-    fn act(&mut self, moment: u64, effect: Effect, room: Room)
+    fn act(&mut self, moment: u64, effect: Effect, memory: Reserved)
         requires fits { Fits self.old effect }
-        requires room { room ≡ room_of effect }
+        requires memory { memory ≡ memory_of effect }
         ensures { self.new ≡ after_effect self.old moment effect }
     {
         match effect {
-            Effect::Alloc { facility, tag } => self.alloc_in(room, &facility, &tag),
-            Effect::Boot { plan, line } => self.boot_in(room, plan, &line, moment),
-            Effect::Submit { placing, spec } => self.place_in(room, placing, &spec),
+            Effect::Alloc { facility, tag } => self.alloc_in(memory, &facility, &tag),
+            Effect::Boot { plan, line } => self.boot_in(memory, plan, &line, moment),
+            Effect::Submit { placing, spec } => self.place_in(memory, placing, &spec),
             other => self.act_on_rows(moment, other),
         }
     }
@@ -89,7 +102,7 @@ impl Farm {
                 burst,
                 booked: _booked,
             } => self.set_sub(sub, size, burst),
-            Effect::Book { slot, proc } => self.book(slot, proc),
+            Effect::Book { slot, proc } => self.start(slot, proc),
             other => self.act_on_hosts(moment, other),
         }
     }
@@ -118,24 +131,24 @@ impl Farm {
     }
 
     // An allocation is added, in the memory that was taken for it.
-    fn alloc_in(&mut self, room: Room, facility: &Text, tag: &Text)
+    fn alloc_in(&mut self, memory: Reserved, facility: &Text, tag: &Text)
         requires fits { check_of self.old.allocs (alloc_name facility.now tag.now) ≡ Ok (length self.old.allocs) }
-        requires room { room ≡ taken.Alloc (record { facility = facility.now; tag = tag.now }) }
+        requires memory { memory ≡ taken.Alloc (record { facility = facility.now; tag = tag.now }) }
         ensures { self.new ≡ record self.old { allocs = self.old.allocs ++ record { facility = facility.now; tag = tag.now } ∷ [] } }
     {
-        let Room::Alloc(spare) = room else {
+        let Reserved::Alloc(spare) = memory else {
             unreachable!()
         };
         self.add_alloc(spare);
     }
 
     // A host boots, once silent hosts went down.
-    fn boot_in(&mut self, room: Room, plan: BootPlan, line: &BootLine, moment: u64)
+    fn boot_in(&mut self, memory: Reserved, plan: BootPlan, line: &BootLine, moment: u64)
         requires fits { IsBoot self.old plan line.now }
-        requires room { room ≡ taken.Host line.now }
+        requires memory { memory ≡ taken.Host line.now }
         ensures { self.new ≡ after_boot (expire self.old moment) line.now moment (Some (alloc_of plan)) }
     {
-        let Room::Host(spare) = room else {
+        let Reserved::Host(spare) = memory else {
             unreachable!()
         };
         self.expire(moment);
@@ -143,12 +156,12 @@ impl Farm {
     }
 
     // A job is placed, in the memory that was taken for it.
-    fn place_in(&mut self, room: Room, placing: Placing, spec: &JobSpec)
+    fn place_in(&mut self, memory: Reserved, placing: Placing, spec: &JobSpec)
         requires fits { IsPlacement self.old placing spec.now }
-        requires room { room ≡ taken.Job spec.now }
+        requires memory { memory ≡ taken.Job spec.now }
         ensures { self.new ≡ with_lists self.old (with_job (lists_of self.old) placing.show spec.now) }
     {
-        let Room::Job(spare) = room else {
+        let Reserved::Job(spare) = memory else {
             unreachable!()
         };
         self.place(spare, placing);
@@ -164,11 +177,11 @@ impl Farm {
         self.end_all(host, boot, done);
     }
 
-    // The farm comes to the moment, and is marked as one that an entry made.
-    fn come_to(&mut self, moment: u64)
+    // The farm comes to the moment, and is recorded as one that an entry made.
+    pub(crate) fn advance_to(&mut self, moment: u64)
         ensures { self.new ≡ at_moment self.old moment }
     {
         self.moment = moment;
-        self.marked = true;
+        self.recorded = true;
     }
 }

@@ -5,11 +5,11 @@ ghost use Rattle.farm_types.specs.Farm.{changed_at, host_named};
 ghost use Rattle.farm_types.specs.Hosts.{heard_row, locked_row, reopened_row};
 ghost use Rattle.farm_types.specs.Step.{after_boot, slots_at_boot};
 ghost use Rattle.host_book.specs.Book.{alloc_of};
-ghost use Rattle.farm_types.specs.Limits.{most_hosts};
 ghost use Rattle.farm_core.specs.Change.{IsBoot};
 ghost use Rattle.farm_core.specs.Usage.{grown_where};
+ghost use Rattle.farm_types.specs.declared.limits.TheConstants.{MOST_HOSTS};
 
-use crate::expire::Doomed;
+use crate::expire::LostHosts;
 use crate::farm::Farm;
 use crate::usage::Usage;
 use farm_types::{BootLine, HostNo, LockState};
@@ -64,14 +64,14 @@ impl Farm {
         if row.nonce == line.nonce {
             return;
         }
-        self.lose_all(&Doomed::On { host });
+        self.lose_all(&LostHosts::On { host });
     }
 }
 
 // Where the host is new, nothing is used of it yet.
 fn grow_where(usage: &mut Usage, is_new: bool)
-    requires cores { is_new ≡ true → length usage.old.cores < most_hosts }
-    requires memory { is_new ≡ true → length usage.old.memory < most_hosts }
+    requires cores { is_new ≡ true → length usage.old.cores < MOST_HOSTS }
+    requires memory { is_new ≡ true → length usage.old.memory < MOST_HOSTS }
     ensures { usage.new ≡ grown_where is_new usage.old }
 {
     if is_new {

@@ -4,10 +4,10 @@ ghost use Rattle.std.specs.Prelude.{◌≡◌, ◌<◌, ◌++◌, ◌∷◌, [],
 ghost use Rattle.alloc_tags.specs.Book.{check_of};
 ghost use Rattle.farm_types.specs.Farm.{alloc_name};
 ghost use Rattle.farm_types.specs.Jobs.{with_job};
-ghost use Rattle.farm_types.specs.Limits.{most_shows};
 ghost use Rattle.farm_types.specs.Step.{lists_of, with_lists};
 ghost use Rattle.farm_types.specs.Subs.{with_sub};
 ghost use Rattle.farm_core.specs.Change.{IsPlacement, IsSub};
+ghost use Rattle.farm_types.specs.declared.limits.TheConstants.{MOST_SHOWS};
 
 use crate::farm::Farm;
 use alloc_tags::Spare;
@@ -17,7 +17,7 @@ use job_book::{JobSpare, Placing};
 impl Farm {
     // A show is added.
     pub(crate) fn add_show(&mut self, name: Text)
-        requires { length self.old.shows < most_shows }
+        requires { length self.old.shows < MOST_SHOWS }
         ensures { self.new ≡ record self.old { shows = self.old.shows ++ record { name = name } ∷ [] } }
     {
         self.shows.add(name);

@@ -1,20 +1,17 @@
 //! When a frame may be booked on a host.
 
-ghost use Rattle.std.specs.Prelude.{◌≡◌, ◌<◌, length, is_some, IfSome};
-ghost use Rattle.farm_types.specs.Farm.{sub_at, sub_of};
+ghost use Rattle.std.specs.Prelude.{◌≡◌, is_some, IfSome};
+ghost use Rattle.farm_types.specs.Farm.{sub_of};
 ghost use Rattle.farm_types.specs.Depends.{is_open};
-ghost use Rattle.farm_types.specs.Booking.{is_waiting, is_ready, in_facility, takes_frames, has_room, within_burst, may_place, may_record, may_book, tags_match};
+ghost use Rattle.farm_types.specs.Booking.{is_waiting, is_ready, in_facility, takes_frames, has_capacity, within_burst, may_place, may_record, may_book, tags_match};
 ghost use Rattle.farm_core.specs.Reads.{rows_share_tag};
 
 use crate::farm::Farm;
 use alloc_tags::matches;
 use farm_types::{
-    AllocNo, FrameRow, FrameState, HostNo, HostRow, HostState, JobRow, JobState, LayerRow,
-    LockState, ShowNo, Slot, SubRow, Text, Version,
+    AllocNo, Frame, FrameState, HostNo, HostRow, HostState, JobRow, JobState, LAST_VERSION,
+    LayerRow, LockState, ShowNo, Slot, Text, Version,
 };
-
-/// The last version of a slot, at which it stays.
-const LAST_VERSION: u32 = 16_777_215;
 
 impl Farm {
     /// Whether a booking of the slot's frame on the host may be recorded.
@@ -30,7 +27,7 @@ impl Farm {
     {
         match self.booking(slot, host) {
             None => false,
-            Some((layer, h)) => self.tags_match(layer, h),
+            Some((layer, host_row)) => self.tags_match(layer, host_row),
         }
     }
 
@@ -55,22 +52,14 @@ impl Farm {
         let Some(layer) = self.layer(frame.job, frame.layer) else {
             return None;
         };
-        let Some(h) = self.host(host) else {
+        let Some(host_row) = self.host(host) else {
             return None;
         };
-        if self.may_place(slot, host, row.version, frame, job, layer, h) {
-            Some((layer, h))
+        if self.may_place(slot, host, row.version, frame, job, layer, host_row) {
+            Some((layer, host_row))
         } else {
             None
         }
-    }
-
-    // The subscription of the show to the allocation.
-    pub(crate) fn sub_row(&self, show: ShowNo, alloc: AllocNo) -> Option<SubRow>
-        ensures value { result ≡ sub_at self.now (sub_of show alloc) }
-        ensures number { IfSome result (λ s. s.sub ≡ sub_of show alloc) }
-    {
-        self.sub_of(show, alloc)
     }
 
     // Whether the frame of that job and layer may be booked on the host.
@@ -79,20 +68,19 @@ impl Farm {
         slot: Slot,
         host: HostNo,
         version: Version,
-        frame: &FrameRow,
+        frame: &Frame,
         job: &JobRow,
         layer: &LayerRow,
-        h: &HostRow,
+        host_row: &HostRow,
     ) -> bool
-        requires { host < length self.now.hosts }
-        ensures { result ≡ may_place self.now slot host version frame.now job.now layer.now h.now }
+        ensures { result ≡ may_place self.now slot host version frame.now job.now layer.now host_row.now }
     {
         is_ready(version, frame, job)
             && self.is_open(slot)
-            && self.in_facility(h.alloc, &job.facility)
-            && takes_frames(h)
-            && self.has_room(host, h, layer)
-            && self.within_burst(job.show, h.alloc, layer)
+            && self.in_facility(host_row.alloc, &job.facility)
+            && takes_frames(host_row)
+            && self.has_capacity(host, host_row, layer)
+            && self.within_burst(job.show, host_row.alloc, layer)
     }
 
     // Whether the frame in the slot waits for no other. The farm has no depends yet.
@@ -110,25 +98,24 @@ impl Farm {
     {
         match self.allocation(alloc) {
             None => false,
-            Some(a) => a.facility.is(facility.as_str()),
+            Some(allocation) => allocation.facility.is(facility.as_str()),
         }
     }
 
-    // Whether there is room on the host for the layer's amounts.
-    fn has_room(&self, host: HostNo, h: &HostRow, layer: &LayerRow) -> bool
-        requires { host < length self.now.hosts }
-        ensures { result ≡ has_room self.now host h.now layer.now }
+    // Whether the host has capacity for the layer's amounts.
+    fn has_capacity(&self, host: HostNo, host_row: &HostRow, layer: &LayerRow) -> bool
+        ensures { result ≡ has_capacity self.now host host_row.now layer.now }
     {
         let (cores, memory) = self.used(host);
-        u64::from(cores.0) + u64::from(layer.cores.0) <= u64::from(h.cores.0)
-            && u128::from(memory.0) + u128::from(layer.memory.0) <= u128::from(h.memory.0)
+        u64::from(cores.0) + u64::from(layer.cores.0) <= u64::from(host_row.cores.0)
+            && u128::from(memory.0) + u128::from(layer.memory.0) <= u128::from(host_row.memory.0)
     }
 
     // Whether the booked cores with the layer's are within the burst of the show's subscription.
     fn within_burst(&self, show: ShowNo, alloc: AllocNo, layer: &LayerRow) -> bool
         ensures { result ≡ within_burst self.now (sub_of show alloc) layer.now }
     {
-        match self.sub_row(show, alloc) {
+        match self.sub_of(show, alloc) {
             None => false,
             Some(s) => {
                 u64::from(self.booked(s.sub).0) + u64::from(layer.cores.0) <= u64::from(s.burst.0)
@@ -137,12 +124,12 @@ impl Farm {
     }
 
     // Whether the tags of the layer and those of the host share a word.
-    fn tags_match(&self, layer: &LayerRow, h: &HostRow) -> bool
-        ensures { result ≡ rows_share_tag self.now layer.now h.now }
+    fn tags_match(&self, layer: &LayerRow, host_row: &HostRow) -> bool
+        ensures { result ≡ rows_share_tag self.now layer.now host_row.now }
     {
-        match self.allocation(h.alloc) {
+        match self.allocation(host_row.alloc) {
             None => false,
-            Some(a) => matches(&h.tags, a.tag.as_str(), &layer.tags),
+            Some(allocation) => matches(&host_row.tags, allocation.tag.as_str(), &layer.tags),
         }
     }
 }
@@ -155,7 +142,7 @@ fn is_waiting(state: FrameState) -> bool
 }
 
 // Whether the frame waits below the last version, and its job is pending and not paused.
-fn is_ready(version: Version, frame: &FrameRow, job: &JobRow) -> bool
+fn is_ready(version: Version, frame: &Frame, job: &JobRow) -> bool
     ensures { result ≡ is_ready version frame.now job.now }
 {
     is_waiting(frame.state)
@@ -165,8 +152,8 @@ fn is_ready(version: Version, frame: &FrameRow, job: &JobRow) -> bool
 }
 
 // Whether the host is up and open.
-fn takes_frames(h: &HostRow) -> bool
-    ensures { result ≡ takes_frames h.now }
+fn takes_frames(host_row: &HostRow) -> bool
+    ensures { result ≡ takes_frames host_row.now }
 {
-    matches!(h.state, HostState::Up) && matches!(h.lock, LockState::Unlocked)
+    matches!(host_row.state, HostState::Up) && matches!(host_row.lock, LockState::Unlocked)
 }

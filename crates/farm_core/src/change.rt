@@ -11,13 +11,13 @@ use farm_types::{
 use host_book::{BootPlan, HostSpare};
 use job_book::{JobSpare, Placing};
 
-/// A change that the farm prepared for an entry, at its moment (seconds). It is applied once its room is reserved.
+/// A change that the farm prepared for an entry, at its moment (seconds). It is applied once its memory is reserved.
 #[derive(Debug, Drop)]
 pub struct Change {
     pub(crate) moment: u64,
     pub(crate) effect: Effect,
     pub(crate) reserved: bool,
-    pub(crate) room: Room,
+    pub(crate) memory: Reserved,
 }
 
 /// What a change does.
@@ -77,7 +77,7 @@ pub(crate) enum Effect {
 
 /// The memory that was taken for a change.
 #[derive(Debug, Drop)]
-pub(crate) enum Room {
+pub(crate) enum Reserved {
     None,
     Alloc(Spare),
     Host(HostSpare),

@@ -32,7 +32,7 @@ pub fn demo_farm(alloc: Global, moment: u64) -> Result<Farm, AllocError>
         next_depend: 1,
         next_finish: 1,
         moment,
-        marked: true,
+        recorded: true,
     })
 }
 

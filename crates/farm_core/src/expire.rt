@@ -6,14 +6,14 @@ ghost use Rattle.farm_types.specs.Farm.{changed_at};
 ghost use Rattle.farm_types.specs.Hosts.{silenced};
 ghost use Rattle.farm_types.specs.Lost.{lose_on};
 ghost use Rattle.farm_types.specs.Step.{expire};
-ghost use Rattle.farm_core.specs.Doomed.{is_doomed, lost_where};
+ghost use Rattle.farm_core.specs.LostHosts.{is_lost_host, lost_where};
 
 use crate::farm::Farm;
-use farm_types::{FrameRow, FrameState, HostNo, Slot};
+use farm_types::{Frame, FrameState, HostNo, Slot};
 
 /// Whose attempts are lost: those of hosts that are silent at a moment (seconds), or those of one host.
 #[derive(Clone, Copy, Debug)]
-pub(crate) enum Doomed {
+pub(crate) enum LostHosts {
     Silent { moment: u64 },
     On { host: HostNo },
 }
@@ -27,23 +27,23 @@ impl Farm {
         if self.hosts.count_expired(moment) == 0 {
             return;
         }
-        self.lose_all(&Doomed::Silent { moment });
+        self.lose_all(&LostHosts::Silent { moment });
         self.silence(moment);
     }
 
-    // Each attempt on a doomed host is lost.
-    pub(crate) fn lose_all(&mut self, doomed: &Doomed)
-        ensures { self.new ≡ record self.old { slots = lose_on (is_doomed self.old doomed.now) self.old.slots } }
+    // Each attempt on a lost host is lost.
+    pub(crate) fn lose_all(&mut self, lost: &LostHosts)
+        ensures { self.new ≡ record self.old { slots = lose_on (is_lost_host self.old lost.now) self.old.slots } }
     {
         let count = self.slots().len();
         for place in 0..count {
-            self.lose_at(Slot(place as u32), doomed);
+            self.lose_at(Slot(place as u32), lost);
         }
     }
 
-    // The slot's attempt is lost, where it is on a doomed host.
-    fn lose_at(&mut self, slot: Slot, doomed: &Doomed)
-        ensures { self.new ≡ record self.old { slots = changed_at self.old.slots slot (lost_where (is_doomed self.old doomed.now)) } }
+    // The slot's attempt is lost, where it is on a lost host.
+    fn lose_at(&mut self, slot: Slot, lost: &LostHosts)
+        ensures { self.new ≡ record self.old { slots = changed_at self.old.slots slot (lost_where (is_lost_host self.old lost.now)) } }
     {
         let Some(row) = self.jobs.row(slot) else {
             return;
@@ -51,7 +51,7 @@ impl Farm {
         let Some(live) = &row.proc else {
             return;
         };
-        if !self.is_doomed(doomed, live.host) {
+        if !self.is_lost_host(lost, live.host) {
             return;
         }
         let Some(frame) = &row.frame else {
@@ -62,12 +62,12 @@ impl Farm {
     }
 
     // Whether the attempts on the host are lost.
-    fn is_doomed(&self, doomed: &Doomed, host: HostNo) -> bool
-        ensures { result ≡ is_doomed self.now doomed.now host }
+    fn is_lost_host(&self, lost: &LostHosts, host: HostNo) -> bool
+        ensures { result ≡ is_lost_host self.now lost.now host }
     {
-        match doomed {
-            Doomed::Silent { moment } => self.hosts.expired(host, *moment),
-            Doomed::On { host: lost } => host == *lost,
+        match lost {
+            LostHosts::Silent { moment } => self.hosts.expired(host, *moment),
+            LostHosts::On { host: lost } => host == *lost,
         }
     }
 
@@ -80,7 +80,7 @@ impl Farm {
 }
 
 // The frame as one that waits.
-fn waiting(frame: &FrameRow) -> FrameRow
+fn waiting(frame: &Frame) -> Frame
     ensures { result ≡ record frame.now { state = frame_state.Waiting } }
 {
     let mut waiting = *frame;

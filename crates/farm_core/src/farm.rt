@@ -1,27 +1,27 @@
 //! The farm: its books, and the calls that read one of their rows.
 
-ghost use Rattle.std.specs.Prelude.{◌≡◌, ◌≤◌, length, slice_get, option_copied, IfOk};
+ghost use Rattle.std.specs.Prelude.{◌≡◌, ◌≤◌, length, slice_get, option_copied, All, IfOk, IfSome, IfNone};
+ghost use Rattle.job_book.specs.Book.{IsLeastAbove};
 ghost use Rattle.farm_types.specs.Farm.{empty_farm, job_at, layer_at, sub_at, sub_of};
 ghost use Rattle.farm_types.specs.Step.{lists_of};
 ghost use Rattle.farm_types.specs.Sums.{booked_in, total_at};
-ghost use Rattle.farm_core.specs.Reads.{job_after, live_at};
+ghost use Rattle.farm_core.specs.Reads.{job_after};
+ghost use Rattle.farm_types.specs.Run.{live_at};
 ghost use Rattle.std.specs.Prelude.{ℕ};
+ghost use Rattle.farm_types.specs.declared.limits.TheConstants.{SLOT_LIMIT};
 
 use crate::shows::Shows;
 use crate::usage::Usage;
 use alloc_tags::Allocs;
 use farm_types::{
-    AllocNo, AllocRow, HostNo, HostRow, JobNo, JobRow, LayerRow, ProcRow, ShowNo, ShowRow, Slot,
-    SlotRow, SubNo, SubRow,
+    AllocNo, AllocRow, HostNo, HostRow, JobNo, JobRow, LayerRow, MOST_ALLOCS, ProcRow, SUB_NUMBERS,
+    ShowNo, ShowRow, Slot, SlotRow, SubNo, SubRow,
 };
 use host_book::Hosts;
 use job_book::Jobs;
 use std::alloc::{AllocError, Global};
 use std::marker::Model;
 use sub_ledger::Subs;
-
-/// How many numbers there are for subscriptions.
-const SUB_NUMBERS: u32 = 1024;
 
 /// The farm's books, and its counters. Beside them is kept what live attempts use of each host.
 #[derive(Debug, Drop)]
@@ -35,7 +35,7 @@ pub struct Farm {
     pub(crate) next_depend: u64,
     pub(crate) next_finish: u64,
     pub(crate) moment: u64,
-    pub(crate) marked: bool,
+    pub(crate) recorded: bool,
 }
 
 impl Model for Farm {
@@ -51,7 +51,7 @@ impl Model for Farm {
 }
 
 impl Farm {
-    /// The farm of no rows. It takes the room of its books.
+    /// The farm of no rows. It takes the memory of its books.
     pub fn make(alloc: Global) -> Result<Farm, AllocError>
         ensures { IfOk result (λ f. f ≡ empty_farm) }
     {
@@ -65,7 +65,7 @@ impl Farm {
             next_depend: 1,
             next_finish: 1,
             moment: 0,
-            marked: false,
+            recorded: false,
         })
     }
 
@@ -79,7 +79,7 @@ impl Farm {
     /// The slots, each at its number, up to the last that was ever used.
     pub fn slots(&self) -> &[SlotRow]
         ensures value { result.now ≡ self.now.slots }
-        ensures count { length result.now ≤ 65536 }
+        ensures count { length result.now ≤ SLOT_LIMIT }
     {
         self.jobs.slots()
     }
@@ -129,7 +129,8 @@ impl Farm {
 
     /// The subscription of a show to an allocation.
     pub fn sub_of(&self, show: ShowNo, alloc: AllocNo) -> Option<SubRow>
-        ensures { result ≡ sub_at self.now (sub_of show alloc) }
+        ensures value { result ≡ sub_at self.now (sub_of show alloc) }
+        ensures number { IfSome result (λ s. s.sub ≡ sub_of show alloc) }
     {
         let number = sub_number(show, alloc);
         let subs = &self.subs;
@@ -149,7 +150,9 @@ impl Farm {
 
     /// The job with the least number above this one.
     pub fn next_job(&self, after: u32) -> Option<JobNo>
-        ensures { result ≡ job_after self.now after }
+        ensures value { result ≡ job_after self.now after }
+        ensures least { IfSome result (IsLeastAbove self.now.jobs after) }
+        ensures none { IfNone result (All (λ j. j.job ≤ after) self.now.jobs) }
     {
         self.jobs.next(after)
     }
@@ -183,5 +186,5 @@ impl Farm {
 pub(crate) fn sub_number(show: ShowNo, alloc: AllocNo) -> u32
     ensures { result ≡ sub_of show alloc }
 {
-    16 * u32::from(show.0) + u32::from(alloc.0)
+    MOST_ALLOCS * u32::from(show.0) + u32::from(alloc.0)
 }

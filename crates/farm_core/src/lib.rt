@@ -11,7 +11,6 @@ mod demo;
 mod expire;
 mod farm;
 mod fault;
-mod law;
 mod look;
 mod prepare;
 mod prepare_host;
@@ -25,7 +24,3 @@ pub use change::Change;
 pub use demo::demo_farm;
 pub use farm::Farm;
 pub use fault::PrepareFault;
-pub use law::legal_runs_are_safe;
-
-#[cfg(test)]
-mod tests;

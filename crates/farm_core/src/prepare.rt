@@ -1,28 +1,23 @@
 //! Prepares the change that an entry makes, or says why the farm refuses it.
 
-ghost use Rattle.std.specs.Prelude.{◌≡◌, true, false, Some};
+ghost use Rattle.std.specs.Prelude.{◌≡◌, true, false};
 ghost use Rattle.farm_types.specs.Booking.{may_record};
 ghost use Rattle.farm_types.specs.Limits.{SubKeepsLimits};
 ghost use Rattle.farm_types.specs.SpecLimits.{JobKeepsLimits};
-ghost use Rattle.farm_types.specs.Step.{HasCondition, KeepsLimits, moment_of, new_proc};
+ghost use Rattle.farm_types.specs.Step.{HasCondition, KeepsLimits, moment_of};
 ghost use Rattle.farm_types.specs.declared.entry.Act.TheVariants as act;
-ghost use Rattle.farm_core.specs.declared.change.Room.TheVariants as room;
+ghost use Rattle.farm_core.specs.declared.change.Reserved.TheVariants as taken;
 ghost use Rattle.farm_core.specs.Change.{Prepares, Makes};
 
-use crate::change::{Change, Effect, Room};
+use crate::change::{Change, Effect, Reserved};
 use crate::farm::{Farm, sub_number};
 use crate::fault::PrepareFault;
 use crate::refused::{existing, existing_alloc, full, unknown};
-use crate::shows::MOST_SHOWS;
 use alloc_tags::AllocRefusal;
 use farm_types::{
-    Act, Counted, Entry, HostNo, JobSpec, ProcRow, Slot, SubLine, SubNo, Text, Version,
+    Act, Counted, Entry, HostNo, JobSpec, MOST_ALLOCS, MOST_SHOWS, Slot, SubLine, SubNo, Text,
 };
-use job_book::JobFault;
 use std::alloc::Global;
-
-/// How many allocations there are at most.
-const MOST_ALLOCS: u64 = 16;
 
 impl Farm {
     /// Prepares what the entry does, and changes nothing. An entry to book is one whose booking may be recorded, and the
@@ -49,13 +44,13 @@ impl Farm {
 
     // The change that does this, at the later of the farm's moment and this one. Its memory isn't taken yet.
     pub(crate) fn change_at(&self, moment: u64, effect: Effect) -> Change
-        ensures { result ≡ record { moment = moment_of self.now moment; effect = effect; reserved = false; room = room.None } }
+        ensures { result ≡ record { moment = moment_of self.now moment; effect = effect; reserved = false; memory = taken.None } }
     {
         Change {
             moment: self.moment_of(moment),
             effect,
             reserved: false,
-            room: Room::None,
+            memory: Reserved::None,
         }
     }
 
@@ -66,15 +61,15 @@ impl Farm {
         self.moment.max(moment)
     }
 
-    // Prepares that a show is added. Its name is new, then there is room for it.
+    // Prepares that a show is added. Its name is new, then there are not too many.
     fn prepare_show(&self, alloc: Global, moment: u64, name: &Text) -> Result<Change, PrepareFault>
         ensures { Prepares self.now (record { moment = moment; act = act.Show name.now }) result }
     {
         if self.show_named(name.as_str()).is_some() {
             return Err(existing(alloc, name));
         }
-        if self.shows.count() >= MOST_SHOWS {
-            return Err(full(MOST_SHOWS as u64, Counted::Shows));
+        if self.shows.count() >= MOST_SHOWS as usize {
+            return Err(full(u64::from(MOST_SHOWS), Counted::Shows));
         }
         let name = name.copy(alloc)?;
         Ok(self.change_at(moment, Effect::Show { name }))
@@ -99,7 +94,7 @@ impl Farm {
             Err(AllocRefusal::Exists) => {
                 Err(existing_alloc(alloc, facility.as_str(), tag.as_str()))
             }
-            Err(AllocRefusal::Full) => Err(full(MOST_ALLOCS, Counted::Allocs)),
+            Err(AllocRefusal::Full) => Err(full(u64::from(MOST_ALLOCS), Counted::Allocs)),
         }
     }
 
@@ -145,11 +140,7 @@ impl Farm {
         if !self.has_facility(&spec.facility) {
             return Err(unknown(alloc, &spec.facility));
         }
-        let placing = match self.jobs.check(alloc, spec, show) {
-            Ok(placing) => placing,
-            Err(JobFault::Refused { why }) => return Err(PrepareFault::Refused { why }),
-            Err(JobFault::NoMemory) => return Err(PrepareFault::NoMemory),
-        };
+        let placing = self.jobs.check(alloc, spec, show)?;
         let spec = spec.copy(alloc)?;
         Ok(self.change_at(moment, Effect::Submit { placing, spec }))
     }
@@ -161,42 +152,5 @@ impl Farm {
     {
         let proc = self.new_proc(slot, host, self.moment_of(moment));
         self.change_at(moment, Effect::Book { slot, proc })
-    }
-
-    // The attempt that a booking adds: the layer's amounts, on the subscription of the job's show.
-    fn new_proc(&self, slot: Slot, host: HostNo, moment: u64) -> ProcRow
-        requires { may_record self.now slot host ≡ true }
-        ensures made { new_proc self.now slot host moment ≡ Some result }
-        ensures host { result.host ≡ host }
-        ensures since { result.since ≡ moment }
-    {
-        let Some(row) = self.slot(slot) else {
-            unreachable!()
-        };
-        let Some(frame) = &row.frame else {
-            unreachable!()
-        };
-        let Some(job) = self.job(frame.job) else {
-            unreachable!()
-        };
-        let Some(layer) = self.layer(frame.job, frame.layer) else {
-            unreachable!()
-        };
-        let Some(h) = self.host(host) else {
-            unreachable!()
-        };
-        let Some(sub) = self.sub_row(job.show, h.alloc) else {
-            unreachable!()
-        };
-        ProcRow {
-            slot,
-            version: Version(row.version.0 + 1),
-            host,
-            boot: h.boot,
-            cores: layer.cores,
-            memory: layer.memory,
-            sub: sub.sub,
-            since: moment,
-        }
     }
 }

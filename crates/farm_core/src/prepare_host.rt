@@ -1,6 +1,6 @@
 //! Prepares what hosts say and what is done to them: boots, reports, locks, and time that passed.
 
-ghost use Rattle.std.specs.Prelude.{◌≡◌, IfOk, slice_get};
+ghost use Rattle.std.specs.Prelude.{◌≡◌, slice_get};
 ghost use Rattle.farm_types.specs.Limits.{BootKeepsLimits};
 ghost use Rattle.farm_types.specs.Lost.{count_on, runs_on};
 ghost use Rattle.farm_types.specs.Step.{is_silent, name_of_alloc};
@@ -13,16 +13,10 @@ use crate::farm::Farm;
 use crate::fault::PrepareFault;
 use crate::refused::{existing, existing_alloc, full, unknown};
 use farm_types::{
-    AllocNo, BootLine, Counted, DoneItem, HeardAct, Items, LockState, Refusal, SlotRow, Text,
+    AllocNo, BootLine, Counted, HeardAct, LAST_BOOT, LockState, MOST_HOSTS, SlotRow, Text,
 };
-use host_book::{HeardRefusal, HostRefusal};
+use host_book::HostRefusal;
 use std::alloc::{AllocError, Global};
-
-/// How many hosts there are at most.
-const MOST_HOSTS: u64 = 4096;
-
-/// The boot number of a host's last life.
-const LAST_BOOT: u64 = 4294967295;
 
 impl Farm {
     // Prepares that a host of the allocation that it names boots.
@@ -42,7 +36,7 @@ impl Farm {
             Ok(plan) => plan,
             Err(refusal) => return Err(self.boot_fault(alloc, refusal)),
         };
-        let line = copy_of_boot(alloc, line)?;
+        let line = line.copy(alloc)?;
         Ok(self.change_at(moment, Effect::Boot { plan, line }))
     }
 
@@ -52,8 +46,8 @@ impl Farm {
     {
         match refusal {
             HostRefusal::OtherAlloc { alloc: other } => self.existing_number(alloc, other),
-            HostRefusal::HostsFull => full(MOST_HOSTS, Counted::Hosts),
-            HostRefusal::BootsSpent => full(LAST_BOOT, Counted::Boots),
+            HostRefusal::HostsFull => full(u64::from(MOST_HOSTS), Counted::Hosts),
+            HostRefusal::BootsSpent => full(u64::from(LAST_BOOT), Counted::Boots),
         }
     }
 
@@ -79,23 +73,14 @@ impl Farm {
         let Some(host) = self.host_named(heard.host.as_str()) else {
             return Err(unknown(alloc, &heard.host));
         };
-        match self.hosts.check_heard(host, heard.boot, heard.seq) {
-            Ok(()) => {
-                let effect = Effect::Heard {
-                    host,
-                    boot: heard.boot,
-                    seq: heard.seq,
-                    done: copy_of(alloc, &heard.done)?,
-                };
-                Ok(self.change_at(moment, effect))
-            }
-            Err(HeardRefusal::WrongBoot { boot }) => Err(PrepareFault::Refused {
-                why: Refusal::WrongBoot { boot },
-            }),
-            Err(HeardRefusal::Stale { last }) => Err(PrepareFault::Refused {
-                why: Refusal::Stale { last },
-            }),
-        }
+        self.hosts.check_heard(host, heard.boot, heard.seq)?;
+        let effect = Effect::Heard {
+            host,
+            boot: heard.boot,
+            seq: heard.seq,
+            done: heard.done.copy(alloc)?,
+        };
+        Ok(self.change_at(moment, effect))
     }
 
     // Prepares that a host's lock gets that state.
@@ -151,25 +136,4 @@ impl Farm {
             Some(live) => self.hosts.expired(live.host, now),
         }
     }
-}
-
-// An equal boot.
-fn copy_of_boot(alloc: Global, line: &BootLine) -> Result<BootLine, AllocError>
-    ensures { IfOk result (λ copy. copy ≡ line.now) }
-{
-    Ok(BootLine {
-        host: line.host.copy(alloc)?,
-        nonce: line.nonce,
-        alloc: line.alloc.copy(alloc)?,
-        tags: line.tags.copy(alloc)?,
-        cores: line.cores,
-        memory: line.memory,
-    })
-}
-
-// An equal list.
-fn copy_of(alloc: Global, done: &Items<DoneItem>) -> Result<Items<DoneItem>, AllocError>
-    ensures { IfOk result (λ copy. copy ≡ done.now) }
-{
-    Ok(Items::from_vec(Vec::from_slice(alloc, done.as_slice())?))
 }

@@ -3,16 +3,13 @@
 ghost use Rattle.std.specs.Prelude.{◌≡◌, ◌≤◌, ◌<◌, ◌++◌, ◌∷◌, [], length, slice_get, option_copied, IfOk};
 ghost use Rattle.std.specs.Vec.{vec_capacity};
 ghost use Rattle.farm_types.specs.Farm.{show_from};
-ghost use Rattle.farm_types.specs.Limits.{most_shows};
+ghost use Rattle.farm_types.specs.declared.limits.TheConstants.{MOST_SHOWS};
 
-use farm_types::{ShowNo, ShowRow, Text};
+use farm_types::{MOST_SHOWS, ShowNo, ShowRow, Text};
 use std::alloc::{AllocError, Global};
 use std::marker::Model;
 
-/// How many shows there are at most.
-pub(crate) const MOST_SHOWS: usize = 64;
-
-/// The shows, each at its number, with room for 64. Contracts see them as a list.
+/// The shows, each at its number, in memory for as many as there may be. Contracts see them as a list.
 #[derive(Debug, Drop)]
 pub(crate) struct Shows {
     rows: Vec<ShowRow>,
@@ -21,30 +18,30 @@ pub(crate) struct Shows {
 impl Model for Shows {
     ghost use Rattle.std.specs.Prelude.{◌≤◌, List, length};
     ghost use Rattle.std.specs.Vec.{vec_capacity};
-    ghost use Rattle.farm_types.specs.Limits.{most_shows};
+    ghost use Rattle.farm_types.specs.declared.limits.TheConstants.{MOST_SHOWS};
     ghost use Rattle.farm_types.specs.declared.rows.ShowRow as row;
 
     ghost Value = { List row.ShowRow };
 
     ghost view = { λ a. a.rows.items };
 
-    ghost invariant = { λ a. (length a.rows.items ≤ most_shows) × (most_shows ≤ vec_capacity a.rows) };
+    ghost invariant = { λ a. (length a.rows.items ≤ MOST_SHOWS) × (MOST_SHOWS ≤ vec_capacity a.rows) };
 }
 
 impl Shows {
-    // No shows. It takes the room of all.
+    // No shows. It takes the memory of all.
     pub(crate) fn make(alloc: Global) -> Result<Shows, AllocError>
         ensures { IfOk result (λ b. b ≡ []) }
     {
         Ok(Shows {
-            rows: Vec::with_capacity(alloc, MOST_SHOWS)?,
+            rows: Vec::with_capacity(alloc, MOST_SHOWS as usize)?,
         })
     }
 
     // How many shows there are.
     pub(crate) fn count(&self) -> usize
         ensures value { result ≡ length self.now }
-        ensures within { result ≤ most_shows }
+        ensures within { result ≤ MOST_SHOWS }
     {
         self.rows.len()
     }
@@ -65,7 +62,7 @@ impl Shows {
 
     // Adds a show. It takes no memory.
     pub(crate) fn add(&mut self, name: Text)
-        requires { length self.old < most_shows }
+        requires { length self.old < MOST_SHOWS }
         ensures { self.new ≡ self.old ++ record { name = name } ∷ [] }
     {
         let row = ShowRow { name };
@@ -82,7 +79,7 @@ fn row_at(shows: &[ShowRow], show: ShowNo) -> Option<&ShowRow>
 
 // The place of the first show of that name.
 fn show_in(shows: &[ShowRow], name: &str) -> Option<ShowNo>
-    requires { length shows.now ≤ 65536 }
+    requires { length shows.now ≤ MOST_SHOWS }
     ensures { result ≡ show_from 0 name.now shows.now }
 {
     for (place, row) in shows.iter().enumerate() {

@@ -3,18 +3,15 @@
 ghost use Rattle.std.specs.Prelude.{◌≡◌, ◌+◌, ◌-◌, ◌^◌, ◌<◌, ◌≤◌, ◌++◌, ◌∷◌, [], length, IfOk};
 ghost use Rattle.std.specs.Vec.{vec_capacity};
 ghost use Rattle.farm_types.specs.Farm.{changed_at};
-ghost use Rattle.farm_types.specs.Limits.{most_hosts};
 ghost use Rattle.farm_types.specs.Sums.{total_at};
 ghost use Rattle.farm_core.specs.Usage.{no_usage, grown, raised, lowered, CanRaise, CanLower};
+ghost use Rattle.farm_types.specs.declared.limits.TheConstants.{MOST_HOSTS};
 
-use farm_types::{HostNo, ProcRow};
+use farm_types::{HostNo, MOST_HOSTS, ProcRow};
 use std::alloc::{AllocError, Global};
 use std::marker::Model;
 
-/// How many hosts there are at most.
-const MOST_HOSTS: usize = 4096;
-
-/// Totals over the live attempts, by host: the cores (hundredths) and the memory (KB) in use. There is room for 4,096 hosts.
+/// Totals over the live attempts, by host: the cores (hundredths) and the memory (KB) in use. There is memory for as many hosts as there may be.
 #[derive(Debug, Drop)]
 pub(crate) struct Usage {
     cores: Vec<u64>,
@@ -23,30 +20,30 @@ pub(crate) struct Usage {
 
 impl Model for Usage {
     ghost use Rattle.farm_core.specs.Usage as types;
-    ghost use Rattle.farm_core.specs.Room.{usage_of, HasRoom};
+    ghost use Rattle.farm_core.specs.Capacity.{usage_of, HasCapacity};
 
     ghost Value = { types.Amounts };
 
     ghost view = { usage_of };
 
-    ghost invariant = { HasRoom };
+    ghost invariant = { HasCapacity };
 }
 
 impl Usage {
-    // The totals of no hosts. It takes the room of all.
+    // The totals of no hosts. It takes the memory of all.
     pub(crate) fn make(alloc: Global) -> Result<Usage, AllocError>
         ensures { IfOk result (λ u. u ≡ no_usage) }
     {
         Ok(Usage {
-            cores: Vec::with_capacity(alloc, MOST_HOSTS)?,
-            memory: Vec::with_capacity(alloc, MOST_HOSTS)?,
+            cores: Vec::with_capacity(alloc, MOST_HOSTS as usize)?,
+            memory: Vec::with_capacity(alloc, MOST_HOSTS as usize)?,
         })
     }
 
     // A host more, of which nothing is used. It takes no memory.
     pub(crate) fn grow(&mut self)
-        requires cores { length self.old.cores < most_hosts }
-        requires memory { length self.old.memory < most_hosts }
+        requires cores { length self.old.cores < MOST_HOSTS }
+        requires memory { length self.old.memory < MOST_HOSTS }
         ensures { self.new ≡ grown self.old }
     {
         self.cores.push_reserved(0);
@@ -102,7 +99,7 @@ fn total(totals: &[u64], place: usize) -> u64
 fn raise(totals: &mut Vec<u64>, place: usize, amount: u64)
     requires { total_at totals.old.items place + amount < 2 ^ 64 }
     ensures items { totals.new.items ≡ changed_at totals.old.items place (λ total. total + amount) }
-    ensures room { vec_capacity totals.new ≡ vec_capacity totals.old }
+    ensures capacity { vec_capacity totals.new ≡ vec_capacity totals.old }
 {
     if place < totals.len() {
         totals[place] += amount;
@@ -113,7 +110,7 @@ fn raise(totals: &mut Vec<u64>, place: usize, amount: u64)
 fn lower(totals: &mut Vec<u64>, place: usize, amount: u64)
     requires { amount ≤ total_at totals.old.items place }
     ensures items { totals.new.items ≡ changed_at totals.old.items place (λ total. total - amount) }
-    ensures room { vec_capacity totals.new ≡ vec_capacity totals.old }
+    ensures capacity { vec_capacity totals.new ≡ vec_capacity totals.old }
 {
     if place < totals.len() {
         totals[place] -= amount;

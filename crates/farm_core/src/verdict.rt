@@ -4,10 +4,10 @@ ghost use Rattle.std.specs.Prelude.{◌≡◌, false};
 ghost use Rattle.farm_types.specs.Farm.{job_at};
 ghost use Rattle.farm_types.specs.Step.{judged, verdict_for};
 ghost use Rattle.farm_types.specs.Verdict.{verdict_of};
-ghost use Rattle.farm_core.specs.Turned.{is_running};
+ghost use Rattle.farm_core.specs.SlotChange.{is_running};
 
 use crate::farm::Farm;
-use farm_types::{Exit, FrameRow, FrameState, Verdict};
+use farm_types::{Exit, Frame, FrameState, Verdict};
 
 /// The status of a process that asks for another try, which counts as no retry.
 const TRY_AGAIN: u32 = 286;
@@ -17,7 +17,7 @@ const GIVEN_UP: u32 = 256;
 
 impl Farm {
     // The frame as the exit of its attempt leaves it.
-    pub(crate) fn judged_frame(&self, exit: Exit, frame: &FrameRow) -> FrameRow
+    pub(crate) fn judged_frame(&self, exit: Exit, frame: &Frame) -> Frame
         ensures frame { result ≡ judged frame.now (verdict_for exit frame.now (job_at self.now frame.now.job)) }
         ensures still { is_running result.state ≡ false }
     {
@@ -25,7 +25,7 @@ impl Farm {
     }
 
     // The verdict by the job's greatest number of retries and whether it eats its failures.
-    fn verdict_for(&self, exit: Exit, frame: &FrameRow) -> Verdict
+    fn verdict_for(&self, exit: Exit, frame: &Frame) -> Verdict
         ensures { result ≡ verdict_for exit frame.now (job_at self.now frame.now.job) }
     {
         match self.job(frame.job) {
@@ -58,7 +58,7 @@ fn verdict(exit: Exit, retries: u32, most: u32, auto_eat: bool) -> Verdict
 }
 
 // The frame as the verdict leaves it.
-fn judged(frame: &FrameRow, verdict: Verdict) -> FrameRow
+fn judged(frame: &Frame, verdict: Verdict) -> Frame
     ensures frame { result ≡ judged frame.now verdict }
     ensures still { is_running result.state ≡ false }
 {

@@ -1,1 +1,7 @@
-pub mod AmountLemmas
+pub mod Changed
+pub mod ChangedLists
+pub mod ChangesInTurn
+pub mod ListSums
+pub mod Lists
+pub mod Passes
+pub mod Stays

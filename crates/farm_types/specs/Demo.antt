@@ -89,5 +89,5 @@ demo_farm moment =
       next_depend = 1;
       next_finish = 1;
       moment = moment;
-      marked = true;
+      recorded = true;
     }

@@ -6,7 +6,7 @@ use Rattle.farm_types.specs.declared.depend.DependKind.{DependKind}
 use Rattle.farm_types.specs.declared.depend.DependKind.TheVariants.{FrameByFrame, PreviousFrame}
 use Rattle.farm_types.specs.declared.depend.DependEnd.{DependEnd}
 use Rattle.farm_types.specs.declared.depend.DependRow.{DependRow}
-use Rattle.farm_types.specs.declared.slot_row.FrameRow.{FrameRow}
+use Rattle.farm_types.specs.declared.slot_row.Frame.{Frame}
 use Rattle.farm_types.specs.declared.slot_row.SlotRow.{SlotRow}
 use Rattle.farm_types.specs.Farm.{Farm, for_some}
 
@@ -17,7 +17,7 @@ pub record Group : Type 0 where
   pub targets : List ℕ
 
 -- the slots, numbered from a place, whose frame passes a test
-abbrev pub slots_from : ℕ → (FrameRow → Bool) → List SlotRow → List ℕ
+abbrev pub slots_from : ℕ → (Frame → Bool) → List SlotRow → List ℕ
 slots_from place test [] = []
 slots_from place test (s ∷ ss) = if for_some s.frame test then place ∷ slots_from (place + 1) test ss else slots_from (place + 1) test ss
 
@@ -32,24 +32,24 @@ is_number None number = true
 is_number (Some wanted) number = int_eq wanted number
 
 -- whether a frame is among those that an end of a depend names
-abbrev pub is_at : Farm → DependEnd → FrameRow → Bool
+abbrev pub is_at : Farm → DependEnd → Frame → Bool
 is_at f e frame = frame.job == e.job && is_layer f e.job e.layer frame.layer && is_number e.frame frame.number
 
 abbrev pub frames_at : Farm → DependEnd → List ℕ
 frames_at f e = slots_from 0 (is_at f e) f.slots
 
 -- a group of its own for a waiting frame, where it has a target
-abbrev pub group_for : ℕ → FrameRow → List ℕ → List Group
+abbrev pub group_for : ℕ → Frame → List ℕ → List Group
 group_for slot frame [] = []
 group_for slot frame (t ∷ ts) = record { position = frame.position; waiters = slot ∷ []; targets = t ∷ ts } ∷ []
 
 -- one group for each waiting frame, with the target frames that are paired with it
-abbrev pub group_at : Farm → DependRow → (FrameRow → FrameRow → Bool) → ℕ → Option FrameRow → List Group
+abbrev pub group_at : Farm → DependRow → (Frame → Frame → Bool) → ℕ → Option Frame → List Group
 group_at f d pairs slot None = []
 group_at f d pairs slot (Some frame) =
     if is_at f d.waiter frame then group_for slot frame (slots_from 0 (λ target. is_at f d.target target && pairs frame target) f.slots) else []
 
-abbrev pub paired_groups : Farm → DependRow → (FrameRow → FrameRow → Bool) → ℕ → List SlotRow → List Group
+abbrev pub paired_groups : Farm → DependRow → (Frame → Frame → Bool) → ℕ → List SlotRow → List Group
 paired_groups f d pairs place [] = []
 paired_groups f d pairs place (s ∷ ss) = group_at f d pairs place s.frame ++ paired_groups f d pairs (place + 1) ss
 

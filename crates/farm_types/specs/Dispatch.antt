@@ -1,5 +1,5 @@
 -- The order in which frames are offered to a host, and the round of bookings that follows a report.
-use Rattle.std.specs.Prelude.{ℕ, ◌==◌, ◌&&◌, ◌-◌, ◌+◌, ◌*◌, List, [], ◌∷◌, map, take, Option, None, Some, option_map, option_and_then, slice_get, nat_lt, if◌then◌else◌}
+use Rattle.std.specs.Prelude.{ℕ, ◌==◌, ◌&&◌, ◌-◌, ◌+◌, ◌*◌, List, [], ◌∷◌, map, take, Bool, Option, None, Some, option_map, option_and_then, slice_get, nat_lt, if◌then◌else◌}
 use Rattle.std.specs.declared.cmp.Ordering.{Ordering}
 use Rattle.std.specs.declared.cmp.Ordering.TheVariants.{Less, Equal, Greater}
 use Rattle.std.specs.Ordering.{is_gt, nat_cmp, ordering_then}
@@ -12,12 +12,13 @@ use Rattle.farm_types.specs.declared.rows.HostRow.{HostRow}
 use Rattle.farm_types.specs.declared.rows.JobRow.{JobRow}
 use Rattle.farm_types.specs.declared.rows.ShowRow.{ShowRow}
 use Rattle.farm_types.specs.declared.rows.SubRow.{SubRow}
-use Rattle.farm_types.specs.declared.slot_row.FrameRow.{FrameRow}
+use Rattle.farm_types.specs.declared.slot_row.Frame.{Frame}
 use Rattle.farm_types.specs.declared.slot_row.SlotRow.{SlotRow}
 use Rattle.farm_types.specs.Farm.{Farm, sub_at, job_at, sub_of}
 use Rattle.farm_types.specs.Sums.{booked_in}
-use Rattle.farm_types.specs.Booking.{may_book}
+use Rattle.farm_types.specs.Booking.{may_book, suits}
 use Rattle.farm_types.specs.Step.{after}
+use Rattle.farm_types.specs.declared.limits.TheConstants.{BOOKINGS_EACH, CANDIDATES_EACH}
 
 -- ---- which frame comes before which
 
@@ -55,8 +56,8 @@ sorted_ranks f (x ∷ xs) = insert_rank f x (sorted_ranks f xs)
 -- ---- the order for a host
 
 -- what decides the place of a frame that may be booked on the host
-abbrev pub rank_at : Farm → ℕ → ℕ → SlotRow → FrameRow → JobRow → HostRow → SubRow → Rank
-rank_at f slot host s frame job h sub =
+abbrev pub rank_at : Farm → ℕ → ℕ → SlotRow → Frame → JobRow → HostRow → SubRow → Rank
+rank_at f slot host s frame job row sub =
     record {
       booked = booked_in f sub.sub;
       size = sub.size;
@@ -70,8 +71,8 @@ rank_at f slot host s frame job h sub =
 
 abbrev pub rank_in : Farm → ℕ → ℕ → SlotRow → Option Rank
 rank_in f host slot s =
-    option_and_then (λ frame. option_and_then (λ job. option_and_then (λ h. option_map (λ sub. rank_at f slot host s frame job h sub)
-    (sub_at f (sub_of job.show h.alloc))) (slice_get f.hosts host)) (job_at f frame.job)) s.frame
+    option_and_then (λ frame. option_and_then (λ job. option_and_then (λ row. option_map (λ sub. rank_at f slot host s frame job row sub)
+    (sub_at f (sub_of job.show row.alloc))) (slice_get f.hosts host)) (job_at f frame.job)) s.frame
 
 -- none where the frame may not be booked on the host
 abbrev pub rank_of : Farm → ℕ → ℕ → SlotRow → Option Rank
@@ -91,15 +92,12 @@ ranks_from f host place (s ∷ ss) = with_found (rank_of f host place s) (ranks_
 abbrev pub order_for : Farm → ℕ → List Candidate
 order_for f host = map (λ r. r.candidate) (sorted_ranks f (ranks_from f host 0 f.slots))
 
--- a report is offered the first of these
-abbrev pub candidates_each : ℕ
-candidates_each = 64
-
-abbrev pub bookings_each : ℕ
-bookings_each = 12
-
 abbrev pub plan_for : Farm → ℕ → List Candidate
-plan_for f host = take candidates_each (order_for f host)
+plan_for f host = take CANDIDATES_EACH (order_for f host)
+
+-- a candidate for the host, whose slot, version and subscription suit it
+abbrev pub candidate_suits : Farm → ℕ → Candidate → Bool
+candidate_suits f host c = c.host == host && suits f c.slot c.version host c.sub
 
 -- ---- the round
 
@@ -116,4 +114,4 @@ round_from left f moment (c ∷ cs) =
 
 -- the bookings that follow a report of the host
 abbrev pub round_for : Farm → ℕ → ℕ → List Entry
-round_for f host moment = round_from bookings_each f moment (plan_for f host)
+round_for f host moment = round_from BOOKINGS_EACH f moment (plan_for f host)

@@ -13,7 +13,7 @@ use Rattle.farm_types.specs.declared.depend.MetRow.{MetRow}
 
 -- Shows, allocations and hosts are numbered by their places. Subscriptions, jobs, layers, depends and met groups carry their numbers.
 -- A slot is numbered by its place, and the list ends with the last slot that was ever used: a slot past it is free, at version 0.
--- An entry sets `marked`, which only the empty farm lacks.
+-- An entry sets `recorded`, which only the empty farm lacks.
 pub record Farm : Type 0 where
   pub shows : List ShowRow
   pub allocs : List AllocRow
@@ -28,11 +28,7 @@ pub record Farm : Type 0 where
   pub next_depend : ℕ
   pub next_finish : ℕ
   pub moment : ℕ
-  pub marked : Bool
-
--- the last version of a slot, at which it stays
-abbrev pub last_version : ℕ
-last_version = 16777215
+  pub recorded : Bool
 
 -- what a test says of a thing, and false where there is none
 abbrev pub for_some : {X : Type 0} → Option X → (X → Bool) → Bool
@@ -64,7 +60,7 @@ sub_of show alloc = 16 * show + alloc
 -- the number of the first host of that name, counted from a place
 abbrev pub host_from : ℕ → List ℕ → List HostRow → Option ℕ
 host_from place name [] = None
-host_from place name (h ∷ hs) = if bytes_eq h.name name then Some place else host_from (place + 1) name hs
+host_from place name (row ∷ rows) = if bytes_eq row.name name then Some place else host_from (place + 1) name rows
 
 abbrev pub host_named : Farm → List ℕ → Option ℕ
 host_named f name = host_from 0 name f.hosts
@@ -72,14 +68,14 @@ host_named f name = host_from 0 name f.hosts
 -- the number of the first show of that name, counted from a place
 abbrev pub show_from : ℕ → List ℕ → List ShowRow → Option ℕ
 show_from place name [] = None
-show_from place name (s ∷ ss) = if bytes_eq s.name name then Some place else show_from (place + 1) name ss
+show_from place name (row ∷ rows) = if bytes_eq row.name name then Some place else show_from (place + 1) name rows
 
 abbrev pub show_named : Farm → List ℕ → Option ℕ
 show_named f name = show_from 0 name f.shows
 
 -- a facility is there when an allocation has it
 abbrev pub is_facility : List ℕ → List AllocRow → Bool
-is_facility facility allocs = list_any (λ a. bytes_eq a.facility facility) allocs
+is_facility facility allocs = list_any (λ row. bytes_eq row.facility facility) allocs
 
 abbrev pub has_facility : Farm → List ℕ → Bool
 has_facility f facility = is_facility facility f.allocs
@@ -91,7 +87,7 @@ alloc_name facility tag = facility ++ 46 ∷ tag
 -- the number of the first allocation of that name, counted from a place
 abbrev pub alloc_from : ℕ → List ℕ → List AllocRow → Option ℕ
 alloc_from place name [] = None
-alloc_from place name (a ∷ rest) = if bytes_eq (alloc_name a.facility a.tag) name then Some place else alloc_from (place + 1) name rest
+alloc_from place name (row ∷ rows) = if bytes_eq (alloc_name row.facility row.tag) name then Some place else alloc_from (place + 1) name rows
 
 abbrev pub alloc_named : Farm → List ℕ → Option ℕ
 alloc_named f name = alloc_from 0 name f.allocs
@@ -113,5 +109,5 @@ empty_farm =
       next_depend = 1;
       next_finish = 1;
       moment = 0;
-      marked = false;
+      recorded = false;
     }

@@ -8,13 +8,12 @@ use Rattle.farm_types.specs.declared.refusal.Refusal.{Refusal}
 use Rattle.farm_types.specs.declared.refusal.Refusal.TheVariants.{Exists, FarmFull, Full}
 use Rattle.farm_types.specs.declared.rows.JobRow.{JobRow}
 use Rattle.farm_types.specs.declared.rows.LayerRow.{LayerRow}
-use Rattle.farm_types.specs.declared.slot_row.FrameRow.{FrameRow}
+use Rattle.farm_types.specs.declared.slot_row.Frame.{Frame}
 use Rattle.farm_types.specs.declared.slot_row.SlotRow.{SlotRow}
 use Rattle.farm_types.specs.declared.states.FrameState.TheVariants as frame_state
 use Rattle.farm_types.specs.declared.states.JobState.TheVariants as job_state
 use Rattle.farm_types.specs.Booking.{is_pending}
-use Rattle.farm_types.specs.Farm.{last_version}
-use Rattle.farm_types.specs.Spec.{frames_in}
+use Rattle.farm_types.specs.declared.limits.TheConstants.{LAST_JOB, LAST_VERSION, SLOT_LIMIT}
 
 -- jobs and layers in the order of their numbers, slots up to the last that was ever used, and the next job's number
 pub record JobLists : Type 0 where
@@ -23,22 +22,22 @@ pub record JobLists : Type 0 where
   pub slots : List SlotRow
   pub next_job : ℕ
 
--- ---- free slots
+-- how many frames the layers have together
+abbrev pub frames_in : List LayerSpec → ℕ
+frames_in layers = sum_by (λ (l : LayerSpec). length l.numbers) layers
 
--- how many slots there are, those past the last used one too
-abbrev pub slot_limit : ℕ
-slot_limit = 65536
+-- ---- free slots
 
 -- a slot is free where it has no frame and may still rise in version
 abbrev pub is_free : SlotRow → Bool
-is_free s = is_none s.frame && nat_lt s.version last_version
+is_free s = is_none s.frame && nat_lt s.version LAST_VERSION
 
 abbrev pub free_among : List SlotRow → ℕ
 free_among slots = sum_by (λ (s : SlotRow). if is_free s then 1 else 0) slots
 
 -- the free slots that were used before, and all that never were
 abbrev pub free_in : List SlotRow → ℕ
-free_in slots = free_among slots + (slot_limit - length slots)
+free_in slots = free_among slots + (SLOT_LIMIT - length slots)
 
 -- ---- a job's rows
 
@@ -73,31 +72,31 @@ layer_rows job place (l ∷ ls) = layer_row job place l ∷ layer_rows job (plac
 
 -- ---- its frames
 
-abbrev pub new_frame : ℕ → ℕ → ℕ → ℤ → FrameRow
+abbrev pub new_frame : ℕ → ℕ → ℕ → ℤ → Frame
 new_frame job layer position number = record { job = job; layer = layer; position = position; number = number; retries = 0; state = frame_state.Waiting }
 
 -- the frames of a layer's numbers, counted from a position
-abbrev pub frames_from : ℕ → ℕ → ℕ → List ℤ → List FrameRow
+abbrev pub frames_from : ℕ → ℕ → ℕ → List ℤ → List Frame
 frames_from job layer position [] = []
 frames_from job layer position (n ∷ ns) = new_frame job layer position n ∷ frames_from job layer (position + 1) ns
 
 -- the frames of the layers, numbered from a place: layer by layer, each in range order
-abbrev pub frames_of : ℕ → ℕ → List LayerSpec → List FrameRow
+abbrev pub frames_of : ℕ → ℕ → List LayerSpec → List Frame
 frames_of job place [] = []
 frames_of job place (l ∷ ls) = frames_from job place 0 l.numbers ++ frames_of job (place + 1) ls
 
 -- ---- placing
 
 -- the slot with that frame, at its version
-abbrev pub slot_with : FrameRow → SlotRow → SlotRow
+abbrev pub slot_with : Frame → SlotRow → SlotRow
 slot_with frame s = record s { frame = Some frame }
 
 -- a slot that was never used, with that frame
-abbrev pub fresh_slot : FrameRow → SlotRow
+abbrev pub fresh_slot : Frame → SlotRow
 fresh_slot frame = record { version = 0; frame = Some frame; proc = None }
 
 -- the frames in order, each in the lowest free slot
-abbrev pub place_frames : List SlotRow → List FrameRow → List SlotRow
+abbrev pub place_frames : List SlotRow → List Frame → List SlotRow
 place_frames [] frames = map fresh_slot frames
 place_frames (s ∷ ss) [] = s ∷ ss
 place_frames (s ∷ ss) (x ∷ xs) = if is_free s then slot_with x s ∷ place_frames ss xs else s ∷ place_frames ss (x ∷ xs)
@@ -114,10 +113,6 @@ with_job b show spec =
 
 -- ---- refusals
 
--- the greatest number that is given to a job
-abbrev pub last_job : ℕ
-last_job = 4294967295
-
 abbrev pub is_pending_named : List ℕ → JobRow → Bool
 is_pending_named name j = is_pending j.state && bytes_eq j.name name
 
@@ -130,7 +125,7 @@ repeated_name before (l ∷ ls) = if list_any (λ name. bytes_eq l.name name) be
 abbrev pub room_refusal : JobLists → JobSpec → Option Refusal
 room_refusal b spec =
     if nat_lt (free_in b.slots) (frames_in spec.layers) then Some (FarmFull (free_in b.slots))
-    else (if nat_lt last_job b.next_job then Some (Full last_job counted.Jobs) else None)
+    else (if nat_lt LAST_JOB b.next_job then Some (Full LAST_JOB counted.Jobs) else None)
 
 abbrev pub layers_refusal : JobLists → JobSpec → Option (List ℕ) → Option Refusal
 layers_refusal b spec None = room_refusal b spec

@@ -1,14 +1,14 @@
 -- Attempts that are lost with their host.
-use Rattle.std.specs.Prelude.{ℕ, List, map, filter, length, Bool, Option, None, option_map, if◌then◌else◌}
+use Rattle.std.specs.Prelude.{ℕ, List, map, filter, length, Bool, None, option_map, if◌then◌else◌}
 use Rattle.farm_types.specs.declared.attempt.ProcRow.{ProcRow}
-use Rattle.farm_types.specs.declared.slot_row.FrameRow.{FrameRow}
+use Rattle.farm_types.specs.declared.slot_row.Frame.{Frame}
 use Rattle.farm_types.specs.declared.slot_row.SlotRow.{SlotRow}
 use Rattle.farm_types.specs.declared.states.FrameState.TheVariants as frame_state
 use Rattle.farm_types.specs.Farm.{for_some}
 
 -- the slot without its attempt: its frame waits again, its retries and the version unchanged
 abbrev pub lost_row : SlotRow → SlotRow
-lost_row s = record { version = s.version; frame = option_map (λ (frame : FrameRow). record frame { state = frame_state.Waiting }) s.frame; proc = None }
+lost_row s = record { version = s.version; frame = option_map (λ (frame : Frame). record frame { state = frame_state.Waiting }) s.frame; proc = None }
 
 -- the slot has a live attempt on a host that passes the test
 abbrev pub runs_on : (ℕ → Bool) → SlotRow → Bool

@@ -1,5 +1,5 @@
 -- Runs of entries: when a run is legal, and what makes it safe.
-use Rattle.std.specs.Prelude.{ℕ, ◌≡◌, ◌≤◌, ◌<◌, ◌==◌, ◌&&◌, List, [], ◌∷◌, ◌++◌, length, Bool, true, false, Option, None, Some, slice_get, if◌then◌else◌}
+use Rattle.std.specs.Prelude.{ℕ, ◌≡◌, ◌≤◌, ◌<◌, ◌==◌, ◌&&◌, List, [], ◌∷◌, ◌++◌, length, Bool, true, false, Option, None, Some, IsSomeAnd, option_and_then, slice_get, if◌then◌else◌}
 use Rattle.std.specs.List.{list_any}
 use Rattle.farm_types.specs.declared.attempt.DoneItem.{DoneItem}
 use Rattle.farm_types.specs.declared.attempt.Attempt.{Attempt}
@@ -9,8 +9,7 @@ use Rattle.farm_types.specs.declared.entry.Act.{Act}
 use Rattle.farm_types.specs.declared.entry.Act.TheVariants.{Heard, Book}
 use Rattle.farm_types.specs.declared.entry.HeardAct.{HeardAct}
 use Rattle.farm_types.specs.declared.rows.HostRow.{HostRow}
-use Rattle.farm_types.specs.declared.rows.SubRow.{SubRow}
-use Rattle.farm_types.specs.declared.slot_row.FrameRow.{FrameRow}
+use Rattle.farm_types.specs.declared.slot_row.Frame.{Frame}
 use Rattle.farm_types.specs.declared.slot_row.SlotRow.{SlotRow}
 use Rattle.farm_types.specs.declared.states.FrameState.{FrameState}
 use Rattle.farm_types.specs.declared.states.FrameState.TheVariants as frame_state
@@ -45,15 +44,15 @@ IsAttemptOf place version frame_state.Running (Some p) = (p.slot ≡ place) × (
 IsAttemptOf place version state None = Unit {0}
 IsAttemptOf place version state (Some p) = ⊥
 
-abbrev pub HasItsAttempt : ℕ → ℕ → Option FrameRow → Option ProcRow → Type 0
+abbrev pub HasItsAttempt : ℕ → ℕ → Option Frame → Option ProcRow → Type 0
 HasItsAttempt place version None None = Unit {0}
 HasItsAttempt place version None (Some p) = ⊥
 HasItsAttempt place version (Some frame) proc = IsAttemptOf place version frame.state proc
 
 -- No host is used past its cores or memory, and exactly the running frames have a live attempt, of their version.
 pub record IsSound (f : Farm) : Type 0 where
-  pub cores : (n : ℕ) (h : HostRow) → slice_get f.hosts n ≡ Some h → used_cores f n ≤ h.cores
-  pub memory : (n : ℕ) (h : HostRow) → slice_get f.hosts n ≡ Some h → used_memory f n ≤ h.memory
+  pub cores : (n : ℕ) (row : HostRow) → slice_get f.hosts n ≡ Some row → used_cores f n ≤ row.cores
+  pub memory : (n : ℕ) (row : HostRow) → slice_get f.hosts n ≡ Some row → used_memory f n ≤ row.memory
   pub attempts : (i : ℕ) (s : SlotRow) → slice_get f.slots i ≡ Some s → HasItsAttempt i s.version s.frame s.proc
 
 -- each live attempt is on a host that is there
@@ -64,17 +63,23 @@ OnHostOf hosts (Some p) = p.host < hosts
 abbrev pub HasItsHosts : Farm → Type 0
 HasItsHosts f = (i : ℕ) (s : SlotRow) → slice_get f.slots i ≡ Some s → OnHostOf (length f.hosts) s.proc
 
--- the subscription's booked cores are within its burst
-abbrev pub IsWithinBurst : Farm → ℕ → Type 0
-IsWithinBurst f sub = (s : SubRow) → sub_at f sub ≡ Some s → booked_in f sub ≤ s.burst
+-- the live attempt of a slot
+abbrev pub live_at : Farm → ℕ → Option ProcRow
+live_at f slot = option_and_then (λ s. s.proc) (slice_get f.slots slot)
 
--- a booking finds the frame open, and afterwards its subscription is within its burst
-pub record BooksSafely (old new : Farm) (slot : ℕ) : Type 0 where
+-- the subscription is there, and its booked cores are within its burst
+abbrev pub IsWithinBurst : Farm → ℕ → Type 0
+IsWithinBurst f sub = IsSomeAnd (sub_at f sub) (λ s. booked_in f sub ≤ s.burst)
+
+-- A booking finds its frame open. Afterwards the slot has a live attempt on the host, and the attempt's subscription is there and within
+-- its burst.
+pub record BooksSafely (old new : Farm) (slot host : ℕ) : Type 0 where
   pub unblocked : is_open old slot ≡ true
-  pub burst : (s : SlotRow) (p : ProcRow) → slice_get new.slots slot ≡ Some s → s.proc ≡ Some p → IsWithinBurst new p.sub
+  pub attempt : IsSomeAnd (live_at new slot) (λ p. p.host ≡ host)
+  pub burst : IsSomeAnd (live_at new slot) (λ p. IsWithinBurst new p.sub)
 
 abbrev pub ActsSafely : Farm → Farm → Act → Type 0
-ActsSafely old new (Book slot host) = BooksSafely old new slot
+ActsSafely old new (Book slot host) = BooksSafely old new slot host
 ActsSafely old new act = Unit {0}
 
 -- ---- completions
@@ -115,9 +120,8 @@ abbrev pub EachStepSafe : Farm → List Entry → Type 0
 EachStepSafe f [] = IsSound f
 EachStepSafe f (e ∷ es) = IsSound f × ActsSafely (at_moment f (moment_of f e.moment)) (after f e) e.act × EachStepSafe (after f e) es
 
--- A run is safe where each of its farms is sound, each booking finds its frame open and stays within the burst, and each completion
--- that changes the farm is of an attempt that no other completion of the run changes. That such a completion is of an attempt live just
--- before is what `end_attempt` says.
+-- A run is safe where each of its farms is sound, each booking is safe, and each completion that changes the farm is of an attempt that
+-- no other completion of the run changes. That such a completion is of an attempt live just before is what `end_attempt` says.
 pub record IsSafe (f : Farm) (es : List Entry) : Type 0 where
   pub steps : EachStepSafe f es
   pub once : AllDiffer (counted f es)

@@ -19,7 +19,7 @@ use Rattle.farm_types.specs.declared.rows.HostRow.{HostRow}
 use Rattle.farm_types.specs.declared.rows.JobRow.{JobRow}
 use Rattle.farm_types.specs.declared.rows.LayerRow.{LayerRow}
 use Rattle.farm_types.specs.declared.rows.SubRow.{SubRow}
-use Rattle.farm_types.specs.declared.slot_row.FrameRow.{FrameRow}
+use Rattle.farm_types.specs.declared.slot_row.Frame.{Frame}
 use Rattle.farm_types.specs.declared.slot_row.SlotRow.{SlotRow}
 use Rattle.farm_types.specs.declared.states.FrameState.TheVariants as frame_state
 use Rattle.farm_types.specs.declared.states.LockState.{LockState}
@@ -31,26 +31,27 @@ use Rattle.farm_types.specs.Verdict.{verdict_of}
 use Rattle.farm_types.specs.Booking.{may_record}
 use Rattle.farm_types.specs.Hosts.{heard_row, reopened_row, locked_row, is_unheard, silenced, is_same_life, booted}
 use Rattle.farm_types.specs.Jobs.{JobLists, with_job, job_refusal}
-use Rattle.farm_types.specs.Limits.{most_shows, most_allocs, most_hosts, last_boot, BootKeepsLimits, SubKeepsLimits}
+use Rattle.farm_types.specs.Limits.{BootKeepsLimits, SubKeepsLimits}
 use Rattle.farm_types.specs.Lost.{lose_on}
 use Rattle.farm_types.specs.SpecLimits.{JobKeepsLimits}
 use Rattle.farm_types.specs.Subs.{with_sub}
+use Rattle.farm_types.specs.declared.limits.TheConstants.{LAST_BOOT, MOST_ALLOCS, MOST_HOSTS, MOST_SHOWS}
 
 -- ---- refusals
 
--- nothing where there is room for one more
+-- nothing where one more may come
 abbrev pub full_refusal : ℕ → ℕ → Counted → Option Refusal
 full_refusal limit count what = if nat_lt count limit then None else Some (Full limit what)
 
--- the name is new, and there is room for one more
+-- the name is new, and one more may come
 abbrev pub new_refusal : List ℕ → Bool → Option Refusal → Option Refusal
-new_refusal name there room = if there then Some (Exists name) else room
+new_refusal name there full = if there then Some (Exists name) else full
 
 abbrev pub show_refusal : Farm → List ℕ → Option Refusal
-show_refusal f name = new_refusal name (is_some (show_named f name)) (full_refusal most_shows (length f.shows) counted.Shows)
+show_refusal f name = new_refusal name (is_some (show_named f name)) (full_refusal MOST_SHOWS (length f.shows) counted.Shows)
 
 abbrev pub alloc_refusal : Farm → List ℕ → Option Refusal
-alloc_refusal f name = new_refusal name (is_some (alloc_named f name)) (full_refusal most_allocs (length f.allocs) counted.Allocs)
+alloc_refusal f name = new_refusal name (is_some (alloc_named f name)) (full_refusal MOST_ALLOCS (length f.allocs) counted.Allocs)
 
 -- a thing of that name is there
 abbrev pub name_refusal : List ℕ → Option ℕ → Option Refusal
@@ -65,17 +66,17 @@ sub_refusal f line (Some show) = name_refusal line.alloc (alloc_named f line.all
 -- the name of the allocation of that number
 abbrev pub name_of_alloc : Option AllocRow → List ℕ
 name_of_alloc None = []
-name_of_alloc (Some a) = alloc_name a.facility a.tag
+name_of_alloc (Some row) = alloc_name row.facility row.tag
 
 -- the host that boots is of that allocation, and there is a boot number for a new life
 abbrev pub life_refusal : Farm → BootLine → ℕ → Option HostRow → Option Refusal
 life_refusal f line alloc None = None
-life_refusal f line alloc (Some h) =
-    if h.alloc == alloc then (if is_same_life line h then None else full_refusal last_boot h.boot counted.Boots)
-    else Some (Exists (name_of_alloc (slice_get f.allocs h.alloc)))
+life_refusal f line alloc (Some row) =
+    if row.alloc == alloc then (if is_same_life line row then None else full_refusal LAST_BOOT row.boot counted.Boots)
+    else Some (Exists (name_of_alloc (slice_get f.allocs row.alloc)))
 
 abbrev pub boot_at : Farm → BootLine → ℕ → Option ℕ → Option Refusal
-boot_at f line alloc None = full_refusal most_hosts (length f.hosts) counted.Hosts
+boot_at f line alloc None = full_refusal MOST_HOSTS (length f.hosts) counted.Hosts
 boot_at f line alloc (Some host) = life_refusal f line alloc (slice_get f.hosts host)
 
 -- the boot's allocation is there; a host that is there is of that allocation; and there is room for a host or a boot number more
@@ -86,7 +87,7 @@ boot_refusal f line (Some alloc) = boot_at f line alloc (host_named f line.host)
 -- the host's boot number is the report's, and the report's sequence number is above the last one
 abbrev pub row_refusal : List ℕ → ℕ → ℕ → Option HostRow → Option Refusal
 row_refusal name boot seq None = Some (Unknown name)
-row_refusal name boot seq (Some h) = if h.boot == boot then (if nat_lt h.seq seq then None else Some (Stale h.seq)) else Some (WrongBoot h.boot)
+row_refusal name boot seq (Some row) = if row.boot == boot then (if nat_lt row.seq seq then None else Some (Stale row.seq)) else Some (WrongBoot row.boot)
 
 abbrev pub host_refusal : Farm → HeardAct → Option ℕ → Option Refusal
 host_refusal f act None = Some (Unknown act.host)
@@ -147,7 +148,7 @@ expire f moment = record f { hosts = silenced moment f.hosts; slots = lose_on (i
 -- where a new life of a host begins, the attempts on it are lost
 abbrev pub lose_life : BootLine → ℕ → Option HostRow → List SlotRow → List SlotRow
 lose_life line host None slots = slots
-lose_life line host (Some h) slots = if is_same_life line h then slots else lose_on (λ n. n == host) slots
+lose_life line host (Some row) slots = if is_same_life line row then slots else lose_on (λ n. n == host) slots
 
 abbrev pub slots_at_boot : Farm → BootLine → Option ℕ → List SlotRow
 slots_at_boot f line None = f.slots
@@ -161,14 +162,14 @@ after_boot f line moment (Some alloc) = record f { hosts = booted f.hosts line a
 -- ---- completions
 
 -- the frame as the verdict leaves it
-abbrev pub judged : FrameRow → Verdict → FrameRow
+abbrev pub judged : Frame → Verdict → Frame
 judged frame verdict.Succeeded = record frame { state = frame_state.Succeeded }
 judged frame (verdict.Waiting retries) = record frame { state = frame_state.Waiting; retries = retries }
 judged frame verdict.Eaten = record frame { state = frame_state.Eaten }
 judged frame verdict.Dead = record frame { state = frame_state.Dead }
 
 -- the verdict by the job's greatest number of retries and whether it eats its failures
-abbrev pub verdict_for : Exit → FrameRow → Option JobRow → Verdict
+abbrev pub verdict_for : Exit → Frame → Option JobRow → Verdict
 verdict_for exit frame None = verdict_of exit frame.retries 0 false
 verdict_for exit frame (Some job) = verdict_of exit frame.retries job.max_retries job.auto_eat
 
@@ -202,17 +203,17 @@ end_all f host boot (d ∷ ds) = end_all (end_attempt f host boot d) host boot d
 -- the slot with an attempt more: the version rises, and the frame runs
 abbrev pub booked_row : ProcRow → SlotRow → SlotRow
 booked_row p s =
-    record { version = p.version; frame = option_map (λ (frame : FrameRow). record frame { state = frame_state.Running }) s.frame; proc = Some p }
+    record { version = p.version; frame = option_map (λ (frame : Frame). record frame { state = frame_state.Running }) s.frame; proc = Some p }
 
 -- the attempt that a booking of the slot's frame on the host adds: the layer's amounts, on the subscription of the job's show
 abbrev pub proc_of : ℕ → ℕ → ℕ → SlotRow → JobRow → LayerRow → HostRow → ProcRow
-proc_of slot host moment s job layer h =
-    record { slot = slot; version = s.version + 1; host = host; boot = h.boot; cores = layer.cores; memory = layer.memory; sub = sub_of job.show h.alloc; since = moment }
+proc_of slot host moment s job layer row =
+    record { slot = slot; version = s.version + 1; host = host; boot = row.boot; cores = layer.cores; memory = layer.memory; sub = sub_of job.show row.alloc; since = moment }
 
 abbrev pub new_proc : Farm → ℕ → ℕ → ℕ → Option ProcRow
 new_proc f slot host moment =
     option_and_then (λ s. option_and_then (λ frame. option_and_then (λ job. option_and_then (λ layer.
-    option_map (λ h. proc_of slot host moment s job layer h) (slice_get f.hosts host))
+    option_map (λ row. proc_of slot host moment s job layer row) (slice_get f.hosts host))
     (layer_at f frame.job frame.layer)) (job_at f frame.job)) s.frame) (slice_get f.slots slot)
 
 abbrev pub with_proc : Farm → ℕ → Option ProcRow → Farm
@@ -265,9 +266,9 @@ after_act f moment (act.Lock host lock) = after_lock f lock (host_named f host)
 after_act f moment act.Tick = expire f moment
 after_act f moment (act.Book slot host) = with_proc f slot (new_proc f slot host moment)
 
--- the farm at a moment, marked as one that an entry made
+-- the farm at a moment, recorded as one that an entry made
 abbrev pub at_moment : Farm → ℕ → Farm
-at_moment f moment = record f { moment = moment; marked = true }
+at_moment f moment = record f { moment = moment; recorded = true }
 
 -- the farm after an entry that it doesn't refuse
 abbrev pub after : Farm → Entry → Farm

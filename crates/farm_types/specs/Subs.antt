@@ -1,5 +1,5 @@
 -- Subscriptions, in the order of their numbers.
-use Rattle.std.specs.Prelude.{ℕ, ◌==◌, List, [], ◌∷◌, nat_lt, if◌then◌else◌}
+use Rattle.std.specs.Prelude.{◌==◌, List, [], ◌∷◌, nat_lt, if◌then◌else◌}
 use Rattle.farm_types.specs.declared.rows.SubRow.{SubRow}
 
 -- the subscriptions with this one, in the place of the one of its number or where its number belongs

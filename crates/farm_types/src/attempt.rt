@@ -16,11 +16,12 @@ pub struct Exit {
     pub signal: u32,
 }
 
-/// A completion that a host reports.
+/// A completion that a host reports: the attempt, how it ended, and the free cores that the host tells beside it, if any.
 #[derive(Clone, Copy, Debug, PartialEq, Eq)]
 pub struct DoneItem {
     pub attempt: Attempt,
     pub exit: Exit,
+    pub free: Option<Cores>,
 }
 
 /// A live attempt: where it runs, what it uses there, and since which moment (seconds).

@@ -24,3 +24,10 @@ pub struct Candidate {
     pub sub: SubNo,
     pub host: HostNo,
 }
+
+/// What ended a round of bookings: its last candidate, or that memory ran out.
+#[derive(Clone, Copy, Debug, PartialEq, Eq)]
+pub enum Cut {
+    Whole,
+    Memory,
+}

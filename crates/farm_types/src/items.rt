@@ -74,3 +74,12 @@ impl<T> Items<T> {
         Ok(())
     }
 }
+
+impl<T: Copy> Items<T> {
+    /// Equal items.
+    pub fn copy(&self, alloc: Global) -> Result<Items<T>, AllocError>
+        ensures { IfOk result (λ copies. copies ≡ self.now) }
+    {
+        Ok(Items::from_vec(Vec::from_slice(alloc, self.as_slice())?))
+    }
+}

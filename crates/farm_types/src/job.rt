@@ -1,6 +1,7 @@
 //! A job as it is submitted.
 
 ghost use Rattle.std.specs.Prelude.{◌≡◌, IfOk};
+ghost use Rattle.farm_types.specs.Jobs.{frames_in};
 
 use crate::items::Items;
 use crate::numbers::{Cores, Kb};
@@ -65,7 +66,7 @@ impl LayerSpec {
         Ok(LayerSpec {
             name: self.name.copy(alloc)?,
             range: self.range.copy(alloc)?,
-            numbers: Items::from_vec(Vec::from_slice(alloc, self.numbers.as_slice())?),
+            numbers: self.numbers.copy(alloc)?,
             command: self.command.copy(alloc)?,
             cores: self.cores,
             memory: self.memory,
@@ -83,4 +84,24 @@ fn copies_of_layers(alloc: Global, layers: &[LayerSpec]) -> Result<Items<LayerSp
         copies.push(layer.copy(alloc)?)?;
     }
     Ok(copies)
+}
+
+impl Items<LayerSpec> {
+    /// How many frames the layers have together.
+    pub fn count_frames(&self) -> u128
+        ensures { result ≡ frames_in self.now }
+    {
+        frames_of(self.as_slice())
+    }
+}
+
+// How many frames the layers have together.
+fn frames_of(layers: &[LayerSpec]) -> u128
+    ensures { result ≡ frames_in layers.now }
+{
+    let mut frames = 0;
+    for layer in layers {
+        frames += layer.numbers.len() as u128;
+    }
+    frames
 }

@@ -1,25 +1,18 @@
-//! The words of the farm: numbers, names, rows, entries and refusals, and in `specs/` the farm's rules.
+//! The model of the farm: its numbers, texts, rows, entries and refusals, and in `specs/` its rules.
 #![tactic(auto)]
 
 mod answer;
 mod attempt;
 mod boot;
-mod cores_text;
 mod depend;
 mod dispatch;
 mod entry;
-mod examples;
 mod items;
 mod job;
-mod job_form;
-mod launch;
-mod name_field;
+mod limits;
 mod names;
 mod numbers;
 mod refusal;
-mod reply;
-mod report;
-mod request;
 mod rows;
 mod slot_row;
 mod states;
@@ -29,33 +22,24 @@ mod verdict;
 
 pub use answer::Answer;
 pub use attempt::{Attempt, DoneItem, Exit, ProcRow};
-pub use boot::{BootForm, BootLine};
-pub use cores_text::read_cores;
+pub use boot::BootLine;
 pub use depend::{DependEnd, DependKind, DependRow, MetRow};
-pub use dispatch::{Candidate, Rank};
+pub use dispatch::{Candidate, Cut, Rank};
 pub use entry::{Act, Entry, HeardAct};
-pub use examples::{
-    burst_stops_at_four, higher_jobs_come_first, new_lives_lose_attempts,
-    old_completions_count_nothing, silent_hosts_lose_attempts, stale_reports_are_refused,
-    submits_are_refused_in_order, sums_follow_attempts, texts_of_the_demonstration,
-};
 pub use items::Items;
 pub use job::{JobSpec, LayerSpec};
-pub use job_form::{JobForm, LayerForm};
-pub use launch::Launch;
-pub use name_field::read_name;
+pub use limits::{
+    BOOKINGS_EACH, CANDIDATES_EACH, LAST_BOOT, LAST_JOB, LAST_SLOT, LAST_VERSION, LEAST_CORES,
+    LEAST_MEMORY, MOST_ALLOCS, MOST_BURST, MOST_COMMAND, MOST_CORES, MOST_FRAMES, MOST_HOSTS,
+    MOST_LAYERS, MOST_MEMORY, MOST_NAME, MOST_PRIORITY, MOST_RETRIES, MOST_SHOWS, MOST_TAG,
+    MOST_TAGS, SILENT_SECONDS, SLOT_LIMIT, SUB_NUMBERS,
+};
 pub use names::{is_name, is_tag};
 pub use numbers::{AllocNo, Cores, DependNo, HostNo, JobNo, Kb, ShowNo, Slot, SubNo, Version};
 pub use refusal::{Counted, Refusal};
-pub use reply::{Cut, Reply, ReportReply};
-pub use report::Report;
-pub use request::{Request, RequestFault};
 pub use rows::{AllocRow, HostRow, JobRow, LayerRow, ShowRow, SubRow};
-pub use slot_row::{FrameRow, SlotRow};
+pub use slot_row::{Frame, SlotRow};
 pub use states::{FrameState, HostState, JobState, LockState};
-pub use sub_line::{SubForm, SubLine};
+pub use sub_line::SubLine;
 pub use text::Text;
 pub use verdict::Verdict;
-
-#[cfg(test)]
-mod tests;

@@ -4,11 +4,13 @@ ghost use Rattle.std.specs.Prelude.{◌≡◌};
 ghost use Rattle.std.specs.List.{list_all};
 ghost use Rattle.farm_types.specs.Forms.{is_name_text, is_name_byte, is_tag_text, is_tag_byte};
 
+use crate::limits::{MOST_NAME, MOST_TAG};
+
 /// Whether the text is a name of a show, job, layer or host: 1 to 64 bytes of ASCII letters, digits, `_`, `.` and `-`.
 pub fn is_name(text: &str) -> bool
     ensures { result ≡ is_name_text text.now }
 {
-    1 <= text.len() && text.len() <= 64 && are_name_bytes(text.as_bytes())
+    1 <= text.len() && text.len() <= MOST_NAME as usize && are_name_bytes(text.as_bytes())
 }
 
 // Whether each byte may stand in a name.
@@ -29,7 +31,7 @@ fn is_name_part(byte: u8) -> bool
 pub fn is_tag(text: &str) -> bool
     ensures { result ≡ is_tag_text text.now }
 {
-    1 <= text.len() && text.len() <= 31 && are_tag_bytes(text.as_bytes())
+    1 <= text.len() && text.len() <= MOST_TAG as usize && are_tag_bytes(text.as_bytes())
 }
 
 // Whether each byte may stand in a tag.

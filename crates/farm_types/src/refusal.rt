@@ -1,9 +1,7 @@
 //! Why the farm refuses an entry.
 
-ghost use Rattle.std.specs.Prelude.{◌≡◌};
-ghost use Rattle.farm_types.specs.Reply.{counted_word};
-
 use crate::text::Text;
+use std::fmt;
 
 /// A refusal of the farm, with what its reply shows.
 #[derive(Debug, Drop)]
@@ -22,6 +20,19 @@ pub enum Refusal {
     Full { limit: u64, what: Counted },
 }
 
+impl fmt::Display for Refusal {
+    fn fmt<W: fmt::Write>(&self, f: &mut fmt::Formatter<W>) -> fmt::Result {
+        match self {
+            Refusal::Unknown { name } => write!(f, "`{}` is unknown", name.as_str()),
+            Refusal::Exists { name } => write!(f, "`{}` exists already", name.as_str()),
+            Refusal::WrongBoot { boot } => write!(f, "the host is at boot {boot}"),
+            Refusal::Stale { last } => write!(f, "the host's last report is {last}"),
+            Refusal::FarmFull { free } => write!(f, "the farm has {free} free slots"),
+            Refusal::Full { limit, what } => write!(f, "there are {limit} {what} already"),
+        }
+    }
+}
+
 /// What is counted up to a limit: shows, allocations, hosts, a host's boot numbers, and the numbers that were given
 /// to jobs.
 #[derive(Clone, Copy, Debug, PartialEq, Eq)]
@@ -33,17 +44,14 @@ pub enum Counted {
     Jobs,
 }
 
-impl Counted {
-    /// The word of a reply for it.
-    pub fn as_str(self) -> &'static str
-        ensures { result.now ≡ counted_word self }
-    {
+impl fmt::Display for Counted {
+    fn fmt<W: fmt::Write>(&self, f: &mut fmt::Formatter<W>) -> fmt::Result {
         match self {
-            Counted::Shows => "shows",
-            Counted::Allocs => "allocs",
-            Counted::Hosts => "hosts",
-            Counted::Boots => "boots",
-            Counted::Jobs => "jobs",
+            Counted::Shows => write!(f, "shows"),
+            Counted::Allocs => write!(f, "allocations"),
+            Counted::Hosts => write!(f, "hosts"),
+            Counted::Boots => write!(f, "boots"),
+            Counted::Jobs => write!(f, "jobs"),
         }
     }
 }

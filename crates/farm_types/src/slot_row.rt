@@ -7,7 +7,7 @@ use crate::states::FrameState;
 /// A frame: its job, its layer's place in the job, its position in the layer's range (from 0) and the number
 /// there, how often it was retried, and its state.
 #[derive(Clone, Copy, Debug, PartialEq, Eq)]
-pub struct FrameRow {
+pub struct Frame {
     pub job: JobNo,
     pub layer: u32,
     pub position: u32,
@@ -20,6 +20,6 @@ pub struct FrameRow {
 #[derive(Clone, Copy, Debug, PartialEq, Eq)]
 pub struct SlotRow {
     pub version: Version,
-    pub frame: Option<FrameRow>,
+    pub frame: Option<Frame>,
     pub proc: Option<ProcRow>,
 }

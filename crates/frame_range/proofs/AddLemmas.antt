@@ -12,29 +12,30 @@ use Rattle.frame_range.specs.declared.fault.RangeFault.TheVariants.{Syntax, OutO
 use Rattle.frame_range.specs.Capped.{capped, capped_section}
 use Rattle.frame_range.specs.Checks.{any_past, has_past, has_zero_step, goes_wrong_way}
 use Rattle.frame_range.specs.Number.{is_past}
-use Rattle.frame_range.specs.Places.{with_all, most_numbers}
+use Rattle.frame_range.specs.Places.{with_all}
 use Rattle.frame_range.specs.Sections.{trimmed, section_at}
 use Rattle.frame_range.specs.Sets.{numbers_of, is_nil, fault_of, with_section, add_section, fault_from, IsFaultless}
 use Rattle.frame_range.specs.Steps.{section_numbers}
 use Rattle.frame_range.proofs.StepLemmas.{with_all-append}
+use Rattle.frame_range.specs.declared.limits.TheConstants.{CAP, GREATEST, MOST_NUMBERS}
 
 -- ---- numbers that are capped
 
 capped-past : (z : ℤ) → is_past (capped z) ≡ is_past z
 capped-past (pos n) =
     ⊎_elim
-    (λ (past : 9999999 < n). lt-ltb 9999999 (min n 10000000) (omega arith) ∙ sym (lt-ltb 9999999 n past))
-    (λ (low : n ≤ 9999999). le-ltb 9999999 (min n 10000000) (omega arith) ∙ sym (le-ltb 9999999 n low))
-    (cases_lt 9999999 n)
+    (λ (past : GREATEST < n). lt-ltb GREATEST (min n CAP) (omega arith) ∙ sym (lt-ltb GREATEST n past))
+    (λ (low : n ≤ GREATEST). le-ltb GREATEST (min n CAP) (omega arith) ∙ sym (le-ltb GREATEST n low))
+    (cases_lt GREATEST n)
 capped-past (negsuc n) =
     ⊎_elim
-    (λ (past : 9999999 < suc n). lt-ltb 9999999 (suc (min n 9999999)) (omega arith) ∙ sym (lt-ltb 9999999 (suc n) past))
-    (λ (low : suc n ≤ 9999999). le-ltb 9999999 (suc (min n 9999999)) (omega arith) ∙ sym (le-ltb 9999999 (suc n) low))
-    (cases_lt 9999999 (suc n))
+    (λ (past : GREATEST < suc n). lt-ltb GREATEST (suc (min n GREATEST)) (omega arith) ∙ sym (lt-ltb GREATEST (suc n) past))
+    (λ (low : suc n ≤ GREATEST). le-ltb GREATEST (suc (min n GREATEST)) (omega arith) ∙ sym (le-ltb GREATEST (suc n) low))
+    (cases_lt GREATEST (suc n))
 
 capped_same : (z : ℤ) → is_past z ≡ false → capped z ≡ z
-capped_same (pos n) h = let low : min n 10000000 ≡ n = omega (arith, ltb-false 9999999 n h) in ap pos low
-capped_same (negsuc n) h = let low : min n 9999999 ≡ n = omega (arith, ltb-false 9999999 (suc n) h) in ap negsuc low
+capped_same (pos n) h = let low : min n CAP ≡ n = omega (arith, ltb-false GREATEST n h) in ap pos low
+capped_same (negsuc n) h = let low : min n GREATEST ≡ n = omega (arith, ltb-false GREATEST (suc n) h) in ap negsuc low
 
 or_same : (a b c d : Bool) → a ≡ c → b ≡ d → (a || b) ≡ (c || d)
 or_same a b c d p q = ap (λ (x : Bool). x || b) p ∙ ap (λ (x : Bool). c || x) q
@@ -143,17 +144,17 @@ unfolding fault_of
 fault_empty place listed s p q r t = rw (p, q, r, t) refl
 
 pub fault_many : (place : ℕ) (listed : List ℤ) (s : Section) → has_past s ≡ false → has_zero_step s ≡ false → goes_wrong_way s ≡ false →
-    is_nil (section_numbers s) ≡ false → most_numbers < length (with_all listed (section_numbers s)) → fault_of place listed s ≡ Some (TooMany place)
+    is_nil (section_numbers s) ≡ false → MOST_NUMBERS < length (with_all listed (section_numbers s)) → fault_of place listed s ≡ Some (TooMany place)
 unfolding fault_of
 fault_many place listed s p q r t many =
-    let test : nat_lt most_numbers (length (with_all listed (section_numbers s))) ≡ true = lt-ltb most_numbers (length (with_all listed (section_numbers s))) many in
+    let test : nat_lt MOST_NUMBERS (length (with_all listed (section_numbers s))) ≡ true = lt-ltb MOST_NUMBERS (length (with_all listed (section_numbers s))) many in
     rw (p, q, r, t, test) refl
 
 pub fault_none : (place : ℕ) (listed : List ℤ) (s : Section) → has_past s ≡ false → has_zero_step s ≡ false → goes_wrong_way s ≡ false →
-    is_nil (section_numbers s) ≡ false → length (with_all listed (section_numbers s)) ≤ most_numbers → fault_of place listed s ≡ None
+    is_nil (section_numbers s) ≡ false → length (with_all listed (section_numbers s)) ≤ MOST_NUMBERS → fault_of place listed s ≡ None
 unfolding fault_of
-fault_none place listed s p q r t room =
-    let test : nat_lt most_numbers (length (with_all listed (section_numbers s))) ≡ false = le-ltb most_numbers (length (with_all listed (section_numbers s))) room in
+fault_none place listed s p q r t few =
+    let test : nat_lt MOST_NUMBERS (length (with_all listed (section_numbers s))) ≡ false = le-ltb MOST_NUMBERS (length (with_all listed (section_numbers s))) few in
     rw (p, q, r, t, test) refl
 
 -- ---- the sections and numbers afterwards

@@ -24,6 +24,7 @@ use Rattle.frame_range.proofs.TextLemmas.{neither_true}
 use Rattle.frame_range.proofs.GrammarLemmas.{form_lacks, comma_foreign, spelled_reads}
 use Rattle.frame_range.proofs.PieceLemmas.{numbers_none, set_of_is, sections_ok}
 use Rattle.frame_range.proofs.AddLemmas.{with_none, first_none, numbers_push, set_push, pushed_some}
+use Rattle.frame_range.specs.declared.limits.TheConstants.{GREATEST}
 
 -- ---- numbers
 
@@ -35,10 +36,10 @@ decimal_digits n h = record { some = decimal_nonempty n h; digits = digits_decim
 
 pub number_printed : (z : ℤ) → is_past z ≡ false → IsNumber (signed_decimal z) z
 number_printed (pos n) h =
-    let low : n < 2 ^ 64 = omega (arith, ltb-false 9999999 n h) in
+    let low : n < 2 ^ 64 = omega (arith, ltb-false GREATEST n h) in
     (decimal n, decimal_digits n low, inl (refl, ap pos (sym (digits_value-decimal own n low))))
 number_printed (negsuc n) h =
-    let low : suc n < 2 ^ 64 = omega (arith, ltb-false 9999999 (suc n) h) in
+    let low : suc n < 2 ^ 64 = omega (arith, ltb-false GREATEST (suc n) h) in
     (decimal (suc n), decimal_digits (suc n) low, inr (refl, ap negative (sym (digits_value-decimal own (suc n) low))))
 
 -- ---- sections

@@ -7,7 +7,7 @@ use Rattle.std.proofs.lemmas.Bool.{cases_lt, lt-ltb, le-ltb}
 use Rattle.frame_range.specs.declared.section.Section.{Section}
 use Rattle.frame_range.specs.declared.fault.RangeFault.{RangeFault}
 use Rattle.frame_range.specs.declared.fault.RangeFault.TheVariants.{Syntax, OutOfRange, ZeroStep, WrongWay, Empty, TooMany, NoMemory}
-use Rattle.frame_range.specs.Answers.{Fails, Gives}
+use Rattle.frame_range.specs.ParseResults.{Fails, Gives}
 use Rattle.frame_range.specs.Sets.{numbers_of, IsFaultless, is_comma, onto_first, pieces, add_section, sections_from, set_of, ◌>>=◌}
 
 -- ---- the first byte that passes a test

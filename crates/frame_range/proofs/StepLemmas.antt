@@ -7,9 +7,10 @@ use Rattle.std.proofs.Math.Nat.{div-eq-sub-div, div-eq_of_lt}
 use Rattle.frame_range.specs.declared.listing.ListFault.{ListFault}
 use Rattle.frame_range.specs.declared.listing.ListFault.TheVariants.{TooMany, NoMemory}
 use Rattle.frame_range.specs.Away.{away, stride}
-use Rattle.frame_range.specs.Places.{has, with_number, with_all, most_numbers}
+use Rattle.frame_range.specs.Places.{has, with_number, with_all}
 use Rattle.frame_range.specs.Listing.{Lists, Refuses}
 use Rattle.frame_range.specs.Steps.{steps_from}
+use Rattle.frame_range.specs.declared.limits.TheConstants.{MOST_NUMBERS}
 
 -- ---- lists with numbers added
 
@@ -70,8 +71,8 @@ steps_now old now all x y step n same so =
 
 -- the last number is listed
 pub steps_done : (old now new all : List ℤ) (x y step : ℤ) (left size : ℕ) → x ≡ y → left < size →
-    with_all now (steps_from y step (left / size + 1)) ≡ with_all old all → (new ≡ with_number now x) × (length new ≤ most_numbers) →
-    (new ≡ with_all old all) × (length new ≤ most_numbers)
+    with_all now (steps_from y step (left / size + 1)) ≡ with_all old all → (new ≡ with_number now x) × (length new ≤ MOST_NUMBERS) →
+    (new ≡ with_all old all) × (length new ≤ MOST_NUMBERS)
 steps_done old now new all x y step left size same low so h =
     (h.0 ∙ ap (with_number now) same ∙ ap (with_all now) (sym (steps_last y step left size low)) ∙ so, h.1)
 

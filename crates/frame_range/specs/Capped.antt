@@ -2,11 +2,12 @@
 use Rattle.std.specs.Prelude.{ℤ, pos, negsuc, min}
 use Rattle.frame_range.specs.declared.section.Section.{Section}
 use Rattle.frame_range.specs.declared.section.Section.TheVariants.{Single, Range, Stepped, Inverse, Interleaved}
+use Rattle.frame_range.specs.declared.limits.TheConstants.{CAP, GREATEST}
 
 -- z where it is in range, and else the number just past the range on its side
 abbrev pub capped : ℤ → ℤ
-capped (pos n) = pos (min n 10000000)
-capped (negsuc n) = negsuc (min n 9999999)
+capped (pos n) = pos (min n CAP)
+capped (negsuc n) = negsuc (min n GREATEST)
 
 -- the section with its numbers so
 abbrev pub capped_section : Section → Section

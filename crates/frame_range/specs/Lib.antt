@@ -1,4 +1,4 @@
-pub mod Answers
+pub mod ParseResults
 pub mod Away
 pub mod Capped
 pub mod Checks

@@ -3,6 +3,7 @@ use Rattle.std.specs.Prelude.{ℕ, ◌+◌, ◌*◌, ◌-◌, ℤ, pos, neg_ℤ,
 use Rattle.std.specs.Prelude.{Option, Some, None}
 use Rattle.std.specs.Option.{option_map}
 use Rattle.std.specs.Str.{all_ascii_digits}
+use Rattle.frame_range.specs.declared.limits.TheConstants.{GREATEST}
 
 -- what the digits write, after those that write n
 abbrev pub value_from : ℕ → List ℕ → ℕ
@@ -25,4 +26,4 @@ number_at (b ∷ bs) = if b == 45 then option_map negative (digits_at bs) else o
 
 -- past 9,999,999 or below -9,999,999
 abbrev pub is_past : ℤ → Bool
-is_past z = nat_lt 9999999 (unsigned_abs z)
+is_past z = nat_lt GREATEST (unsigned_abs z)

@@ -24,7 +24,3 @@ with_all xs (z ∷ zs) = with_all (with_number xs z) zs
 -- the numbers, the later ones of repeated numbers removed
 abbrev pub without_repeats : List ℤ → List ℤ
 without_repeats zs = with_all [] zs
-
--- the most distinct numbers of a set
-abbrev pub most_numbers : ℕ
-most_numbers = 10000

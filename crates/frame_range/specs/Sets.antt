@@ -5,9 +5,10 @@ use Rattle.frame_range.specs.declared.section.Section.{Section}
 use Rattle.frame_range.specs.declared.fault.RangeFault.{RangeFault}
 use Rattle.frame_range.specs.declared.fault.RangeFault.TheVariants.{Syntax, OutOfRange, ZeroStep, WrongWay, Empty, TooMany}
 use Rattle.frame_range.specs.Checks.{has_past, has_zero_step, goes_wrong_way}
-use Rattle.frame_range.specs.Places.{with_all, without_repeats, most_numbers}
+use Rattle.frame_range.specs.Places.{with_all, without_repeats}
 use Rattle.frame_range.specs.Sections.{trimmed, section_at}
 use Rattle.frame_range.specs.Steps.{section_numbers}
+use Rattle.frame_range.specs.declared.limits.TheConstants.{MOST_NUMBERS}
 
 -- the numbers of a set: its sections' numbers joined, later repeats removed
 unfoldable pub numbers_of : List Section → List ℤ
@@ -25,7 +26,7 @@ fault_of place listed s =
     else (if has_zero_step s then Some (ZeroStep place)
     else (if goes_wrong_way s then Some (WrongWay place)
     else (if is_nil (section_numbers s) then Some (Empty place)
-    else (if nat_lt most_numbers (length (with_all listed (section_numbers s))) then Some (TooMany place)
+    else (if nat_lt MOST_NUMBERS (length (with_all listed (section_numbers s))) then Some (TooMany place)
     else None))))
 
 -- the sections with one more, or its fault

@@ -6,10 +6,8 @@ ghost use Rattle.frame_range.specs.Number.{is_past};
 ghost use Rattle.frame_range.specs.Sets.{is_nil};
 ghost use Rattle.frame_range.specs.Steps.{section_numbers};
 
+use crate::limits::GREATEST;
 use crate::section::Section;
-
-/// The greatest size of a number.
-const GREATEST: u32 = 9_999_999;
 
 /// Whether the number is out of range.
 fn is_past(number: i32) -> bool

@@ -2,16 +2,16 @@
 
 ghost use Rattle.std.specs.Prelude.{◌≡◌, ℕ, ◌≤◌, min};
 ghost use Rattle.std.specs.Option.{option_map, IfSome};
+ghost use Rattle.frame_range.specs.declared.limits.TheConstants.{CAP};
 ghost use Rattle.frame_range.specs.Number.{digits_at, number_at};
 ghost use Rattle.frame_range.specs.Capped.{capped};
 
-/// The least size of a number that is out of range.
-const CAP: u32 = 10_000_000;
+use crate::limits::CAP;
 
 /// What the digits write, or the cap where that is more.
 fn read_digits(digits: &[u8]) -> Option<u32>
-    ensures value { result ≡ option_map (λ n. min n 10000000) (digits_at digits.now) }
-    ensures capped { IfSome result (λ n. n ≤ 10000000) }
+    ensures value { result ≡ option_map (λ n. min n CAP) (digits_at digits.now) }
+    ensures capped { IfSome result (λ n. n ≤ CAP) }
 {
     if digits.is_empty() {
         return None;

@@ -1,6 +1,7 @@
 //! Why a text is no frame set.
 
 use std::alloc::{AllocError, AllocFailed};
+use std::fmt;
 
 /// Why a text is no frame set. Sections count from 1, and the first one with a fault decides; within it the first of
 /// these, in this order.
@@ -20,6 +21,22 @@ pub enum RangeFault {
     TooMany { section: usize },
     /// Memory ran out.
     NoMemory,
+}
+
+impl fmt::Display for RangeFault {
+    fn fmt<W: fmt::Write>(&self, f: &mut fmt::Formatter<W>) -> fmt::Result {
+        match self {
+            RangeFault::Syntax { section } => write!(f, "section {section} is malformed"),
+            RangeFault::OutOfRange { section } => {
+                write!(f, "section {section} has a number out of range")
+            }
+            RangeFault::ZeroStep { section } => write!(f, "section {section} has a step of 0"),
+            RangeFault::WrongWay { section } => write!(f, "section {section} steps the wrong way"),
+            RangeFault::Empty { section } => write!(f, "section {section} has no numbers"),
+            RangeFault::TooMany { section } => write!(f, "section {section} has too many numbers"),
+            RangeFault::NoMemory => write!(f, "out of memory"),
+        }
+    }
 }
 
 impl From<AllocError> for RangeFault {

@@ -1,8 +1,8 @@
 //! A frame set: its sections and its numbers.
 
 ghost use Rattle.std.specs.Prelude.{◌≡◌, ◌≤◌, ◌<◌, length, OnOk};
-ghost use Rattle.frame_range.specs.Answers.{Gives};
-ghost use Rattle.frame_range.specs.Places.{most_numbers};
+ghost use Rattle.frame_range.specs.declared.limits.TheConstants.{MOST_NUMBERS};
+ghost use Rattle.frame_range.specs.ParseResults.{Gives};
 ghost use Rattle.frame_range.specs.Sets.{numbers_of, IsFaultless, add_section, set_of};
 
 use crate::checks::{goes_wrong_way, has_past, has_zero_step, is_empty};
@@ -44,11 +44,11 @@ fn add_section(
     text: &[u8],
 ) -> Result<(), RangeFault>
     requires listed { listing.old ≡ numbers_of sections.old.items }
-    requires room { length listing.old ≤ most_numbers }
+    requires few { length listing.old ≤ MOST_NUMBERS }
     requires faultless { IsFaultless sections.old.items }
     ensures gives { Gives (λ _. sections.new.items) result (add_section sections.old.items text.now) }
     ensures listed { OnOk result (listing.new ≡ numbers_of sections.new.items) }
-    ensures room { OnOk result (length listing.new ≤ most_numbers) }
+    ensures few { OnOk result (length listing.new ≤ MOST_NUMBERS) }
     ensures faultless { OnOk result (IsFaultless sections.new.items) }
     ensures some { OnOk result (0 < length sections.new.items) }
 {
@@ -106,7 +106,7 @@ impl FrameSet {
         ensures value { result.now ≡ numbers_of self.now }
         ensures distinct { IsDistinct int_eq result.now }
         ensures some { 0 < length result.now }
-        ensures most { length result.now ≤ 10000 }
+        ensures most { length result.now ≤ MOST_NUMBERS }
     {
         self.listing.numbers()
     }

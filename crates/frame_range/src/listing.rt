@@ -1,16 +1,14 @@
 //! The distinct numbers of a set in order, and the place of each.
 
+use crate::limits::MOST_NUMBERS;
 use std::alloc::{AllocError, AllocFailed, Global};
 use std::collections::HashMap;
 use std::marker::Model;
 
-/// The most distinct numbers of a set.
-pub const MOST_NUMBERS: usize = 10_000;
-
 /// Why a number isn't listed.
 #[derive(Clone, Copy, Debug, PartialEq, Eq)]
 pub enum ListFault {
-    /// There would be more than 10,000 distinct numbers.
+    /// There would be too many distinct numbers.
     TooMany,
     /// Memory ran out.
     NoMemory,
@@ -49,18 +47,20 @@ impl Model for Listing {
     ghost use Rattle.std.specs.Prelude.{◌≡◌, ◌≤◌, List, ℤ, length};
     ghost use Rattle.std.specs.HashMap.{get};
     ghost use Rattle.std.specs.Ordering.{int_eq};
-    ghost use Rattle.frame_range.specs.Places.{place_of, most_numbers};
+    ghost use Rattle.frame_range.specs.Places.{place_of};
+    ghost use Rattle.frame_range.specs.declared.limits.TheConstants.{MOST_NUMBERS};
 
     ghost Value = { List ℤ };
 
     ghost view = { λ a. a.numbers.items };
 
-    ghost invariant = { λ a. ((z : ℤ) → get int_eq a.places z ≡ place_of z a.numbers.items) × (length a.numbers.items ≤ most_numbers) };
+    ghost invariant = { λ a. ((z : ℤ) → get int_eq a.places z ≡ place_of z a.numbers.items) × (length a.numbers.items ≤ MOST_NUMBERS) };
 }
 
 impl Listing {
     ghost use Rattle.std.specs.Prelude.{◌≡◌, ◌≤◌, [], ◌∷◌, length};
-    ghost use Rattle.frame_range.specs.Places.{place_of, has, most_numbers};
+    ghost use Rattle.frame_range.specs.Places.{place_of, has};
+    ghost use Rattle.frame_range.specs.declared.limits.TheConstants.{MOST_NUMBERS};
     ghost use Rattle.frame_range.specs.Listing.{Lists};
 
     /// No numbers.
@@ -76,7 +76,7 @@ impl Listing {
     /// The numbers in order.
     pub fn numbers(&self) -> &[i32]
         ensures value { result.now ≡ self.now }
-        ensures most { length result.now ≤ most_numbers }
+        ensures most { length result.now ≤ MOST_NUMBERS }
     {
         self.numbers.as_slice()
     }

@@ -1,11 +1,11 @@
 //! Listing the numbers of one section. No section lists more than the set may have and a few times as many repeats:
 //! the first number too many ends it.
 
-ghost use Rattle.std.specs.Prelude.{◌≡◌, ◌+◌, ◌/◌, ◌≤◌, ◌<◌, false, unsigned_abs, length};
+ghost use Rattle.std.specs.Prelude.{◌≡◌, ◌+◌, ◌*◌, ◌/◌, ◌≤◌, ◌<◌, false, unsigned_abs, length};
+ghost use Rattle.frame_range.specs.declared.limits.TheConstants.{GREATEST, MOST_NUMBERS};
 ghost use Rattle.frame_range.specs.Away.{away, stride, others_from, halves_from};
 ghost use Rattle.frame_range.specs.Checks.{has_past, has_zero_step};
 ghost use Rattle.frame_range.specs.Listing.{Lists};
-ghost use Rattle.frame_range.specs.Places.{most_numbers};
 ghost use Rattle.frame_range.specs.Steps.{steps_from, section_numbers};
 
 use crate::listing::{ListFault, Listing};
@@ -13,8 +13,8 @@ use crate::section::Section;
 
 /// The number that is `offset` up or down from the first.
 fn number_away(first: i32, up: bool, offset: u32) -> i32
-    requires first { unsigned_abs first ≤ 9999999 }
-    requires offset { offset ≤ 19999998 }
+    requires first { unsigned_abs first ≤ GREATEST }
+    requires offset { offset ≤ 2 * GREATEST }
     ensures { result ≡ away first up offset }
 {
     if up {
@@ -32,8 +32,8 @@ fn list_steps(
     span: u32,
     size: u32,
 ) -> Result<(), ListFault>
-    requires first { unsigned_abs first ≤ 9999999 }
-    requires span { span ≤ 19999998 }
+    requires first { unsigned_abs first ≤ GREATEST }
+    requires span { span ≤ 2 * GREATEST }
     requires size { 0 < size }
     ensures { Lists listing.old (steps_from first (stride up size) (span / size + 1)) result listing.new }
 {
@@ -55,10 +55,10 @@ fn list_others(
     span: u32,
     size: u32,
 ) -> Result<(), ListFault>
-    requires first { unsigned_abs first ≤ 9999999 }
-    requires span { span ≤ 19999998 }
+    requires first { unsigned_abs first ≤ GREATEST }
+    requires span { span ≤ 2 * GREATEST }
     requires size { 0 < size }
-    requires room { length listing.old ≤ most_numbers }
+    requires few { length listing.old ≤ MOST_NUMBERS }
     ensures { Lists listing.old (others_from first up size 0 (span + 1)) result listing.new }
 {
     for offset in 0..span + 1 {
@@ -78,9 +78,9 @@ fn list_halves(
     span: u32,
     size: u32,
 ) -> Result<(), ListFault>
-    requires first { unsigned_abs first ≤ 9999999 }
-    requires span { span ≤ 19999998 }
-    requires room { length listing.old ≤ most_numbers }
+    requires first { unsigned_abs first ≤ GREATEST }
+    requires span { span ≤ 2 * GREATEST }
+    requires few { length listing.old ≤ MOST_NUMBERS }
     ensures { Lists listing.old (halves_from first up span size size) result listing.new }
 {
     let mut step = size;
@@ -95,7 +95,7 @@ fn list_halves(
 pub fn list_section(listing: &mut Listing, section: Section) -> Result<(), ListFault>
     requires in_range { has_past section ≡ false }
     requires nonzero { has_zero_step section ≡ false }
-    requires room { length listing.old ≤ most_numbers }
+    requires few { length listing.old ≤ MOST_NUMBERS }
     ensures { Lists listing.old (section_numbers section) result listing.new }
 {
     match section {

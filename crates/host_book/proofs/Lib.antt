@@ -1,4 +1,4 @@
 pub mod Booted
-pub mod Changed
+pub mod KeptHosts
 pub mod Named
 pub mod Walked

@@ -11,13 +11,13 @@ use Rattle.host_book.specs.Inside.{name_of}
 module _ {K : Type 0} (text : K → List ℕ) where
   named_from : (name : List ℕ) (place : ℕ) (keys : List K) (rows : List HostRow) → map text keys ≡ map name_of rows → position_from (λ k. bytes_eq name (text k)) place keys ≡ host_from place name rows
   named_from name place [] [] same = refl
-  named_from name place [] (h ∷ hs) same = absurd (cc)
+  named_from name place [] (row ∷ rows) same = absurd (cc)
   named_from name place (k ∷ ks) [] same = absurd (cc)
-  named_from name place (k ∷ ks) (h ∷ hs) same =
-      let first : text k ≡ h.name = cc in
-      let others : map text ks ≡ map name_of hs = cc in
-      let test : bytes_eq name (text k) ≡ bytes_eq h.name name = ap (bytes_eq name) first ∙ nat_list_eq_equiv.symm name h.name in
-      let rest = named_from name (place + 1) ks hs others in
+  named_from name place (k ∷ ks) (row ∷ rows) same =
+      let first : text k ≡ row.name = cc in
+      let others : map text ks ≡ map name_of rows = cc in
+      let test : bytes_eq name (text k) ≡ bytes_eq row.name name = ap (bytes_eq name) first ∙ nat_list_eq_equiv.symm name row.name in
+      let rest = named_from name (place + 1) ks rows others in
       λ j. cond (test j) (Some place) (rest j)
 
   -- where the names stand in the order of the rows

@@ -1,7 +1,8 @@
 -- A walk over all hosts, which changes them one by one from the front on.
-use Rattle.std.proofs.Common.{◌≡◌, ℕ, suc, zero, ◌≤◌, List, [], ◌∷◌, map, length, filter, get_or, Bool, true, false, cond, ◌&&◌, Some, refl, sym, ap, ◌∙◌, arith}
+use Rattle.std.proofs.Common.{◌≡◌, ℕ, suc, zero, ◌≤◌, List, [], ◌∷◌, map, length, filter, get_or, Bool, true, false, cond, ◌&&◌, Some, refl, sym, ap, ◌∙◌, arith, ◌+◌, add-one}
 use Rattle.std.specs.List.{slice_get}
 use Rattle.std.proofs.lemmas.Bool.Decides.{nat_tests}
+use Rattle.std.proofs.lemmas.List.{length-map}
 use Rattle.farm_types.specs.declared.rows.HostRow.{HostRow}
 use Rattle.farm_types.specs.declared.states.HostState.{HostState}
 use Rattle.farm_types.specs.declared.states.HostState.TheVariants.{Up, Down}
@@ -9,7 +10,7 @@ use Rattle.farm_types.specs.Booking.{is_up}
 use Rattle.farm_types.specs.Farm.{changed_at}
 use Rattle.farm_types.specs.Hosts.{down_row, is_unheard, reopened_row, silenced_row}
 use Rattle.host_book.specs.Inside.{name_of, is_past, watched_of, never_past}
-use Rattle.host_book.proofs.Changed.{changed_at_suc, changed_at_same, changed_at_alike}
+use Rattle.farm_types.proofs.ChangedLists.{changed_at_suc, changed_at_kept, changed_at_alike}
 
 -- ---- any list
 
@@ -21,16 +22,25 @@ changed_below change (suc i) (x ∷ xs) = change x ∷ changed_below change i xs
 
 module _ {X : Type 0} (change : X → X) where
   -- once all are changed
-  pub below_all : (xs : List X) → changed_below change (length xs) xs ≡ map change xs
-  below_all [] = refl
-  below_all (x ∷ xs) = ap (λ (ys : List X). change x ∷ ys) (below_all xs)
+  changed_below_all : (xs : List X) → changed_below change (length xs) xs ≡ map change xs
+  changed_below_all [] = refl
+  changed_below_all (x ∷ xs) = ap (λ (ys : List X). change x ∷ ys) (changed_below_all xs)
+
+  changed_below_suc : (i : ℕ) (xs : List X) → changed_at (changed_below change i xs) i change ≡ changed_below change (suc i) xs
+  changed_below_suc zero [] = refl
+  changed_below_suc zero (x ∷ xs) = refl
+  changed_below_suc (suc i) [] = refl
+  changed_below_suc (suc i) (x ∷ xs) = changed_at_suc (change x) (changed_below change i xs) i change ∙ ap (λ (ys : List X). change x ∷ ys) (changed_below_suc i xs)
 
   -- one item more is changed
-  pub below_more : (step : X → X) (i : ℕ) (xs : List X) → ((x : X) → slice_get xs i ≡ Some x → step x ≡ change x) → changed_at (changed_below change i xs) i step ≡ changed_below change (suc i) xs
-  below_more step zero [] same = refl
-  below_more step zero (x ∷ xs) same = ap (λ (y : X). y ∷ xs) (same x refl)
-  below_more step (suc i) [] same = refl
-  below_more step (suc i) (x ∷ xs) same = changed_at_suc (change x) (changed_below change i xs) i step ∙ ap (λ (ys : List X). change x ∷ ys) (below_more step i xs same)
+  pub changed_below_next : (i : ℕ) (xs before after : List X) → before ≡ changed_below change i xs → after ≡ changed_at before i change → after ≡ changed_below change (i + 1) xs
+  changed_below_next i xs before after so_far here =
+      here ∙ ap (λ (ys : List X). changed_at ys i change) so_far ∙ changed_below_suc i xs ∙ ap (λ (n : ℕ). changed_below change n xs) (sym (add-one i))
+
+  -- all are changed once the walk is through another list, of what is read of each item
+  pub changed_below_end : {Y : Type 0} (read : X → Y) (i : ℕ) (xs after : List X) (ys : List Y) → ys ≡ map read xs → i ≡ length ys → after ≡ changed_below change i xs → after ≡ map change xs
+  changed_below_end read i xs after ys these end so_far =
+      so_far ∙ ap (λ (n : ℕ). changed_below change n xs) (end ∙ ap length these ∙ length-map xs read) ∙ changed_below_all xs
 
 -- what is read of the item at a place
 pub read_at : {X Y : Type 0} (read : X → Y) (xs : List X) (i : ℕ) (x : X) (d : Y) → slice_get xs i ≡ Some x → get_or (map read xs) i d ≡ read x
@@ -45,19 +55,19 @@ past_by moment heard Up within = refl
 past_by moment heard Down within = grind (arith, nat_tests)
 
 -- a host is unheard exactly where what is watched of it is past
-pub past_is_unheard : (moment : ℕ) (h : HostRow) → moment ≤ never_past → is_past moment (watched_of h) ≡ is_unheard moment h
-past_is_unheard moment h within = past_by moment h.heard h.state within
+pub past_is_unheard : (moment : ℕ) (row : HostRow) → moment ≤ never_past → is_past moment (watched_of row) ≡ is_unheard moment row
+past_is_unheard moment row within = past_by moment row.heard row.state within
 
 module _ (moment : ℕ) (within : moment ≤ never_past) (hosts : List HostRow) (watched : List ℕ) (these : watched ≡ map watched_of hosts) (i heard : ℕ) (at : heard ≡ get_or watched i heard) where
   -- what is watched at a place says of the host there whether it is unheard
-  seen : (h : HostRow) → slice_get hosts i ≡ Some h → is_past moment heard ≡ is_unheard moment h
-  seen h there = ap (is_past moment) (at ∙ ap (λ (ns : List ℕ). get_or ns i heard) these ∙ read_at watched_of hosts i h heard there) ∙ past_is_unheard moment h within
+  seen : (row : HostRow) → slice_get hosts i ≡ Some row → is_past moment heard ≡ is_unheard moment row
+  seen row there = ap (is_past moment) (at ∙ ap (λ (ns : List ℕ). get_or ns i heard) these ∙ read_at watched_of hosts i row heard there) ∙ past_is_unheard moment row within
 
   pub heard_stays : is_past moment heard ≡ false → hosts ≡ changed_at hosts i (silenced_row moment)
-  heard_stays soon = sym (changed_at_same hosts i (silenced_row moment) (λ h there. ap (λ (b : Bool). cond b (down_row h) h) (sym (seen h there) ∙ soon)))
+  heard_stays soon = sym (changed_at_kept hosts i (silenced_row moment) (λ row there. ap (λ (b : Bool). cond b (down_row row) row) (sym (seen row there) ∙ soon)))
 
   pub unheard_falls : is_past moment heard ≡ true → changed_at hosts i down_row ≡ changed_at hosts i (silenced_row moment)
-  unheard_falls late = changed_at_alike hosts i down_row (silenced_row moment) (λ h there. ap (λ (b : Bool). cond b (down_row h) h) (sym late ∙ seen h there))
+  unheard_falls late = changed_at_alike hosts i down_row (silenced_row moment) (λ row there. ap (λ (b : Bool). cond b (down_row row) row) (sym late ∙ seen row there))
 
 length-cond : {X Y : Type 0} (b : Bool) (x : X) (y : Y) (xs : List X) (ys : List Y) → length xs ≡ length ys → length (cond b (x ∷ xs) xs) ≡ length (cond b (y ∷ ys) ys)
 length-cond true x y xs ys same = ap suc same
@@ -66,21 +76,21 @@ length-cond false x y xs ys same = same
 -- as many numbers are past as hosts are unheard
 pub past_count : (moment : ℕ) (hosts : List HostRow) → moment ≤ never_past → length (filter (is_past moment) (map watched_of hosts)) ≡ length (filter (is_unheard moment) hosts)
 past_count moment [] within = refl
-past_count moment (h ∷ hs) within =
-    let rest = past_count moment hs within in
-    let others = filter (is_past moment) (map watched_of hs) in
-    ap (λ (b : Bool). length (cond b (watched_of h ∷ others) others)) (past_is_unheard moment h within) ∙ length-cond (is_unheard moment h) (watched_of h) h others (filter (is_unheard moment) hs) rest
+past_count moment (row ∷ rows) within =
+    let rest = past_count moment rows within in
+    let others = filter (is_past moment) (map watched_of rows) in
+    ap (λ (b : Bool). length (cond b (watched_of row ∷ others) others)) (past_is_unheard moment row within) ∙ length-cond (is_unheard moment row) (watched_of row) row others (filter (is_unheard moment) rows) rest
 
-pub name-silenced : (moment : ℕ) (h : HostRow) → name_of (silenced_row moment h) ≡ name_of h
-name-silenced moment h = name_by (is_unheard moment h)
+pub name-silenced : (moment : ℕ) (row : HostRow) → name_of (silenced_row moment row) ≡ name_of row
+name-silenced moment row = name_by (is_unheard moment row)
   where
-    name_by : (b : Bool) → name_of (cond b (down_row h) h) ≡ name_of h
+    name_by : (b : Bool) → name_of (cond b (down_row row) row) ≡ name_of row
     name_by true = refl
     name_by false = refl
 
-pub name-reopened : (moment : ℕ) (h : HostRow) → name_of (reopened_row moment h) ≡ name_of h
-name-reopened moment h = name_by (is_up h.state)
+pub name-reopened : (moment : ℕ) (row : HostRow) → name_of (reopened_row moment row) ≡ name_of row
+name-reopened moment row = name_by (is_up row.state)
   where
-    name_by : (b : Bool) → name_of (cond b (record h { heard = moment }) h) ≡ name_of h
+    name_by : (b : Bool) → name_of (cond b (record row { heard = moment }) row) ≡ name_of row
     name_by true = refl
     name_by false = refl

@@ -4,13 +4,13 @@ use Rattle.farm_types.specs.declared.boot.BootLine.{BootLine}
 use Rattle.farm_types.specs.declared.rows.HostRow.{HostRow}
 use Rattle.farm_types.specs.Farm.{host_from}
 use Rattle.farm_types.specs.Hosts.{is_same_life}
-use Rattle.farm_types.specs.Limits.{most_hosts, last_boot}
 use Rattle.host_book.specs.declared.boots.BootPlan.{BootPlan}
 use Rattle.host_book.specs.declared.boots.BootPlan.TheVariants.{New, Same, Again}
 use Rattle.host_book.specs.declared.boots.HostRefusal.{HostRefusal}
 use Rattle.host_book.specs.declared.boots.HostRefusal.TheVariants.{OtherAlloc, HostsFull, BootsSpent}
 use Rattle.host_book.specs.declared.boots.HeardRefusal.{HeardRefusal}
 use Rattle.host_book.specs.declared.boots.HeardRefusal.TheVariants.{WrongBoot, Stale}
+use Rattle.farm_types.specs.declared.limits.TheConstants.{LAST_BOOT, MOST_HOSTS}
 
 -- the allocation of a planned boot
 abbrev pub alloc_of : BootPlan → ℕ
@@ -20,18 +20,18 @@ alloc_of (Again boot alloc) = alloc
 
 -- what the boot of a host that is there comes to
 abbrev pub life_plan : BootLine → ℕ → HostRow → Result BootPlan HostRefusal
-life_plan line alloc h =
-    if h.alloc == alloc
-    then (if is_same_life line h then Ok (Same h.boot alloc) else (if nat_lt h.boot last_boot then Ok (Again (h.boot + 1) alloc) else Err BootsSpent))
-    else Err (OtherAlloc h.alloc)
+life_plan line alloc row =
+    if row.alloc == alloc
+    then (if is_same_life line row then Ok (Same row.boot alloc) else (if nat_lt row.boot LAST_BOOT then Ok (Again (row.boot + 1) alloc) else Err BootsSpent))
+    else Err (OtherAlloc row.alloc)
 
 -- what the first boot of a host comes to
 abbrev pub first_plan : List HostRow → ℕ → Result BootPlan HostRefusal
-first_plan hosts alloc = if nat_lt (length hosts) most_hosts then Ok (New 1 alloc) else Err HostsFull
+first_plan hosts alloc = if nat_lt (length hosts) MOST_HOSTS then Ok (New 1 alloc) else Err HostsFull
 
 abbrev pub plan_by : List HostRow → BootLine → ℕ → Option HostRow → Result BootPlan HostRefusal
 plan_by hosts line alloc None = first_plan hosts alloc
-plan_by hosts line alloc (Some h) = life_plan line alloc h
+plan_by hosts line alloc (Some row) = life_plan line alloc row
 
 abbrev pub plan_at : List HostRow → BootLine → ℕ → Option ℕ → Result BootPlan HostRefusal
 plan_at hosts line alloc None = first_plan hosts alloc
@@ -52,4 +52,4 @@ number_of hosts line = number_in hosts (host_from 0 line.host hosts)
 -- whether a report of that boot and sequence number may be taken; of a host that isn't there nothing is said
 abbrev pub heard_check : ℕ → ℕ → Option HostRow → Result ⊤ HeardRefusal
 heard_check boot seq None = Ok tt
-heard_check boot seq (Some h) = if h.boot == boot then (if nat_lt h.seq seq then Ok tt else Err (Stale h.seq)) else Err (WrongBoot h.boot)
+heard_check boot seq (Some row) = if row.boot == boot then (if nat_lt row.seq seq then Ok tt else Err (Stale row.seq)) else Err (WrongBoot row.boot)

@@ -7,9 +7,9 @@ ghost use Rattle.std.specs.Vec.{vec_capacity};
 ghost use Rattle.indexmap.specs.IndexSet.{spare};
 ghost use Rattle.farm_types.specs.Farm.{changed_at, host_from};
 ghost use Rattle.farm_types.specs.Hosts.{booted, booted_row, new_host};
-ghost use Rattle.farm_types.specs.Limits.{most_hosts};
 ghost use Rattle.host_book.specs.Book.{alloc_of, number_of, plan_of};
 ghost use Rattle.host_book.specs.Inside.{CanBoot};
+ghost use Rattle.farm_types.specs.declared.limits.TheConstants.{MOST_HOSTS};
 
 use crate::boots::BootPlan;
 use crate::check::is_same_life;
@@ -19,29 +19,29 @@ use farm_types::{AllocNo, BootLine, HostNo, HostRow, HostState, LockState};
 use indexmap::IndexSet;
 
 impl Hosts {
-    /// Boots a host as planned at the moment, in the memory that was taken for it, and gives its number. It takes no memory.
-    pub fn apply_boot(&mut self, spare: HostSpare, plan: BootPlan, now: u64) -> HostNo
-        requires { plan_of self.old spare (alloc_of plan) ≡ Ok plan }
-        ensures book { self.new ≡ booted self.old spare (alloc_of plan) now }
-        ensures number { result ≡ number_of self.old spare }
+    /// Boots a host as planned at the moment, in the memory that was reserved for it, and gives its number. It takes no memory.
+    pub fn apply_boot(&mut self, reserved: HostSpare, plan: BootPlan, now: u64) -> HostNo
+        requires { plan_of self.old reserved (alloc_of plan) ≡ Ok plan }
+        ensures book { self.new ≡ booted self.old reserved (alloc_of plan) now }
+        ensures number { result ≡ number_of self.old reserved }
     {
-        match self.find(spare.line.host.as_str()) {
-            None => self.add(spare, alloc_of(plan), now),
+        match self.find(reserved.line.host.as_str()) {
+            None => self.add(reserved, alloc_of(plan), now),
             Some(host) => {
-                self.boot_again(host, spare, now);
+                self.boot_again(host, reserved, now);
                 host
             }
         }
     }
 
     // Adds a host of a new name, behind the others.
-    fn add(&mut self, spare: HostSpare, alloc: AllocNo, now: u64) -> HostNo
-        requires new { host_from 0 spare.host self.old ≡ None }
-        requires room { length self.old < most_hosts }
-        ensures book { self.new ≡ self.old ++ new_host spare alloc now ∷ [] }
+    fn add(&mut self, reserved: HostSpare, alloc: AllocNo, now: u64) -> HostNo
+        requires new { host_from 0 reserved.host self.old ≡ None }
+        requires few { length self.old < MOST_HOSTS }
+        ensures book { self.new ≡ self.old ++ new_host reserved alloc now ∷ [] }
         ensures number { result ≡ length self.old }
     {
-        let HostSpare { line, name } = spare;
+        let HostSpare { line, name } = reserved;
         let host = HostNo(self.rows.len() as u16);
         add_name(&mut self.names, name);
         self.watched.push_reserved(now);
@@ -50,12 +50,12 @@ impl Hosts {
     }
 
     // Boots a host that is there.
-    fn boot_again(&mut self, host: HostNo, spare: HostSpare, now: u64)
+    fn boot_again(&mut self, host: HostNo, reserved: HostSpare, now: u64)
         requires there { host < length self.old }
-        requires can { CanBoot spare (slice_get self.old host) }
-        ensures { self.new ≡ changed_at self.old host (booted_row spare now) }
+        requires can { CanBoot reserved (slice_get self.old host) }
+        ensures { self.new ≡ changed_at self.old host (booted_row reserved now) }
     {
-        let HostSpare { line, name: _name } = spare;
+        let HostSpare { line, name: _name } = reserved;
         boot_at(&mut self.rows, host.0 as usize, line, now);
         self.watched[host.0 as usize] = now;
     }
@@ -75,9 +75,9 @@ fn alloc_of(plan: BootPlan) -> AllocNo
 // A name that isn't there goes last.
 fn add_name(names: &mut IndexSet<String>, name: String)
     requires new { list_any (λ k. string_eq name k) names.old.keys ≡ false }
-    requires room { 0 < spare names.old }
+    requires capacity { 0 < spare names.old }
     ensures keys { names.new.keys ≡ names.old.keys ++ name ∷ [] }
-    ensures room { spare names.old ≤ spare names.new + 1 }
+    ensures capacity { spare names.old ≤ spare names.new + 1 }
 {
     names.insert(name).unwrap();
 }
@@ -106,7 +106,7 @@ fn boot_at(rows: &mut Vec<HostRow>, place: usize, line: BootLine, now: u64)
     requires there { place < length rows.old.items }
     requires can { CanBoot line (slice_get rows.old.items place) }
     ensures items { rows.new.items ≡ changed_at rows.old.items place (booted_row line now) }
-    ensures room { vec_capacity rows.new ≡ vec_capacity rows.old }
+    ensures capacity { vec_capacity rows.new ≡ vec_capacity rows.old }
 {
     boot_row(&mut rows[place], line, now);
 }

@@ -1,6 +1,7 @@
 //! What a boot or a report comes to.
 
-use farm_types::AllocNo;
+use farm_types::{AllocNo, MOST_HOSTS};
+use std::fmt;
 
 /// What a boot comes to: the boot number that it answers, and the host's allocation.
 #[derive(Clone, Copy, Debug, PartialEq, Eq)]
@@ -24,6 +25,18 @@ pub enum HostRefusal {
     BootsSpent,
 }
 
+impl fmt::Display for HostRefusal {
+    fn fmt<W: fmt::Write>(&self, f: &mut fmt::Formatter<W>) -> fmt::Result {
+        match self {
+            HostRefusal::OtherAlloc { alloc } => {
+                write!(f, "the host is there with allocation {}", alloc.0)
+            }
+            HostRefusal::HostsFull => write!(f, "{MOST_HOSTS} hosts are there"),
+            HostRefusal::BootsSpent => write!(f, "the host has its last boot number"),
+        }
+    }
+}
+
 /// Why a report isn't taken.
 #[derive(Clone, Copy, Debug, PartialEq, Eq)]
 pub enum HeardRefusal {
@@ -31,4 +44,15 @@ pub enum HeardRefusal {
     WrongBoot { boot: u32 },
     /// The sequence number isn't above the last one: this one.
     Stale { last: u64 },
+}
+
+impl fmt::Display for HeardRefusal {
+    fn fmt<W: fmt::Write>(&self, f: &mut fmt::Formatter<W>) -> fmt::Result {
+        match self {
+            HeardRefusal::WrongBoot { boot } => write!(f, "the host's boot number is {boot}"),
+            HeardRefusal::Stale { last } => {
+                write!(f, "the host's last sequence number is {last}")
+            }
+        }
+    }
 }

@@ -40,7 +40,7 @@ impl Hosts {
 fn hear_at(rows: &mut Vec<HostRow>, place: usize, seq: u64, now: u64)
     requires { place < length rows.old.items }
     ensures items { rows.new.items ≡ changed_at rows.old.items place (heard_row seq now) }
-    ensures room { vec_capacity rows.new ≡ vec_capacity rows.old }
+    ensures capacity { vec_capacity rows.new ≡ vec_capacity rows.old }
 {
     let row = &mut rows[place];
     row.seq = seq;
@@ -52,7 +52,7 @@ fn hear_at(rows: &mut Vec<HostRow>, place: usize, seq: u64, now: u64)
 pub(crate) fn put_down_at(rows: &mut Vec<HostRow>, place: usize)
     requires { place < length rows.old.items }
     ensures items { rows.new.items ≡ changed_at rows.old.items place down_row }
-    ensures room { vec_capacity rows.new ≡ vec_capacity rows.old }
+    ensures capacity { vec_capacity rows.new ≡ vec_capacity rows.old }
 {
     let row = &mut rows[place];
     row.state = HostState::Down;
@@ -62,7 +62,7 @@ pub(crate) fn put_down_at(rows: &mut Vec<HostRow>, place: usize)
 fn lock_at(rows: &mut Vec<HostRow>, place: usize, lock: LockState)
     requires { place < length rows.old.items }
     ensures items { rows.new.items ≡ changed_at rows.old.items place (locked_row lock) }
-    ensures room { vec_capacity rows.new ≡ vec_capacity rows.old }
+    ensures capacity { vec_capacity rows.new ≡ vec_capacity rows.old }
 {
     let row = &mut rows[place];
     row.lock = lock;

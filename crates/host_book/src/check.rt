@@ -5,11 +5,8 @@ ghost use Rattle.farm_types.specs.Hosts.{is_same_life};
 ghost use Rattle.host_book.specs.Book.{first_plan, heard_check, life_plan, plan_of};
 
 use crate::boots::{BootPlan, HeardRefusal, HostRefusal};
-use crate::hosts::{HOST_LIMIT, Hosts};
-use farm_types::{AllocNo, BootLine, HostNo, HostRow};
-
-/// The boot number of a host's last life.
-const LAST_BOOT: u32 = 4294967295;
+use crate::hosts::Hosts;
+use farm_types::{AllocNo, BootLine, HostNo, HostRow, LAST_BOOT, MOST_HOSTS};
 
 impl Hosts {
     /// What a boot of a host of that allocation comes to. `OtherAlloc` comes exactly where the host is there with another
@@ -50,7 +47,7 @@ impl Hosts {
 fn first_plan(rows: &[HostRow], alloc: AllocNo) -> Result<BootPlan, HostRefusal>
     ensures { result ≡ first_plan rows.now alloc }
 {
-    if rows.len() < HOST_LIMIT {
+    if rows.len() < MOST_HOSTS as usize {
         Ok(BootPlan::New { boot: 1, alloc })
     } else {
         Err(HostRefusal::HostsFull)

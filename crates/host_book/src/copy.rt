@@ -3,10 +3,10 @@
 ghost use Rattle.std.specs.Prelude.{◌≡◌, ◌≤◌, ◌+◌, length, map, string_bytes, IfOk};
 ghost use Rattle.std.specs.Vec.{vec_capacity};
 ghost use Rattle.indexmap.specs.IndexSet.{spare};
-ghost use Rattle.farm_types.specs.Limits.{most_hosts};
+ghost use Rattle.farm_types.specs.declared.limits.TheConstants.{MOST_HOSTS};
 
-use crate::hosts::{HOST_LIMIT, Hosts};
-use farm_types::HostRow;
+use crate::hosts::Hosts;
+use farm_types::{HostRow, MOST_HOSTS};
 use indexmap::IndexSet;
 use std::alloc::{AllocError, Global};
 
@@ -23,12 +23,12 @@ impl Hosts {
     }
 }
 
-// Equal rows, in the room of all.
+// Equal rows, with the capacity for all.
 fn copy_rows(alloc: Global, rows: &[HostRow]) -> Result<Vec<HostRow>, AllocError>
     ensures items { IfOk result (λ copies. copies.items ≡ rows.now) }
-    ensures room { IfOk result (λ copies. most_hosts ≤ vec_capacity copies) }
+    ensures capacity { IfOk result (λ copies. MOST_HOSTS ≤ vec_capacity copies) }
 {
-    let mut copies = Vec::with_capacity(alloc, HOST_LIMIT)?;
+    let mut copies = Vec::with_capacity(alloc, MOST_HOSTS as usize)?;
     for row in rows {
         copies.push(copy_row(alloc, row)?)?;
     }
@@ -54,22 +54,22 @@ fn copy_row(alloc: Global, row: &HostRow) -> Result<HostRow, AllocError>
     })
 }
 
-// Equal names, in the room of all.
+// Equal names, with the capacity for all.
 fn copy_names(names: &IndexSet<String>) -> Result<IndexSet<String>, AllocError>
     ensures keys { IfOk result (λ copies. map string_bytes copies.keys ≡ map string_bytes names.now.keys) }
-    ensures room { IfOk result (λ copies. most_hosts ≤ length copies.keys + spare copies) }
+    ensures capacity { IfOk result (λ copies. MOST_HOSTS ≤ length copies.keys + spare copies) }
 {
     let mut copies = names.clone()?;
-    copies.reserve(HOST_LIMIT.saturating_sub(copies.len()))?;
+    copies.reserve((MOST_HOSTS as usize).saturating_sub(copies.len()))?;
     Ok(copies)
 }
 
-// Equal numbers, in the room of all.
+// Equal moments, with the capacity for all.
 fn copy_watched(alloc: Global, watched: &[u64]) -> Result<Vec<u64>, AllocError>
     ensures items { IfOk result (λ copies. copies.items ≡ watched.now) }
-    ensures room { IfOk result (λ copies. most_hosts ≤ vec_capacity copies) }
+    ensures capacity { IfOk result (λ copies. MOST_HOSTS ≤ vec_capacity copies) }
 {
-    let mut copies = Vec::with_capacity(alloc, HOST_LIMIT)?;
+    let mut copies = Vec::with_capacity(alloc, MOST_HOSTS as usize)?;
     copies.extend_from_slice(watched)?;
     Ok(copies)
 }

@@ -2,15 +2,12 @@
 
 ghost use Rattle.std.specs.Prelude.{◌≡◌, ◌≤◌, ◌<◌, [], length, slice_get, option_copied, IfOk, IfSome};
 ghost use Rattle.farm_types.specs.Farm.{host_from};
-ghost use Rattle.farm_types.specs.Limits.{most_hosts};
+ghost use Rattle.farm_types.specs.declared.limits.TheConstants.{MOST_HOSTS};
 
-use farm_types::{HostNo, HostRow};
+use farm_types::{HostNo, HostRow, MOST_HOSTS};
 use indexmap::IndexSet;
 use std::alloc::{AllocError, Global};
 use std::marker::Model;
-
-/// How many hosts there are at most.
-pub(crate) const HOST_LIMIT: usize = 4096;
 
 /// The hosts, each at its number, 4,096 at most. Contracts see them as a list. Beside the rows are kept their names, so
 /// that a host is found without a walk, and what the walks over all hosts read: for each host that is up the moment
@@ -30,27 +27,27 @@ impl Model for Hosts {
 
     ghost use Rattle.host_book.specs.Inside.{KeepsHosts};
 
-    ghost view = { λ a. a.rows.items };
+    ghost view = { λ book. book.rows.items };
 
     ghost invariant = { KeepsHosts };
 }
 
 impl Hosts {
-    /// No hosts. It takes the room of all at once.
+    /// No hosts. It takes the memory of all at once.
     pub fn make(alloc: Global) -> Result<Hosts, AllocError>
         ensures { IfOk result (λ b. b ≡ []) }
     {
         Ok(Hosts {
-            rows: Vec::with_capacity(alloc, HOST_LIMIT)?,
-            names: IndexSet::with_capacity(alloc, HOST_LIMIT)?,
-            watched: Vec::with_capacity(alloc, HOST_LIMIT)?,
+            rows: Vec::with_capacity(alloc, MOST_HOSTS as usize)?,
+            names: IndexSet::with_capacity(alloc, MOST_HOSTS as usize)?,
+            watched: Vec::with_capacity(alloc, MOST_HOSTS as usize)?,
         })
     }
 
     /// How many hosts there are.
     pub fn count(&self) -> usize
         ensures value { result ≡ length self.now }
-        ensures within { result ≤ most_hosts }
+        ensures within { result ≤ MOST_HOSTS }
     {
         self.rows.len()
     }

@@ -13,6 +13,3 @@ mod walk;
 pub use boots::{BootPlan, HeardRefusal, HostRefusal};
 pub use hosts::Hosts;
 pub use spare::HostSpare;
-
-#[cfg(test)]
-mod tests;

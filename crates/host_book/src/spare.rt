@@ -7,7 +7,7 @@ use farm_types::BootLine;
 use std::alloc::{AllocError, Global};
 use std::marker::Model;
 
-/// The memory that was taken for a boot, which contracts see as its line: the line's texts, and once more the host's name,
+/// The memory that was reserved for a boot, which contracts see as its line: the line's texts, and once more the host's name,
 /// for the index of names.
 #[derive(Debug, Drop)]
 pub struct HostSpare {
@@ -21,34 +21,20 @@ impl Model for HostSpare {
 
     ghost Value = { boot.BootLine };
 
-    ghost view = { λ spare. spare.line };
+    ghost view = { λ reserved. reserved.line };
 
-    ghost invariant = { λ spare. string_bytes spare.name ≡ spare.line.host };
+    ghost invariant = { λ reserved. string_bytes reserved.name ≡ reserved.line.host };
 }
 
 impl Hosts {
     /// Takes the memory that the boot needs. The book is as before.
     pub fn reserve(&mut self, alloc: Global, boot: &BootLine) -> Result<HostSpare, AllocError>
         ensures book { self.new ≡ self.old }
-        ensures spare { IfOk result (λ spare. spare ≡ boot.now) }
+        ensures reserved { IfOk result (λ reserved. reserved ≡ boot.now) }
     {
         Ok(HostSpare {
             name: String::from_str(alloc, boot.host.as_str())?,
-            line: copy_line(alloc, boot)?,
+            line: boot.copy(alloc)?,
         })
     }
-}
-
-// An equal line.
-fn copy_line(alloc: Global, boot: &BootLine) -> Result<BootLine, AllocError>
-    ensures { IfOk result (λ copy. copy ≡ boot.now) }
-{
-    Ok(BootLine {
-        host: boot.host.copy(alloc)?,
-        nonce: boot.nonce,
-        alloc: boot.alloc.copy(alloc)?,
-        tags: boot.tags.copy(alloc)?,
-        cores: boot.cores,
-        memory: boot.memory,
-    })
 }

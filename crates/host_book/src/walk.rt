@@ -9,10 +9,7 @@ ghost use Rattle.host_book.specs.Inside.{is_past, watched_of};
 
 use crate::change::put_down_at;
 use crate::hosts::Hosts;
-use farm_types::{HostNo, HostRow, HostState};
-
-/// A host may be silent for so many seconds.
-const SILENT_SECONDS: u64 = 300;
+use farm_types::{HostNo, HostRow, HostState, SILENT_SECONDS};
 
 impl Hosts {
     /// Whether the host is up, and `now` is more than 300 seconds past the moment when it was last heard.
@@ -73,8 +70,8 @@ fn silence_all(rows: &mut Vec<HostRow>, watched: &mut Vec<u64>, now: u64)
     requires { watched.old.items ≡ map watched_of rows.old.items }
     ensures rows { rows.new.items ≡ silenced now rows.old.items }
     ensures watched { watched.new.items ≡ map watched_of rows.new.items }
-    ensures rows_room { vec_capacity rows.new ≡ vec_capacity rows.old }
-    ensures watched_room { vec_capacity watched.new ≡ vec_capacity watched.old }
+    ensures rows_capacity { vec_capacity rows.new ≡ vec_capacity rows.old }
+    ensures watched_capacity { vec_capacity watched.new ≡ vec_capacity watched.old }
 {
     for place in 0..watched.len() {
         silence_at(rows, watched, place, now);
@@ -87,8 +84,8 @@ fn silence_at(rows: &mut Vec<HostRow>, watched: &mut Vec<u64>, place: usize, now
     requires watched { watched.old.items ≡ map watched_of rows.old.items }
     ensures rows { rows.new.items ≡ changed_at rows.old.items place (silenced_row now) }
     ensures watched { watched.new.items ≡ map watched_of rows.new.items }
-    ensures rows_room { vec_capacity rows.new ≡ vec_capacity rows.old }
-    ensures watched_room { vec_capacity watched.new ≡ vec_capacity watched.old }
+    ensures rows_capacity { vec_capacity rows.new ≡ vec_capacity rows.old }
+    ensures watched_capacity { vec_capacity watched.new ≡ vec_capacity watched.old }
 {
     if !is_past(watched[place], now) {
         return;
@@ -102,8 +99,8 @@ fn reopen_all(rows: &mut Vec<HostRow>, watched: &mut Vec<u64>, now: u64)
     requires { watched.old.items ≡ map watched_of rows.old.items }
     ensures rows { rows.new.items ≡ map (reopened_row now) rows.old.items }
     ensures watched { watched.new.items ≡ map watched_of rows.new.items }
-    ensures rows_room { vec_capacity rows.new ≡ vec_capacity rows.old }
-    ensures watched_room { vec_capacity watched.new ≡ vec_capacity watched.old }
+    ensures rows_capacity { vec_capacity rows.new ≡ vec_capacity rows.old }
+    ensures watched_capacity { vec_capacity watched.new ≡ vec_capacity watched.old }
 {
     for place in 0..watched.len() {
         reopen_at(rows, watched, place, now);
@@ -116,8 +113,8 @@ fn reopen_at(rows: &mut Vec<HostRow>, watched: &mut Vec<u64>, place: usize, now:
     requires watched { watched.old.items ≡ map watched_of rows.old.items }
     ensures rows { rows.new.items ≡ changed_at rows.old.items place (reopened_row now) }
     ensures watched { watched.new.items ≡ map watched_of rows.new.items }
-    ensures rows_room { vec_capacity rows.new ≡ vec_capacity rows.old }
-    ensures watched_room { vec_capacity watched.new ≡ vec_capacity watched.old }
+    ensures rows_capacity { vec_capacity rows.new ≡ vec_capacity rows.old }
+    ensures watched_capacity { vec_capacity watched.new ≡ vec_capacity watched.old }
 {
     reopen_row(&mut rows[place], now);
     watched[place] = watched_of(&rows[place]);

@@ -6,11 +6,12 @@ use Rattle.std.proofs.Math.ListN.{length-set}
 use Rattle.std.proofs.lemmas.List.{drop_at, drop-drop}
 use Rattle.std.proofs.lemmas.List.Sums.{sum_by-cons}
 use Rattle.std.proofs.lemmas.Option.{none-some, same_Some, slice_get_within}
-use Rattle.farm_types.specs.declared.slot_row.FrameRow.{FrameRow}
+use Rattle.farm_types.specs.declared.slot_row.Frame.{Frame}
 use Rattle.farm_types.specs.declared.slot_row.SlotRow.{SlotRow}
-use Rattle.farm_types.specs.Jobs.{is_free, free_among, slot_limit, slot_with, fresh_slot, place_frames}
+use Rattle.farm_types.specs.Jobs.{is_free, free_among, slot_with, fresh_slot, place_frames}
 use Rattle.job_book.specs.Book.{first_free}
 use Rattle.job_book.specs.Puts.{Puts, free_from}
+use Rattle.farm_types.specs.declared.limits.TheConstants.{SLOT_LIMIT}
 
 pub place_none : (slots : List SlotRow) → place_frames slots [] ≡ slots
 place_none [] = refl
@@ -22,11 +23,11 @@ free_cons b s ss is = sum_by-cons (λ (r : SlotRow). cond (is_free r) 1 0) s ss 
 -- ---- a frame in a slot that was used before
 
 -- the frame is in the lowest free slot of these, and later ones go behind it
-record PutHere (slots : List SlotRow) (x : FrameRow) (q : ℕ) (new : List SlotRow) : Type 0 where
-  rest : (later : List FrameRow) → take (suc q) new ++ place_frames (drop (suc q) new) later ≡ place_frames slots (x ∷ later)
+record PutHere (slots : List SlotRow) (x : Frame) (q : ℕ) (new : List SlotRow) : Type 0 where
+  rest : (later : List Frame) → take (suc q) new ++ place_frames (drop (suc q) new) later ≡ place_frames slots (x ∷ later)
   left : free_among (drop (suc q) new) + 1 ≡ free_among slots
 
-put_first : (b : Bool) (x : FrameRow) (s r : SlotRow) (rs : List SlotRow) → is_free r ≡ b → zero ≡ first_free (r ∷ rs) → r ≡ s → PutHere (r ∷ rs) x zero (slot_with x s ∷ rs)
+put_first : (b : Bool) (x : Frame) (s r : SlotRow) (rs : List SlotRow) → is_free r ≡ b → zero ≡ first_free (r ∷ rs) → r ≡ s → PutHere (r ∷ rs) x zero (slot_with x s ∷ rs)
 put_first true x s r rs free is same =
     record {
       rest = λ later. rw (free, same) refl;
@@ -34,7 +35,7 @@ put_first true x s r rs free is same =
     }
 put_first false x s r rs free is same = absurd (omega (arith, rw free at is))
 
-put_later : (b : Bool) (x : FrameRow) (r : SlotRow) (rs new : List SlotRow) (q : ℕ) → is_free r ≡ b → suc q ≡ first_free (r ∷ rs) → (q ≡ first_free rs → PutHere rs x q new)
+put_later : (b : Bool) (x : Frame) (r : SlotRow) (rs new : List SlotRow) (q : ℕ) → is_free r ≡ b → suc q ≡ first_free (r ∷ rs) → (q ≡ first_free rs → PutHere rs x q new)
     → PutHere (r ∷ rs) x (suc q) (r ∷ new)
 put_later true x r rs new q free is later = absurd (omega (arith, rw free at is))
 put_later false x r rs new q free is later =
@@ -45,19 +46,19 @@ put_later false x r rs new q free is later =
       left = omega (arith, free_cons false r rs free, there.left);
     }
 
-put_here : (x : FrameRow) (s : SlotRow) (slots : List SlotRow) (q : ℕ) → q ≡ first_free slots → slice_get slots q ≡ Some s → PutHere slots x q (slice_set slots q (slot_with x s))
+put_here : (x : Frame) (s : SlotRow) (slots : List SlotRow) (q : ℕ) → q ≡ first_free slots → slice_get slots q ≡ Some s → PutHere slots x q (slice_set slots q (slot_with x s))
 put_here x s [] q is at = absurd (none-some s at)
 put_here x s (r ∷ rs) zero is at = put_first (is_free r) x s r rs refl is (same_Some r s at)
 put_here x s (r ∷ rs) (suc q) is at = put_later (is_free r) x r rs (slice_set rs q (slot_with x s)) q refl is (λ e. put_here x s rs q e at)
 
 -- ---- a frame in a slot that was never used
 
-record PutBehind (slots : List SlotRow) (x : FrameRow) (q : ℕ) : Type 0 where
-  rest : (later : List FrameRow) → (slots ++ fresh_slot x ∷ []) ++ map fresh_slot later ≡ place_frames slots (x ∷ later)
+record PutBehind (slots : List SlotRow) (x : Frame) (q : ℕ) : Type 0 where
+  rest : (later : List Frame) → (slots ++ fresh_slot x ∷ []) ++ map fresh_slot later ≡ place_frames slots (x ∷ later)
   none : free_among slots ≡ 0
   whole : q ≡ length slots
 
-behind_step : (b : Bool) (x : FrameRow) (r : SlotRow) (rs : List SlotRow) (q : ℕ) → is_free r ≡ b → q ≡ first_free (r ∷ rs) → slice_get (r ∷ rs) q ≡ None
+behind_step : (b : Bool) (x : Frame) (r : SlotRow) (rs : List SlotRow) (q : ℕ) → is_free r ≡ b → q ≡ first_free (r ∷ rs) → slice_get (r ∷ rs) q ≡ None
     → ((p : ℕ) → p ≡ first_free rs → slice_get rs p ≡ None → PutBehind rs x p) → PutBehind (r ∷ rs) x q
 behind_step true x r rs zero free is at later = absurd (none-some r (sym at))
 behind_step true x r rs (suc q) free is at later = absurd (omega (arith, rw free at is))
@@ -71,7 +72,7 @@ behind_step false x r rs (suc q) free is at later =
       whole = omega (arith, there.whole);
     }
 
-put_behind : (x : FrameRow) (slots : List SlotRow) (q : ℕ) → q ≡ first_free slots → slice_get slots q ≡ None → PutBehind slots x q
+put_behind : (x : Frame) (slots : List SlotRow) (q : ℕ) → q ≡ first_free slots → slice_get slots q ≡ None → PutBehind slots x q
 put_behind x [] q is at = record { rest = λ later. refl; none = refl; whole = is }
 put_behind x (r ∷ rs) q is at = behind_step (is_free r) x r rs q refl is at (λ p e a. put_behind x rs p e a)
 
@@ -89,7 +90,7 @@ take_behind front back n m e = rw e (take-append-add front back m)
 drop_behind : (front back : List SlotRow) (n m : ℕ) → n ≡ length front + m → drop n (front ++ back) ≡ drop m back
 drop_behind front back n m e = rw e (sym (drop-drop m (length front) (front ++ back)) ∙ ap (drop m) (drop_at front back (length front) refl))
 
-module _ (front back : List SlotRow) (x : FrameRow) (q n : ℕ) (is : q ≡ first_free back) (count : n ≡ length front) (most : length (front ++ back) ≤ slot_limit) where
+module _ (front back : List SlotRow) (x : Frame) (q n : ℕ) (is : q ≡ first_free back) (count : n ≡ length front) (most : length (front ++ back) ≤ SLOT_LIMIT) where
   pub set_in : (s : SlotRow) → slice_get back q ≡ Some s → Puts (x ∷ []) n (front ++ back) (n + q + 1) (front ++ slice_set back q (slot_with x s))
   set_in s at =
       let new = slice_set back q (slot_with x s) in
@@ -122,7 +123,7 @@ module _ (front back : List SlotRow) (x : FrameRow) (q n : ℕ) (is : q ≡ firs
       let is_long : length (front ++ new) ≡ length front + length new = length-append front new in
       let new_long : length new ≡ length back + 1 = length-append back (fresh_slot x ∷ []) in
       let all : n + q + 1 ≡ length front + length new = omega (arith, behind.whole, count) in
-      let none : free_from n (front ++ back) ≡ 0 + (slot_limit - length (front ++ back)) = rw (drop_behind front back n 0 start, behind.none) refl in
+      let none : free_from n (front ++ back) ≡ 0 + (SLOT_LIMIT - length (front ++ back)) = rw (drop_behind front back n 0 start, behind.none) refl in
       rw whole
       (record {
         rest = λ later.

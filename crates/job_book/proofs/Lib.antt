@@ -1,10 +1,8 @@
-pub mod Changed
-pub mod Distinct
 pub mod FreeSlots
-pub mod Lists
 pub mod Names
+pub mod NextJob
 pub mod Placed
 pub mod Places
 pub mod Putting
 pub mod Searched
-pub mod Turned
+pub mod InState

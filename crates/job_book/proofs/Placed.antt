@@ -3,40 +3,43 @@ use Rattle.std.proofs.Common.{◌≡◌, ℕ, suc, ◌+◌, ◌-◌, ◌*◌, �
 use Rattle.std.specs.Prelude.{nat_le, nat_lt}
 use Rattle.std.specs.List.{sum_by, list_all, list_any, All}
 use Rattle.std.proofs.lemmas.List.{map_push, length-map}
+use Rattle.std.proofs.lemmas.List.Folds.{list_all-append}
 use Rattle.std.proofs.lemmas.List.Sums.{sum_by-cons, sum_by-append}
 use Rattle.std.proofs.lemmas.Bool.{false≢true, ltb-false, lt-ltb, lt-leb, leb-false, eq-eqb, ne_eqb, and_from}
 use Rattle.farm_types.specs.declared.job.JobSpec.{JobSpec}
 use Rattle.farm_types.specs.declared.job.LayerSpec.{LayerSpec}
 use Rattle.farm_types.specs.declared.rows.JobRow.{JobRow}
 use Rattle.farm_types.specs.declared.rows.LayerRow.{LayerRow}
-use Rattle.farm_types.specs.declared.slot_row.FrameRow.{FrameRow}
+use Rattle.farm_types.specs.declared.slot_row.Frame.{Frame}
 use Rattle.farm_types.specs.declared.slot_row.SlotRow.{SlotRow}
 use Rattle.farm_types.specs.declared.states.FrameState.{FrameState}
 use Rattle.farm_types.specs.declared.states.FrameState.TheVariants.{Waiting, Setup, Running, Succeeded, Depend, Dead, Eaten}
-use Rattle.farm_types.specs.Farm.{for_some, last_version}
-use Rattle.farm_types.specs.Jobs.{JobLists, is_free, free_among, free_in, slot_limit, slot_with, fresh_slot, place_frames, new_frame, frames_from, frames_of, job_row, layer_rows, with_job, job_refusal, layers_refusal, room_refusal, repeated_name, is_pending_named, last_job}
-use Rattle.farm_types.specs.Spec.{frames_in}
+use Rattle.farm_types.specs.Farm.{for_some}
+use Rattle.farm_types.specs.Jobs.{JobLists, is_free, free_among, free_in, slot_with, fresh_slot, place_frames, new_frame, frames_from, frames_of, job_row, layer_rows, with_job, job_refusal, layers_refusal, room_refusal, repeated_name, is_pending_named}
+use Rattle.farm_types.specs.Jobs.{frames_in}
 use Rattle.farm_types.specs.SpecLimits.{JobKeepsLimits, LayerKeepsLimits}
 use Rattle.job_book.specs.Book.{is_in, count_in, counts_of, number_of}
 use Rattle.job_book.specs.Counting.{part, new_counts}
 use Rattle.job_book.specs.Inside.{IsBook, IsRising, job_key, layer_key, has_place, is_below, counts_for}
 use Rattle.job_book.proofs.FreeSlots.{free_cons}
-use Rattle.job_book.proofs.Lists.{and_both}
+use Rattle.farm_types.proofs.Lists.{and_both}
 use Rattle.job_book.proofs.Putting.{length-frames_of}
-use Rattle.job_book.proofs.Turned.{same_counts, part_is}
+use Rattle.job_book.proofs.InState.{same_counts, part_is}
+use Rattle.farm_types.specs.declared.limits.TheConstants.{LAST_JOB, LAST_VERSION, SLOT_LIMIT}
+use Rattle.job_book.specs.declared.place_of.TheConstants.{PLACE_LIMIT}
 
 -- ---- how many slots there are, and how many of them are free
 
-free_mapped : (frames : List FrameRow) → free_among (map fresh_slot frames) ≡ 0
+free_mapped : (frames : List Frame) → free_among (map fresh_slot frames) ≡ 0
 free_mapped [] = refl
 free_mapped (x ∷ xs) = omega (arith, free_cons false (fresh_slot x) (map fresh_slot xs) refl, free_mapped xs)
 
 -- the slots are as many, and as many more as there are frames beyond the free ones
-record Fill (slots : List SlotRow) (frames : List FrameRow) : Type 0 where
+record Fill (slots : List SlotRow) (frames : List Frame) : Type 0 where
   long : length (place_frames slots frames) ≡ length slots + (length frames - free_among slots)
   free : free_among (place_frames slots frames) ≡ free_among slots - length frames
 
-fill_step : (b : Bool) (s : SlotRow) (ss : List SlotRow) (x : FrameRow) (xs : List FrameRow) → is_free s ≡ b → Fill ss xs → Fill ss (x ∷ xs) → Fill (s ∷ ss) (x ∷ xs)
+fill_step : (b : Bool) (s : SlotRow) (ss : List SlotRow) (x : Frame) (xs : List Frame) → is_free s ≡ b → Fill ss xs → Fill ss (x ∷ xs) → Fill (s ∷ ss) (x ∷ xs)
 fill_step true s ss x xs is here later =
     let placed : place_frames (s ∷ ss) (x ∷ xs) ≡ slot_with x s ∷ place_frames ss xs = rw is refl in
     let had = free_cons true s ss is in
@@ -52,7 +55,7 @@ fill_step false s ss x xs is here later =
       free = ap free_among placed ∙ omega (arith, had, later.free, free_cons false s (place_frames ss (x ∷ xs)) is);
     }
 
-fill : (slots : List SlotRow) (frames : List FrameRow) → Fill slots frames
+fill : (slots : List SlotRow) (frames : List Frame) → Fill slots frames
 fill [] frames = record { long = omega (arith, length-map frames fresh_slot); free = omega (arith, free_mapped frames) }
 fill (s ∷ ss) [] = record { long = omega arith; free = omega arith }
 fill (s ∷ ss) (x ∷ xs) = fill_step (is_free s) s ss x xs refl (fill ss xs) (fill ss (x ∷ xs))
@@ -64,78 +67,73 @@ none_is None h = refl
 none_is (Some x) h = absurd (false≢true h)
 
 no_frame : (s : SlotRow) → is_free s ≡ true → s.frame ≡ None
-no_frame s free = none_is s.frame (and_both (is_none s.frame) (nat_lt s.version last_version) free).0
+no_frame s free = none_is s.frame (and_both (is_none s.frame) (nat_lt s.version LAST_VERSION) free).0
 
-module _ (test : Option FrameRow → Bool) where
-  all_step : (b : Bool) (s : SlotRow) (ss : List SlotRow) (x : FrameRow) (xs : List FrameRow) → is_free s ≡ b → test s.frame ≡ true → test (Some x) ≡ true
+module _ (test : Option Frame → Bool) where
+  all_step : (b : Bool) (s : SlotRow) (ss : List SlotRow) (x : Frame) (xs : List Frame) → is_free s ≡ b → test s.frame ≡ true → test (Some x) ≡ true
       → list_all (λ (r : SlotRow). test r.frame) (place_frames ss xs) ≡ true → list_all (λ (r : SlotRow). test r.frame) (place_frames ss (x ∷ xs)) ≡ true
       → list_all (λ (r : SlotRow). test r.frame) (place_frames (s ∷ ss) (x ∷ xs)) ≡ true
   all_step true s ss x xs free was is here later = rw (free, is) here
   all_step false s ss x xs free was is here later = rw (free, was) later
 
-  all_fresh : (frames : List FrameRow) → list_all (λ (x : FrameRow). test (Some x)) frames ≡ true → list_all (λ (r : SlotRow). test r.frame) (map fresh_slot frames) ≡ true
+  all_fresh : (frames : List Frame) → list_all (λ (x : Frame). test (Some x)) frames ≡ true → list_all (λ (r : SlotRow). test r.frame) (map fresh_slot frames) ≡ true
   all_fresh [] new = refl
   all_fresh (x ∷ xs) new =
-      let both = and_both (test (Some x)) (list_all (λ (y : FrameRow). test (Some y)) xs) new in
+      let both = and_both (test (Some x)) (list_all (λ (y : Frame). test (Some y)) xs) new in
       and_from (test (Some x)) (list_all (λ (r : SlotRow). test r.frame) (map fresh_slot xs)) both.0 (all_fresh xs both.1)
 
-  all_placed : (slots : List SlotRow) (frames : List FrameRow) → list_all (λ (r : SlotRow). test r.frame) slots ≡ true → list_all (λ (x : FrameRow). test (Some x)) frames ≡ true
+  all_placed : (slots : List SlotRow) (frames : List Frame) → list_all (λ (r : SlotRow). test r.frame) slots ≡ true → list_all (λ (x : Frame). test (Some x)) frames ≡ true
       → list_all (λ (r : SlotRow). test r.frame) (place_frames slots frames) ≡ true
   all_placed [] frames old new = all_fresh frames new
   all_placed (s ∷ ss) [] old new = old
   all_placed (s ∷ ss) (x ∷ xs) old new =
       let was = and_both (test s.frame) (list_all (λ (r : SlotRow). test r.frame) ss) old in
-      let is = and_both (test (Some x)) (list_all (λ (y : FrameRow). test (Some y)) xs) new in
+      let is = and_both (test (Some x)) (list_all (λ (y : Frame). test (Some y)) xs) new in
       all_step (is_free s) s ss x xs refl was.0 is.0 (all_placed ss xs was.1 is.1) (all_placed ss (x ∷ xs) was.1 new)
 
-  all_from : (job layer p : ℕ) (ns : List ℤ) → ((q : ℕ) (n : ℤ) → test (Some (new_frame job layer q n)) ≡ true) → list_all (λ (x : FrameRow). test (Some x)) (frames_from job layer p ns) ≡ true
+  all_from : (job layer p : ℕ) (ns : List ℤ) → ((q : ℕ) (n : ℤ) → test (Some (new_frame job layer q n)) ≡ true) → list_all (λ (x : Frame). test (Some x)) (frames_from job layer p ns) ≡ true
   all_from job layer p [] each = refl
   all_from job layer p (n ∷ ns) each = and_from (test (Some (new_frame job layer p n))) _ (each p n) (all_from job layer (p + 1) ns each)
 
-  all_joined : (xs ys : List FrameRow) → list_all (λ (x : FrameRow). test (Some x)) xs ≡ true → list_all (λ (x : FrameRow). test (Some x)) ys ≡ true → list_all (λ (x : FrameRow). test (Some x)) (xs ++ ys) ≡ true
-  all_joined [] ys first second = second
-  all_joined (x ∷ xs) ys first second =
-      let both = and_both (test (Some x)) (list_all (λ (y : FrameRow). test (Some y)) xs) first in
-      and_from (test (Some x)) _ both.0 (all_joined xs ys both.1 second)
-
-  all_of : (job p : ℕ) (ls : List LayerSpec) → ((l q : ℕ) (n : ℤ) → test (Some (new_frame job l q n)) ≡ true) → list_all (λ (x : FrameRow). test (Some x)) (frames_of job p ls) ≡ true
+  all_of : (job p : ℕ) (ls : List LayerSpec) → ((l q : ℕ) (n : ℤ) → test (Some (new_frame job l q n)) ≡ true) → list_all (λ (x : Frame). test (Some x)) (frames_of job p ls) ≡ true
   all_of job p [] each = refl
-  all_of job p (l ∷ ls) each = all_joined (frames_from job p 0 l.numbers) (frames_of job (p + 1) ls) (all_from job p 0 l.numbers (each p)) (all_of job (p + 1) ls each)
+  all_of job p (l ∷ ls) each =
+      list_all-append (λ (x : Frame). test (Some x)) (frames_from job p 0 l.numbers) (frames_of job (p + 1) ls) ∙ and_from _ _ (all_from job p 0 l.numbers (each p)) (all_of job (p + 1) ls each)
 
 -- ---- what is counted
 
-module _ (weight : Option FrameRow → ℕ) (nothing : weight None ≡ 0) where
-  sum_step : (b : Bool) (s : SlotRow) (ss : List SlotRow) (x : FrameRow) (xs : List FrameRow) → is_free s ≡ b
-      → sum_by (λ (r : SlotRow). weight r.frame) (place_frames ss xs) ≡ sum_by (λ (r : SlotRow). weight r.frame) ss + sum_by (λ (y : FrameRow). weight (Some y)) xs
-      → sum_by (λ (r : SlotRow). weight r.frame) (place_frames ss (x ∷ xs)) ≡ sum_by (λ (r : SlotRow). weight r.frame) ss + sum_by (λ (y : FrameRow). weight (Some y)) (x ∷ xs)
-      → sum_by (λ (r : SlotRow). weight r.frame) (place_frames (s ∷ ss) (x ∷ xs)) ≡ sum_by (λ (r : SlotRow). weight r.frame) (s ∷ ss) + sum_by (λ (y : FrameRow). weight (Some y)) (x ∷ xs)
+module _ (weight : Option Frame → ℕ) (nothing : weight None ≡ 0) where
+  sum_step : (b : Bool) (s : SlotRow) (ss : List SlotRow) (x : Frame) (xs : List Frame) → is_free s ≡ b
+      → sum_by (λ (r : SlotRow). weight r.frame) (place_frames ss xs) ≡ sum_by (λ (r : SlotRow). weight r.frame) ss + sum_by (λ (y : Frame). weight (Some y)) xs
+      → sum_by (λ (r : SlotRow). weight r.frame) (place_frames ss (x ∷ xs)) ≡ sum_by (λ (r : SlotRow). weight r.frame) ss + sum_by (λ (y : Frame). weight (Some y)) (x ∷ xs)
+      → sum_by (λ (r : SlotRow). weight r.frame) (place_frames (s ∷ ss) (x ∷ xs)) ≡ sum_by (λ (r : SlotRow). weight r.frame) (s ∷ ss) + sum_by (λ (y : Frame). weight (Some y)) (x ∷ xs)
   sum_step true s ss x xs free here later =
       let placed : place_frames (s ∷ ss) (x ∷ xs) ≡ slot_with x s ∷ place_frames ss xs = rw free refl in
       let had : weight s.frame ≡ 0 = ap weight (no_frame s free) ∙ nothing in
       ap (sum_by (λ (r : SlotRow). weight r.frame)) placed
-      ∙ omega (arith, sum_by-cons (λ (r : SlotRow). weight r.frame) (slot_with x s) (place_frames ss xs), sum_by-cons (λ (r : SlotRow). weight r.frame) s ss, sum_by-cons (λ (y : FrameRow). weight (Some y)) x xs, had, here)
+      ∙ omega (arith, sum_by-cons (λ (r : SlotRow). weight r.frame) (slot_with x s) (place_frames ss xs), sum_by-cons (λ (r : SlotRow). weight r.frame) s ss, sum_by-cons (λ (y : Frame). weight (Some y)) x xs, had, here)
   sum_step false s ss x xs free here later =
       let placed : place_frames (s ∷ ss) (x ∷ xs) ≡ s ∷ place_frames ss (x ∷ xs) = rw free refl in
       ap (sum_by (λ (r : SlotRow). weight r.frame)) placed
       ∙ omega (arith, sum_by-cons (λ (r : SlotRow). weight r.frame) s (place_frames ss (x ∷ xs)), sum_by-cons (λ (r : SlotRow). weight r.frame) s ss, later)
 
-  sum_fresh : (frames : List FrameRow) → sum_by (λ (r : SlotRow). weight r.frame) (map fresh_slot frames) ≡ sum_by (λ (y : FrameRow). weight (Some y)) frames
+  sum_fresh : (frames : List Frame) → sum_by (λ (r : SlotRow). weight r.frame) (map fresh_slot frames) ≡ sum_by (λ (y : Frame). weight (Some y)) frames
   sum_fresh [] = refl
   sum_fresh (x ∷ xs) =
-      omega (arith, sum_by-cons (λ (r : SlotRow). weight r.frame) (fresh_slot x) (map fresh_slot xs), sum_by-cons (λ (y : FrameRow). weight (Some y)) x xs, sum_fresh xs)
+      omega (arith, sum_by-cons (λ (r : SlotRow). weight r.frame) (fresh_slot x) (map fresh_slot xs), sum_by-cons (λ (y : Frame). weight (Some y)) x xs, sum_fresh xs)
 
   -- the placed frames weigh beside those that were there
-  sum_placed : (slots : List SlotRow) (frames : List FrameRow) → sum_by (λ (r : SlotRow). weight r.frame) (place_frames slots frames) ≡ sum_by (λ (r : SlotRow). weight r.frame) slots + sum_by (λ (y : FrameRow). weight (Some y)) frames
+  sum_placed : (slots : List SlotRow) (frames : List Frame) → sum_by (λ (r : SlotRow). weight r.frame) (place_frames slots frames) ≡ sum_by (λ (r : SlotRow). weight r.frame) slots + sum_by (λ (y : Frame). weight (Some y)) frames
   sum_placed [] frames = omega (arith, sum_fresh frames)
   sum_placed (s ∷ ss) [] = omega arith
   sum_placed (s ∷ ss) (x ∷ xs) = sum_step (is_free s) s ss x xs refl (sum_placed ss xs) (sum_placed ss (x ∷ xs))
 
-sum_from : (weight : FrameRow → ℕ) (job layer p : ℕ) (ns : List ℤ) (k : ℕ) → ((l q : ℕ) (n : ℤ) → weight (new_frame job l q n) ≡ k) → sum_by weight (frames_from job layer p ns) ≡ length ns * k
+sum_from : (weight : Frame → ℕ) (job layer p : ℕ) (ns : List ℤ) (k : ℕ) → ((l q : ℕ) (n : ℤ) → weight (new_frame job l q n) ≡ k) → sum_by weight (frames_from job layer p ns) ≡ length ns * k
 sum_from weight job layer p [] k each = omega arith
 sum_from weight job layer p (n ∷ ns) k each =
     omega (arith, sum_by-cons weight (new_frame job layer p n) (frames_from job layer (p + 1) ns), each layer p n, sum_from weight job layer (p + 1) ns k each)
 
-sum_of : (weight : FrameRow → ℕ) (job p : ℕ) (ls : List LayerSpec) (k : ℕ) → ((l q : ℕ) (n : ℤ) → weight (new_frame job l q n) ≡ k) → sum_by weight (frames_of job p ls) ≡ frames_in ls * k
+sum_of : (weight : Frame → ℕ) (job p : ℕ) (ls : List LayerSpec) (k : ℕ) → ((l q : ℕ) (n : ℤ) → weight (new_frame job l q n) ≡ k) → sum_by weight (frames_of job p ls) ≡ frames_in ls * k
 sum_of weight job p [] k each = omega arith
 sum_of weight job p (l ∷ ls) k each =
     let all : frames_in (l ∷ ls) * k ≡ (length l.numbers + frames_in ls) * k = ap (λ m. m * k) (sum_by-cons (λ (m : LayerSpec). length m.numbers) l ls) in
@@ -146,11 +144,11 @@ count_placed : (slots : List SlotRow) (next : ℕ) (ls : List LayerSpec) (job : 
     → count_in job state (place_frames slots (frames_of next 0 ls)) ≡ count_in job state slots + frames_in ls * cond (eqb next job && eqb 0 (number_of state)) 1 0
 count_placed slots next ls job state =
     let all = sum_placed (λ o. cond (for_some o (is_in job state)) 1 0) refl slots (frames_of next 0 ls) in
-    let new = sum_of (λ (y : FrameRow). cond (is_in job state y) 1 0) next 0 ls (cond (eqb next job && eqb 0 (number_of state)) 1 0) (λ l q n. refl) in
+    let new = sum_of (λ (y : Frame). cond (is_in job state y) 1 0) next 0 ls (cond (eqb next job && eqb 0 (number_of state)) 1 0) (λ l q n. refl) in
     omega (arith, all, new)
 
 -- a job that wasn't placed has no frame
-below_frame : (o : Option FrameRow) (next job : ℕ) (state : FrameState) → next ≤ job → not (for_some o (λ x. nat_le next x.job)) ≡ true → ◌≡◌ {A = ℕ} (cond (for_some o (is_in job state)) 1 0) 0
+below_frame : (o : Option Frame) (next job : ℕ) (state : FrameState) → next ≤ job → not (for_some o (λ x. nat_le next x.job)) ≡ true → ◌≡◌ {A = ℕ} (cond (for_some o (is_in job state)) 1 0) 0
 below_frame None next job state later below = refl
 below_frame (Some x) next job state later below = frame_apart (nat_le next x.job) refl below
   where
@@ -160,11 +158,11 @@ below_frame (Some x) next job state later below = frame_apart (nat_le next x.job
         let apart : eqb x.job job ≡ false = ne_eqb x.job job (λ e. absurd (omega (arith, leb-false next x.job is))) in
         rw apart refl
 
-none_counted : (slots : List SlotRow) (next job : ℕ) (state : FrameState) → next ≤ job → list_all (is_below next) slots ≡ true → count_in job state slots ≡ 0
-none_counted [] next job state later below = refl
-none_counted (s ∷ ss) next job state later below =
+new_job_counts_none : (slots : List SlotRow) (next job : ℕ) (state : FrameState) → next ≤ job → list_all (is_below next) slots ≡ true → count_in job state slots ≡ 0
+new_job_counts_none [] next job state later below = refl
+new_job_counts_none (s ∷ ss) next job state later below =
     let both = and_both (is_below next s) (list_all (is_below next) ss) below in
-    omega (arith, sum_by-cons (λ (r : SlotRow). cond (for_some r.frame (is_in job state)) 1 0) s ss, below_frame s.frame next job state later both.0, none_counted ss next job state later both.1)
+    omega (arith, sum_by-cons (λ (r : SlotRow). cond (for_some r.frame (is_in job state)) 1 0) s ss, below_frame s.frame next job state later both.0, new_job_counts_none ss next job state later both.1)
 
 -- ---- keys that rise
 
@@ -180,21 +178,15 @@ rising-append key low mid high [] ys first second = rising_lower key low mid ys 
     rising_lower key low mid (y ∷ ys) high h rise = (omega (arith, h, rise.0), rise.1)
 rising-append key low mid high (x ∷ xs) ys first second = (first.0, rising-append key (key x + 1) mid high xs ys first.1 second)
 
-layers_rising : (job p : ℕ) (ls : List LayerSpec) → p + length ls ≤ 4294967296 → IsRising layer_key (4294967296 * job + p) (layer_rows job p ls) (4294967296 * (job + 1))
+layers_rising : (job p : ℕ) (ls : List LayerSpec) → p + length ls ≤ PLACE_LIMIT → IsRising layer_key (PLACE_LIMIT * job + p) (layer_rows job p ls) (PLACE_LIMIT * (job + 1))
 layers_rising job p [] few = omega arith
 layers_rising job p (l ∷ ls) few =
-    let next : 4294967296 * job + p + 1 ≡ 4294967296 * job + (p + 1) = omega arith in
-    (omega arith, subst (λ k. IsRising layer_key k (layer_rows job (p + 1) ls) (4294967296 * (job + 1))) (sym next) (layers_rising job (p + 1) ls (omega arith)))
+    let next : PLACE_LIMIT * job + p + 1 ≡ PLACE_LIMIT * job + (p + 1) = omega arith in
+    (omega arith, subst (λ k. IsRising layer_key k (layer_rows job (p + 1) ls) (PLACE_LIMIT * (job + 1))) (sym next) (layers_rising job (p + 1) ls (omega arith)))
 
-places_joined : (xs ys : List LayerRow) → list_all has_place xs ≡ true → list_all has_place ys ≡ true → list_all has_place (xs ++ ys) ≡ true
-places_joined [] ys first second = second
-places_joined (x ∷ xs) ys first second =
-    let both = and_both (has_place x) (list_all has_place xs) first in
-    and_from (has_place x) _ both.0 (places_joined xs ys both.1 second)
-
-places_rows : (job p : ℕ) (ls : List LayerSpec) → p + length ls ≤ 4294967296 → list_all has_place (layer_rows job p ls) ≡ true
+places_rows : (job p : ℕ) (ls : List LayerSpec) → p + length ls ≤ PLACE_LIMIT → list_all has_place (layer_rows job p ls) ≡ true
 places_rows job p [] few = refl
-places_rows job p (l ∷ ls) few = and_from (nat_lt p 4294967296) _ (lt-ltb p 4294967296 (omega arith)) (places_rows job (p + 1) ls (omega arith))
+places_rows job p (l ∷ ls) few = and_from (nat_lt p PLACE_LIMIT) _ (lt-ltb p PLACE_LIMIT (omega arith)) (places_rows job (p + 1) ls (omega arith))
 
 length-layer_rows : (job p : ℕ) (ls : List LayerSpec) → length (layer_rows job p ls) ≡ length ls
 length-layer_rows job p [] = refl
@@ -213,27 +205,27 @@ layers_within (l ∷ ls) each =
 some_none : {X : Type 0} (x : X) → Some x ≡ None → ⊥
 some_none x e = cc
 
-room_step : (full over : Bool) (b : JobLists) (spec : JobSpec) → nat_lt (free_in b.slots) (frames_in spec.layers) ≡ full → nat_lt last_job b.next_job ≡ over → room_refusal b spec ≡ None
-    → (frames_in spec.layers ≤ free_in b.slots) × (b.next_job ≤ last_job)
-room_step true over b spec few many none = absurd (some_none _ (rw few at none))
-room_step false true b spec few many none = absurd (some_none _ (rw (few, many) at none))
-room_step false false b spec few many none = (ltb-false (free_in b.slots) (frames_in spec.layers) few, ltb-false last_job b.next_job many)
+left_step : (full over : Bool) (b : JobLists) (spec : JobSpec) → nat_lt (free_in b.slots) (frames_in spec.layers) ≡ full → nat_lt LAST_JOB b.next_job ≡ over → room_refusal b spec ≡ None
+    → (frames_in spec.layers ≤ free_in b.slots) × (b.next_job ≤ LAST_JOB)
+left_step true over b spec few many none = absurd (some_none _ (rw few at none))
+left_step false true b spec few many none = absurd (some_none _ (rw (few, many) at none))
+left_step false false b spec few many none = (ltb-false (free_in b.slots) (frames_in spec.layers) few, ltb-false LAST_JOB b.next_job many)
 
 layers_step : (o : Option (List ℕ)) (b : JobLists) (spec : JobSpec) → layers_refusal b spec o ≡ None → room_refusal b spec ≡ None
 layers_step None b spec none = none
 layers_step (Some name) b spec none = absurd (some_none _ none)
 
-accepted_step : (c : Bool) (b : JobLists) (spec : JobSpec) → list_any (is_pending_named spec.name) b.jobs ≡ c → job_refusal b spec ≡ None → room_refusal b spec ≡ None
-accepted_step true b spec is none = absurd (some_none _ (rw is at none))
-accepted_step false b spec is none = layers_step (repeated_name [] spec.layers) b spec (rw is at none)
+accepted_fits_step : (c : Bool) (b : JobLists) (spec : JobSpec) → list_any (is_pending_named spec.name) b.jobs ≡ c → job_refusal b spec ≡ None → room_refusal b spec ≡ None
+accepted_fits_step true b spec is none = absurd (some_none _ (rw is at none))
+accepted_fits_step false b spec is none = layers_step (repeated_name [] spec.layers) b spec (rw is at none)
 
 -- a slot for each frame, and a number
-pub accepted : (b : JobLists) (spec : JobSpec) → job_refusal b spec ≡ None → (frames_in spec.layers ≤ free_in b.slots) × (b.next_job ≤ last_job)
-accepted b spec none = room_step _ _ b spec refl refl (accepted_step _ b spec refl none)
+pub accepted_fits : (b : JobLists) (spec : JobSpec) → job_refusal b spec ≡ None → (frames_in spec.layers ≤ free_in b.slots) × (b.next_job ≤ LAST_JOB)
+accepted_fits b spec none = left_step _ _ b spec refl refl (accepted_fits_step _ b spec refl none)
 
 -- ---- the book with the job
 
-below_later : (o : Option FrameRow) (next : ℕ) → not (for_some o (λ x. nat_le next x.job)) ≡ true → not (for_some o (λ x. nat_le (next + 1) x.job)) ≡ true
+below_later : (o : Option Frame) (next : ℕ) → not (for_some o (λ x. nat_le next x.job)) ≡ true → not (for_some o (λ x. nat_le (next + 1) x.job)) ≡ true
 below_later None next h = refl
 below_later (Some x) next h = less (nat_le next x.job) refl h
   where
@@ -248,63 +240,63 @@ all_later (s ∷ ss) next h =
     and_from (is_below (next + 1) s) _ (below_later s.frame next both.0) (all_later ss next both.1)
 
 module _ (b : JobLists) (show : ℕ) (spec : JobSpec) (limits : JobKeepsLimits spec) (none : job_refusal b spec ≡ None) (ok : IsBook b) where
-  abbrev pub placed : JobLists
-  placed = with_job b show spec
+  abbrev pub placed_lists : JobLists
+  placed_lists = with_job b show spec
 
-  abbrev frames : List FrameRow
+  abbrev frames : List Frame
   frames = frames_of b.next_job 0 spec.layers
 
-  pub placed_free : free_in placed.slots + frames_in spec.layers ≡ free_in b.slots
+  pub placed_free : free_in placed_lists.slots + frames_in spec.layers ≡ free_in b.slots
   placed_free =
       let f = fill b.slots frames in
-      omega (arith, f.long, f.free, length-frames_of b.next_job 0 spec.layers, (accepted b spec none).0, ok.slot_count)
+      omega (arith, f.long, f.free, length-frames_of b.next_job 0 spec.layers, (accepted_fits b spec none).0, ok.slot_count)
 
-  placed_count : length placed.slots ≤ slot_limit
-  placed_count =
+  placed_slot_count : length placed_lists.slots ≤ SLOT_LIMIT
+  placed_slot_count =
       let f = fill b.slots frames in
-      omega (arith, f.long, f.free, length-frames_of b.next_job 0 spec.layers, (accepted b spec none).0, ok.slot_count)
+      omega (arith, f.long, f.free, length-frames_of b.next_job 0 spec.layers, (accepted_fits b spec none).0, ok.slot_count)
 
-  new_below : list_all (λ (x : FrameRow). not (nat_le (b.next_job + 1) x.job)) frames ≡ true
+  new_below : list_all (λ (x : Frame). not (nat_le (b.next_job + 1) x.job)) frames ≡ true
   new_below =
       let k : nat_le (b.next_job + 1) b.next_job ≡ false = lt-leb (b.next_job + 1) b.next_job (omega arith) in
       all_of (λ o. not (for_some o (λ x. nat_le (b.next_job + 1) x.job))) b.next_job 0 spec.layers (λ l q n. rw k refl)
 
-  pub placed_book : IsBook placed
+  pub placed_book : IsBook placed_lists
   placed_book =
-      let last = (accepted b spec none).1 in
+      let last = (accepted_fits b spec none).1 in
       let free = placed_free in
       let each = layers_within spec.layers limits.each_layer in
       let long = length-layer_rows b.next_job 0 spec.layers in
-      let from : 4294967296 * b.next_job + 0 ≡ 4294967296 * b.next_job = omega arith in
+      let from : PLACE_LIMIT * b.next_job + 0 ≡ PLACE_LIMIT * b.next_job = omega arith in
       record {
-        slot_count = placed_count;
+        slot_count = placed_slot_count;
         next_within = omega (arith, last);
         jobs_rise = rising-append job_key 0 b.next_job (b.next_job + 1) b.jobs (job_row b.next_job show spec ∷ []) ok.jobs_rise (omega arith, omega arith);
         layers_rise =
-            rising-append layer_key 0 (4294967296 * b.next_job) (4294967296 * (b.next_job + 1)) b.layers (layer_rows b.next_job 0 spec.layers) ok.layers_rise
-            (subst (λ k. IsRising layer_key k (layer_rows b.next_job 0 spec.layers) (4294967296 * (b.next_job + 1))) from (layers_rising b.next_job 0 spec.layers (omega (arith, limits.layers_within.1))));
-        places_within = places_joined b.layers (layer_rows b.next_job 0 spec.layers) ok.places_within (places_rows b.next_job 0 spec.layers (omega (arith, limits.layers_within.1)));
+            rising-append layer_key 0 (PLACE_LIMIT * b.next_job) (PLACE_LIMIT * (b.next_job + 1)) b.layers (layer_rows b.next_job 0 spec.layers) ok.layers_rise
+            (subst (λ k. IsRising layer_key k (layer_rows b.next_job 0 spec.layers) (PLACE_LIMIT * (b.next_job + 1))) from (layers_rising b.next_job 0 spec.layers (omega (arith, limits.layers_within.1))));
+        places_within = list_all-append has_place b.layers (layer_rows b.next_job 0 spec.layers) ∙ and_from _ _ ok.places_within (places_rows b.next_job 0 spec.layers (omega (arith, limits.layers_within.1)));
         frames_below = all_placed (λ o. not (for_some o (λ x. nat_le (b.next_job + 1) x.job))) b.slots frames (all_later b.slots b.next_job ok.frames_below) new_below;
         jobs_fit = omega (arith, free, ok.jobs_fit, length-append b.jobs (job_row b.next_job show spec ∷ []), limits.frames_within.0);
         layers_fit = omega (arith, free, ok.layers_fit, length-append b.layers (layer_rows b.next_job 0 spec.layers), long, each);
       }
 
-  counts_before : (job : ℕ) → job < b.next_job → counts_of job placed.slots ≡ counts_of job b.slots
+  counts_before : (job : ℕ) → job < b.next_job → counts_of job placed_lists.slots ≡ counts_of job b.slots
   counts_before job before =
-      same_counts (counts_of job placed.slots) (counts_of job b.slots) (λ st.
+      same_counts (counts_of job placed_lists.slots) (counts_of job b.slots) (λ st.
       let apart : eqb b.next_job job ≡ false = ne_eqb b.next_job job (λ e. absurd (omega arith)) in
       let e = rw apart at (count_placed b.slots b.next_job spec.layers job st) in
-      let same : count_in job st placed.slots ≡ count_in job st b.slots = omega (arith, e) in
-      part_is job placed.slots st ∙ same ∙ sym (part_is job b.slots st))
+      let same : count_in job st placed_lists.slots ≡ count_in job st b.slots = omega (arith, e) in
+      part_is job placed_lists.slots st ∙ same ∙ sym (part_is job b.slots st))
 
-  counts_new : counts_of b.next_job placed.slots ≡ new_counts (frames_in spec.layers)
+  counts_new : counts_of b.next_job placed_lists.slots ≡ new_counts (frames_in spec.layers)
   counts_new =
-      same_counts (counts_of b.next_job placed.slots) (new_counts (frames_in spec.layers)) (λ st.
+      same_counts (counts_of b.next_job placed_lists.slots) (new_counts (frames_in spec.layers)) (λ st.
       let itself : eqb b.next_job b.next_job ≡ true = eq-eqb b.next_job b.next_job refl in
       let e = rw itself at (count_placed b.slots b.next_job spec.layers b.next_job st) in
-      let had = none_counted b.slots b.next_job b.next_job st (omega arith) ok.frames_below in
-      let is : count_in b.next_job st placed.slots ≡ frames_in spec.layers * cond (eqb 0 (number_of st)) 1 0 = omega (arith, e, had) in
-      part_is b.next_job placed.slots st ∙ is ∙ new_part st)
+      let had = new_job_counts_none b.slots b.next_job b.next_job st (omega arith) ok.frames_below in
+      let is : count_in b.next_job st placed_lists.slots ≡ frames_in spec.layers * cond (eqb 0 (number_of st)) 1 0 = omega (arith, e, had) in
+      part_is b.next_job placed_lists.slots st ∙ is ∙ new_part st)
     where
       new_part : (st : FrameState) → frames_in spec.layers * cond (eqb 0 (number_of st)) 1 0 ≡ part st (new_counts (frames_in spec.layers))
       new_part Waiting = omega arith
@@ -315,16 +307,16 @@ module _ (b : JobLists) (show : ℕ) (spec : JobSpec) (limits : JobKeepsLimits s
       new_part Dead = omega arith
       new_part Eaten = omega arith
 
-  counts_kept : (low : ℕ) (js : List JobRow) → IsRising job_key low js b.next_job → counts_for js placed.slots ≡ counts_for js b.slots
+  counts_kept : (low : ℕ) (js : List JobRow) → IsRising job_key low js b.next_job → counts_for js placed_lists.slots ≡ counts_for js b.slots
   counts_kept low [] rise = refl
   counts_kept low (j ∷ js) rise =
       let before : j.job < b.next_job = omega (arith, rising_within job_key (j.job + 1) js b.next_job rise.1) in
       rw (counts_before j.job before, counts_kept (j.job + 1) js rise.1) refl
 
-  pub placed_counts : counts_for placed.jobs placed.slots ≡ counts_for b.jobs b.slots ++ new_counts (frames_in spec.layers) ∷ []
+  pub placed_counts : counts_for placed_lists.jobs placed_lists.slots ≡ counts_for b.jobs b.slots ++ new_counts (frames_in spec.layers) ∷ []
   placed_counts =
-      map_push (λ (j : JobRow). counts_of j.job placed.slots) b.jobs (job_row b.next_job show spec)
-      ∙ ap (λ cs. cs ++ counts_of b.next_job placed.slots ∷ []) (counts_kept 0 b.jobs ok.jobs_rise) ∙ ap (λ c. counts_for b.jobs b.slots ++ c ∷ []) counts_new
+      map_push (λ (j : JobRow). counts_of j.job placed_lists.slots) b.jobs (job_row b.next_job show spec)
+      ∙ ap (λ cs. cs ++ counts_of b.next_job placed_lists.slots ∷ []) (counts_kept 0 b.jobs ok.jobs_rise) ∙ ap (λ c. counts_for b.jobs b.slots ++ c ∷ []) counts_new
 
 -- lists that are those of a book
 pub book_from : (b : JobLists) (jobs : List JobRow) (layers : List LayerRow) (slots : List SlotRow) (next : ℕ) → jobs ≡ b.jobs → layers ≡ b.layers → slots ≡ b.slots → next ≡ b.next_job

@@ -6,7 +6,7 @@ use Rattle.farm_types.specs.Farm.{changed_at}
 use Rattle.farm_types.specs.declared.rows.JobRow.{JobRow}
 use Rattle.job_book.specs.declared.counts.Counts.{Counts}
 use Rattle.job_book.specs.Inside.{IsRising, job_key}
-use Rattle.job_book.proofs.Changed.{changed_at_suc}
+use Rattle.farm_types.proofs.ChangedLists.{changed_at_suc}
 
 is_job : ℕ → JobRow → Bool
 is_job job j = eqb j.job job

@@ -4,17 +4,18 @@ use Rattle.std.specs.List.{slice_get, slice_set}
 use Rattle.std.proofs.lemmas.List.{take-append-drop, length-take-le, set-append_right, take_more}
 use Rattle.std.proofs.lemmas.List.Sums.{sum_by-cons, sum_by_more_le, prefix_len-le-length}
 use Rattle.farm_types.specs.declared.job.LayerSpec.{LayerSpec}
-use Rattle.farm_types.specs.declared.slot_row.FrameRow.{FrameRow}
+use Rattle.farm_types.specs.declared.slot_row.Frame.{Frame}
 use Rattle.farm_types.specs.declared.slot_row.SlotRow.{SlotRow}
-use Rattle.farm_types.specs.Jobs.{is_free, free_among, free_in, slot_limit, slot_with, fresh_slot, place_frames, new_frame, frames_from, frames_of}
-use Rattle.farm_types.specs.Spec.{frames_in}
+use Rattle.farm_types.specs.Jobs.{is_free, free_among, free_in, slot_with, fresh_slot, place_frames, new_frame, frames_from, frames_of}
+use Rattle.farm_types.specs.Jobs.{frames_in}
 use Rattle.job_book.specs.Book.{first_free}
 use Rattle.job_book.specs.Puts.{Puts, free_from}
 use Rattle.job_book.proofs.FreeSlots.{set_in, push_in, slice_get_behind, place_none, free_cons}
+use Rattle.farm_types.specs.declared.limits.TheConstants.{SLOT_LIMIT}
 
 -- ---- one frame
 
-module _ (slots : List SlotRow) (place found : ℕ) (x : FrameRow) (within : place ≤ length slots) (most : length slots ≤ slot_limit) (is : found ≡ place + first_free (drop place slots)) where
+module _ (slots : List SlotRow) (place found : ℕ) (x : Frame) (within : place ≤ length slots) (most : length slots ≤ SLOT_LIMIT) (is : found ≡ place + first_free (drop place slots)) where
   whole : take place slots ++ drop place slots ≡ slots
   whole = take-append-drop place slots
 
@@ -24,7 +25,7 @@ module _ (slots : List SlotRow) (place found : ℕ) (x : FrameRow) (within : pla
   read : slice_get (drop place slots) (first_free (drop place slots)) ≡ slice_get slots found
   read = sym (slice_get_behind (take place slots) (drop place slots) place (first_free (drop place slots)) count) ∙ ap (λ ss. slice_get ss (place + first_free (drop place slots))) whole ∙ ap (slice_get slots) (sym is)
 
-  fits : length (take place slots ++ drop place slots) ≤ slot_limit
+  fits : length (take place slots ++ drop place slots) ≤ SLOT_LIMIT
   fits = rw whole most
 
   -- into a slot that was used before
@@ -49,10 +50,10 @@ module _ (slots : List SlotRow) (place found : ℕ) (x : FrameRow) (within : pla
 
 -- ---- many
 
-pub puts_none : (place : ℕ) (slots : List SlotRow) → place ≤ length slots → length slots ≤ slot_limit → Puts [] place slots place slots
+pub puts_none : (place : ℕ) (slots : List SlotRow) → place ≤ length slots → length slots ≤ SLOT_LIMIT → Puts [] place slots place slots
 puts_none place slots within most = record { rest = λ later. refl; within = within; slot_count = most; left = omega arith }
 
-pub puts_join : (xs ys : List FrameRow) (p q r : ℕ) (a b c : List SlotRow) → Puts xs p a q b → Puts ys q b r c → Puts (xs ++ ys) p a r c
+pub puts_join : (xs ys : List Frame) (p q r : ℕ) (a b c : List SlotRow) → Puts xs p a q b → Puts ys q b r c → Puts (xs ++ ys) p a r c
 puts_join xs ys p q r a b c first second =
     record {
       rest = λ later. second.rest later ∙ first.rest (ys ++ later) ∙ ap (λ fs. take p a ++ place_frames (drop p a) fs) (sym (append_assoc xs ys later));
@@ -61,8 +62,8 @@ puts_join xs ys p q r a b c first second =
       left = omega (arith, first.left, second.left, length-append xs ys);
     }
 
-skip_step : (b : Bool) (s : SlotRow) (ss : List SlotRow) (frames : List FrameRow) → is_free s ≡ b
-    → ((fs : List FrameRow) → take (first_free ss) ss ++ place_frames (drop (first_free ss) ss) fs ≡ place_frames ss fs)
+skip_step : (b : Bool) (s : SlotRow) (ss : List SlotRow) (frames : List Frame) → is_free s ≡ b
+    → ((fs : List Frame) → take (first_free ss) ss ++ place_frames (drop (first_free ss) ss) fs ≡ place_frames ss fs)
     → take (first_free (s ∷ ss)) (s ∷ ss) ++ place_frames (drop (first_free (s ∷ ss)) (s ∷ ss)) frames ≡ place_frames (s ∷ ss) frames
 skip_step true s ss frames free later = rw free refl
 skip_step false s ss [] free later =
@@ -73,11 +74,11 @@ skip_step false s ss (x ∷ xs) free later =
     rw (free, e) (ap (λ rs. s ∷ rs) (later (x ∷ xs)))
 
 -- no frame goes into a slot before the first free one
-skip : (slots : List SlotRow) (frames : List FrameRow) → take (first_free slots) slots ++ place_frames (drop (first_free slots) slots) frames ≡ place_frames slots frames
+skip : (slots : List SlotRow) (frames : List Frame) → take (first_free slots) slots ++ place_frames (drop (first_free slots) slots) frames ≡ place_frames slots frames
 skip [] frames = refl
 skip (s ∷ ss) frames = skip_step (is_free s) s ss frames refl (λ fs. skip ss fs)
 
-pub puts_all : (frames : List FrameRow) (first next : ℕ) (slots new : List SlotRow) → first ≡ first_free slots → Puts frames first slots next new → new ≡ place_frames slots frames
+pub puts_all : (frames : List Frame) (first next : ℕ) (slots new : List SlotRow) → first ≡ first_free slots → Puts frames first slots next new → new ≡ place_frames slots frames
 puts_all frames first next slots new is puts =
     let last : take next new ++ place_frames (drop next new) [] ≡ new = ap (λ ss. take next new ++ ss) (place_none (drop next new)) ∙ take-append-drop next new in
     sym last ∙ puts.rest [] ∙ rw (is, append-nil) (skip slots frames)
@@ -96,7 +97,7 @@ free_after_first (s ∷ ss) = free_step (is_free s) s ss refl (free_after_first 
 
 -- no slot before the first free one is free
 pub free_first : (first : ℕ) (slots : List SlotRow) → first ≡ first_free slots → free_from first slots ≡ free_in slots
-free_first first slots is = rw is (ap (λ k. k + (slot_limit - length slots)) (free_after_first slots))
+free_first first slots is = rw is (ap (λ k. k + (SLOT_LIMIT - length slots)) (free_after_first slots))
 
 -- ---- the frames of a job
 

@@ -1,6 +1,7 @@
 -- A binary search by keys that rise ends at the place of the first item with the key, or says that there is none.
 use Rattle.std.proofs.Common.{◌≡◌, ℕ, zero, suc, ◌+◌, ◌<◌, ◌≤◌, ◌*◌, ◌&&◌, eqb, leb, ltb, true, false, List, [], ◌∷◌, length, get_or, Result, Ok, Err, ◌⊎◌, inl, inr, refl, sym, ◌∙◌, arith}
 use Rattle.std.specs.List.{position_or_len, list_all}
+use Rattle.std.specs.Result.{result_unwrap_or}
 use Rattle.std.specs.List.Sorted.{IsSearchInRange, IsBinarySearchResult, IsNonDecreasingBy, IsPartitionPoint}
 use Rattle.std.specs.Ordering.{nat_cmp, ordering_index}
 use Rattle.std.specs.declared.cmp.Ordering.TheVariants.{Equal}
@@ -10,15 +11,12 @@ use Rattle.std.proofs.lemmas.Cmp.{ranked}
 use Rattle.std.proofs.lemmas.List.Sums.{position_or_len_is}
 use Rattle.farm_types.specs.declared.rows.LayerRow.{LayerRow}
 use Rattle.job_book.specs.Inside.{IsRising, layer_key, has_place}
-use Rattle.job_book.proofs.Lists.{and_both}
-
--- the place at which a search ended, and the list's length where it found nothing
-abbrev pub place_in : {X : Type 0} → List X → Result ℕ ℕ → ℕ
-place_in xs (Ok at) = at
-place_in xs (Err at) = length xs
+use Rattle.farm_types.proofs.Lists.{and_both}
+use Rattle.job_book.specs.declared.place_of.TheConstants.{PLACE_LIMIT}
 
 module _ {X : Type 0} (key : X → ℕ) where
-  at_least : (low : ℕ) (xs : List X) (high i : ℕ) (d : X) → IsRising key low xs high → i < length xs → low ≤ key (get_or xs i d)
+  -- no key is below where they begin
+  pub at_least : (low : ℕ) (xs : List X) (high i : ℕ) (d : X) → IsRising key low xs high → i < length xs → low ≤ key (get_or xs i d)
   at_least low [] high i d rise within = absurd (omega arith)
   at_least low (x ∷ xs) high zero d rise within = rise.0
   at_least low (x ∷ xs) high (suc i) d rise within = omega (arith, rise.0, at_least (key x + 1) xs high i d rise.1 (omega arith))
@@ -60,9 +58,9 @@ module _ {X : Type 0} (key : X → ℕ) where
             let more : k < key (get_or xs i d) = ranked _ k _ (sym ((parted comparisons_rise).1 i d behind within)) in
             omega arith
 
-  -- the answer of a binary search
+  -- the place at which a binary search ended, and the list's length where it found nothing
   pub searched : (xs : List X) (low high : ℕ) → IsRising key low xs high → (k : ℕ) (r : Result ℕ ℕ) → IsSearchInRange r (length xs) → IsBinarySearchResult (λ x. nat_cmp (key x) k) xs r
-      → place_in xs r ≡ position_or_len (λ x. eqb (key x) k) xs
+      → result_unwrap_or r (length xs) ≡ position_or_len (λ x. eqb (key x) k) xs
   searched [] low high rise k (Ok at) bound position = absurd (omega (arith, bound))
   searched [] low high rise k (Err at) bound position = refl
   searched (y ∷ ys) low high rise k (Ok at) bound position = found (y ∷ ys) low high rise k at y bound (position y)
@@ -82,22 +80,22 @@ module _ {X : Type 0} (key : X → ℕ) where
 
 -- ---- layers by job and place
 
-same_key : (a b p q : ℕ) → p < 4294967296 → q < 4294967296 → eqb (4294967296 * a + p) (4294967296 * b + q) ≡ (eqb a b && eqb p q)
+same_key : (a b p q : ℕ) → p < PLACE_LIMIT → q < PLACE_LIMIT → eqb (PLACE_LIMIT * a + p) (PLACE_LIMIT * b + q) ≡ (eqb a b && eqb p q)
 same_key a b p q within limit = elim (cases_eq a b) [
   | inl same ↦ rw (eq-eqb a b same) (by_place (cases_eq p q) same)
   | inr apart ↦ rw (ne_eqb a b apart) (ne_eqb _ _ (λ e. apart (omega (arith, e))))
 ]
   where
-    by_place : (p ≡ q) ⊎ (p ≡ q → ⊥) → a ≡ b → eqb (4294967296 * a + p) (4294967296 * b + q) ≡ eqb p q
+    by_place : (p ≡ q) ⊎ (p ≡ q → ⊥) → a ≡ b → eqb (PLACE_LIMIT * a + p) (PLACE_LIMIT * b + q) ≡ eqb p q
     by_place (inl e) same = eq-eqb _ _ (omega arith) ∙ sym (eq-eqb p q e)
     by_place (inr e) same = ne_eqb _ _ (λ f. e (omega (arith, f))) ∙ sym (ne_eqb p q e)
 
 -- the place of a layer's key is that of its job and its place in it
-pub layer_found : (layers : List LayerRow) (job place : ℕ) → list_all has_place layers ≡ true → place < 4294967296
-    → position_or_len (λ (l : LayerRow). eqb (layer_key l) (4294967296 * job + place)) layers ≡ position_or_len (λ (l : LayerRow). eqb l.job job && eqb l.place place) layers
+pub layer_found : (layers : List LayerRow) (job place : ℕ) → list_all has_place layers ≡ true → place < PLACE_LIMIT
+    → position_or_len (λ (l : LayerRow). eqb (layer_key l) (PLACE_LIMIT * job + place)) layers ≡ position_or_len (λ (l : LayerRow). eqb l.job job && eqb l.place place) layers
 layer_found [] job place each within = refl
 layer_found (l ∷ ls) job place each within =
     let both = and_both (has_place l) (list_all has_place ls) each in
-    let here = same_key l.job job l.place place (ltb-true l.place 4294967296 both.0) within in
+    let here = same_key l.job job l.place place (ltb-true l.place PLACE_LIMIT both.0) within in
     let later = layer_found ls job place both.1 within in
     rw (here, later) refl

@@ -1,16 +1,15 @@
 -- What the calls of the job book answer and change.
-use Rattle.std.specs.Prelude.{◌≡◌, ℕ, ◌==◌, ◌&&◌, ◌+◌, Bool, not, is_some, List, [], ◌∷◌, option_map, option_and_then, sum_by, Option, None, Some, find, slice_get, nat_lt, bytes_eq, Result, Ok, Err, if◌then◌else◌}
+use Rattle.std.specs.Prelude.{◌≡◌, ◌<◌, ◌≤◌, All, IsSome, ℕ, ◌==◌, ◌&&◌, ◌+◌, Bool, not, is_some, List, [], ◌∷◌, option_map, option_and_then, sum_by, Option, None, Some, find, slice_get, nat_lt, bytes_eq, Result, Ok, Err, if◌then◌else◌}
 use Rattle.std.specs.List.{prefix_len}
 use Rattle.farm_types.specs.declared.attempt.ProcRow.{ProcRow}
 use Rattle.farm_types.specs.declared.job.JobSpec.{JobSpec}
 use Rattle.farm_types.specs.declared.rows.JobRow.{JobRow}
-use Rattle.farm_types.specs.declared.slot_row.FrameRow.{FrameRow}
+use Rattle.farm_types.specs.declared.slot_row.Frame.{Frame}
 use Rattle.farm_types.specs.declared.slot_row.SlotRow.{SlotRow}
 use Rattle.farm_types.specs.declared.states.FrameState.{FrameState}
 use Rattle.farm_types.specs.declared.states.FrameState.TheVariants as frame_state
 use Rattle.farm_types.specs.Farm.{for_some}
-use Rattle.farm_types.specs.Jobs.{JobLists, is_free, job_refusal}
-use Rattle.farm_types.specs.Spec.{frames_in}
+use Rattle.farm_types.specs.Jobs.{JobLists, frames_in, is_free, job_refusal}
 use Rattle.job_book.specs.declared.counts.Counts.{Counts}
 use Rattle.job_book.specs.declared.frame_view.FrameView.{FrameView}
 use Rattle.job_book.specs.declared.placing.JobFault.{JobFault}
@@ -31,7 +30,7 @@ first_free slots = prefix_len (λ s. not (is_free s)) slots
 abbrev pub placing_of : JobLists → ℕ → JobSpec → Placing
 placing_of b show spec = record { job = b.next_job; show = show; first = first_free b.slots; frames = frames_in spec.layers }
 
--- the place of a job that isn't refused, or exactly its refusal; want of memory needs no cause
+-- the place of a job that isn't refused, or exactly its refusal; out of memory needs no cause
 abbrev pub Checks : JobLists → ℕ → JobSpec → Result Placing JobFault → Type 0
 Checks b show spec (Ok placing) = (job_refusal b spec ≡ None) × (placing ≡ placing_of b show spec)
 Checks b show spec (Err (fault.Refused why)) = job_refusal b spec ≡ Some why
@@ -44,9 +43,9 @@ abbrev pub has_frame : JobLists → ℕ → Bool
 has_frame b slot = for_some (slice_get b.slots slot) (λ (s : SlotRow). is_some s.frame)
 
 -- the slot at that version, its frame in that state with so many retries
-abbrev pub turned_row : FrameState → ℕ → ℕ → SlotRow → SlotRow
-turned_row state version retries s =
-    record { version = version; frame = option_map (λ (x : FrameRow). record x { state = state; retries = retries }) s.frame; proc = s.proc }
+abbrev pub row_in_state : FrameState → ℕ → ℕ → SlotRow → SlotRow
+row_in_state state version retries s =
+    record { version = version; frame = option_map (λ (x : Frame). record x { state = state; retries = retries }) s.frame; proc = s.proc }
 
 -- the slot with that live attempt, or with none
 abbrev pub attempted_row : Option ProcRow → SlotRow → SlotRow
@@ -58,11 +57,17 @@ attempted_row proc s = record s { proc = proc }
 abbrev pub job_named : JobLists → List ℕ → Option ℕ
 job_named b name = option_map (λ (j : JobRow). j.job) (find (λ j. bytes_eq j.name name) b.jobs)
 
--- the number of the job with the least number above that one: numbers rise, so it is the first
+-- the number of the first job with a number above that one: numbers rise, so it is the least
 abbrev pub job_after : JobLists → ℕ → Option ℕ
 job_after b after = option_map (λ (j : JobRow). j.job) (find (λ j. nat_lt after j.job) b.jobs)
 
-abbrev pub frame_view : ℕ → FrameRow → FrameView
+-- a job has the number, it is above the other one, and no job's number lies between
+pub record IsLeastAbove (jobs : List JobRow) (after job : ℕ) : Type 0 where
+  pub there : IsSome (find (λ j. j.job == job) jobs)
+  pub above : after < job
+  pub least : All (λ j. after < j.job → job ≤ j.job) jobs
+
+abbrev pub frame_view : ℕ → Frame → FrameView
 frame_view version x =
     record { job = x.job; layer = x.layer; position = x.position; number = x.number; state = x.state; version = version; retries = x.retries }
 
@@ -73,17 +78,17 @@ frame_at b slot = option_and_then (λ (s : SlotRow). option_map (frame_view s.ve
 -- the state of the frame in the slot, and the slot's version, which is 0 where it was never used
 abbrev pub state_in : Option SlotRow → Option FrameState × ℕ
 state_in None = (None, 0)
-state_in (Some s) = (option_map (λ (x : FrameRow). x.state) s.frame, s.version)
+state_in (Some s) = (option_map (λ (x : Frame). x.state) s.frame, s.version)
 
 abbrev pub state_at : JobLists → ℕ → Option FrameState × ℕ
 state_at b slot = state_in (slice_get b.slots slot)
 
 -- whether the frame is that of the job, its layer and its position
-abbrev pub is_placed : ℕ → ℕ → ℕ → FrameRow → Bool
+abbrev pub is_placed : ℕ → ℕ → ℕ → Frame → Bool
 is_placed job layer position x = x.job == job && x.layer == layer && x.position == position
 
 -- the first slot with that frame, counted from a place
-abbrev pub slot_from : ℕ → (FrameRow → Bool) → List SlotRow → Option ℕ
+abbrev pub slot_from : ℕ → (Frame → Bool) → List SlotRow → Option ℕ
 slot_from place test [] = None
 slot_from place test (s ∷ ss) = if for_some s.frame test then Some place else slot_from (place + 1) test ss
 
@@ -98,7 +103,7 @@ number_of frame_state.Depend = 4
 number_of frame_state.Dead = 5
 number_of frame_state.Eaten = 6
 
-abbrev pub is_in : ℕ → FrameState → FrameRow → Bool
+abbrev pub is_in : ℕ → FrameState → Frame → Bool
 is_in job state x = x.job == job && number_of x.state == number_of state
 
 -- how many of the job's frames are in that state

@@ -4,6 +4,7 @@ use Rattle.farm_types.specs.declared.states.FrameState.{FrameState}
 use Rattle.farm_types.specs.declared.states.FrameState.TheVariants as frame_state
 use Rattle.job_book.specs.declared.counts.Counts.{Counts}
 use Rattle.job_book.specs.Book.{number_of}
+use Rattle.farm_types.specs.declared.limits.TheConstants.{SLOT_LIMIT}
 
 -- one where the state is the one of that number
 abbrev pub one : FrameState → ℕ → ℕ
@@ -51,7 +52,7 @@ moved old new c = raised new (lowered old c)
 
 -- some frame is counted in the old state, and no state counts more frames than there are slots
 abbrev pub CanMove : FrameState → FrameState → Counts → Type 0
-CanMove old new c = (0 < part old c) × (part new c ≤ 65536)
+CanMove old new c = (0 < part old c) × (part new c ≤ SLOT_LIMIT)
 
 -- the counts of a job whose frames all wait
 abbrev pub new_counts : ℕ → Counts

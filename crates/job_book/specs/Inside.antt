@@ -6,14 +6,16 @@ use Rattle.farm_types.specs.declared.rows.JobRow.{JobRow}
 use Rattle.farm_types.specs.declared.rows.LayerRow.{LayerRow}
 use Rattle.farm_types.specs.declared.slot_row.SlotRow.{SlotRow}
 use Rattle.farm_types.specs.Farm.{for_some}
-use Rattle.farm_types.specs.Jobs.{JobLists, slot_limit, free_in}
+use Rattle.farm_types.specs.Jobs.{JobLists, free_in}
 use Rattle.job_book.specs.declared.counts.Counts.{Counts}
 use Rattle.job_book.specs.declared.jobs.Jobs.TheInside.{Inside}
 use Rattle.job_book.specs.Book.{counts_of}
+use Rattle.farm_types.specs.declared.limits.TheConstants.{LAST_JOB, SLOT_LIMIT}
+use Rattle.job_book.specs.declared.place_of.TheConstants.{PLACE_LIMIT}
 
 -- the lists of the book
 abbrev pub book_of : Inside → JobLists
-book_of a = record { jobs = a.jobs.items; layers = a.layers.items; slots = a.slots.items; next_job = a.next_job }
+book_of book = record { jobs = book.jobs.items; layers = book.layers.items; slots = book.slots.items; next_job = book.next_job }
 
 -- the keys rise strictly, from `low` and below `high`
 abbrev pub IsRising : {X : Type 0} → (X → ℕ) → ℕ → List X → ℕ → Type 0
@@ -25,11 +27,11 @@ job_key j = j.job
 
 -- layers are in the order of their jobs, those of a job by their places
 abbrev pub layer_key : LayerRow → ℕ
-layer_key l = 4294967296 * l.job + l.place
+layer_key l = PLACE_LIMIT * l.job + l.place
 
 -- a place of 32 bits, so that the key names the layer
 abbrev pub has_place : LayerRow → Bool
-has_place l = nat_lt l.place 4294967296
+has_place l = nat_lt l.place PLACE_LIMIT
 
 -- the slot has no frame of a job of that number or a later one
 abbrev pub is_below : ℕ → SlotRow → Bool
@@ -41,21 +43,21 @@ counts_for jobs slots = map (λ (j : JobRow). counts_of j.job slots) jobs
 
 -- Jobs and layers are in order, frames are of jobs that were placed, and each job and each layer has taken a slot at least.
 pub record IsBook (b : JobLists) : Type 0 where
-  pub slot_count : length b.slots ≤ slot_limit
-  pub next_within : b.next_job ≤ 4294967296
+  pub slot_count : length b.slots ≤ SLOT_LIMIT
+  pub next_within : b.next_job ≤ LAST_JOB + 1
   pub jobs_rise : IsRising job_key 0 b.jobs b.next_job
-  pub layers_rise : IsRising layer_key 0 b.layers (4294967296 * b.next_job)
+  pub layers_rise : IsRising layer_key 0 b.layers (PLACE_LIMIT * b.next_job)
   pub places_within : list_all has_place b.layers ≡ true
   pub frames_below : list_all (is_below b.next_job) b.slots ≡ true
-  pub jobs_fit : length b.jobs + free_in b.slots ≤ slot_limit
-  pub layers_fit : length b.layers + free_in b.slots ≤ slot_limit
+  pub jobs_fit : length b.jobs + free_in b.slots ≤ SLOT_LIMIT
+  pub layers_fit : length b.layers + free_in b.slots ≤ SLOT_LIMIT
 
--- the kept counts and the kept number of free slots are those of the slots, and there is room for all that is ever placed
-pub record KeepsBook (a : Inside) : Type 0 where
-  pub book : IsBook (book_of a)
-  pub free_is : a.free ≡ free_in a.slots.items
-  pub counts_are : a.counts.items ≡ counts_for a.jobs.items a.slots.items
-  pub jobs_room : slot_limit ≤ vec_capacity a.jobs
-  pub layers_room : slot_limit ≤ vec_capacity a.layers
-  pub slots_room : slot_limit ≤ vec_capacity a.slots
-  pub counts_room : slot_limit ≤ vec_capacity a.counts
+-- the kept counts and the kept number of free slots are those of the slots, and there is capacity for all that is ever placed
+pub record KeepsBook (book : Inside) : Type 0 where
+  pub lists : IsBook (book_of book)
+  pub free_is : book.free ≡ free_in book.slots.items
+  pub counts_are : book.counts.items ≡ counts_for book.jobs.items book.slots.items
+  pub jobs_capacity : SLOT_LIMIT ≤ vec_capacity book.jobs
+  pub layers_capacity : SLOT_LIMIT ≤ vec_capacity book.layers
+  pub slots_capacity : SLOT_LIMIT ≤ vec_capacity book.slots
+  pub counts_capacity : SLOT_LIMIT ≤ vec_capacity book.counts

@@ -3,17 +3,17 @@
 ghost use Rattle.std.specs.Prelude.{◌≡◌, ◌<◌, length, slice_set, true, Some};
 ghost use Rattle.std.specs.Vec.{vec_capacity};
 ghost use Rattle.farm_types.specs.Farm.{changed_at};
-ghost use Rattle.job_book.specs.Book.{has_frame, turned_row, attempted_row};
+ghost use Rattle.job_book.specs.Book.{has_frame, row_in_state, attempted_row};
 
 use crate::counting::recount;
 use crate::jobs::Jobs;
-use farm_types::{FrameRow, FrameState, ProcRow, Slot, SlotRow, Version};
+use farm_types::{Frame, FrameState, ProcRow, Slot, SlotRow, Version};
 
 impl Jobs {
     /// The slot's frame goes into a state, with so many retries, and the slot to a version.
     pub fn set_state(&mut self, slot: Slot, state: FrameState, version: Version, retries: u32)
         requires { has_frame self.old slot ≡ true }
-        ensures { self.new ≡ record self.old { slots = changed_at self.old.slots slot (turned_row state version retries) } }
+        ensures { self.new ≡ record self.old { slots = changed_at self.old.slots slot (row_in_state state version retries) } }
     {
         let Some(row) = self.row(slot) else {
             unreachable!()
@@ -22,9 +22,9 @@ impl Jobs {
             unreachable!()
         };
         let place = self.place_of(frame.job);
-        let turned = turned_row(&row, frame, state, version, retries);
+        let in_state = row_in_state(&row, frame, state, version, retries);
         recount(&mut self.counts, place, frame.state, state);
-        set_row(&mut self.slots, slot, turned);
+        set_row(&mut self.slots, slot, in_state);
     }
 
     /// The slot has that live attempt, or none.
@@ -44,28 +44,28 @@ impl Jobs {
 fn set_row(slots: &mut Vec<SlotRow>, slot: Slot, row: SlotRow)
     requires { slot < length slots.old.items }
     ensures items { slots.new.items ≡ slice_set slots.old.items slot row }
-    ensures room { vec_capacity slots.new ≡ vec_capacity slots.old }
+    ensures capacity { vec_capacity slots.new ≡ vec_capacity slots.old }
 {
     slots[slot.0 as usize] = row;
 }
 
 // The slot at that version, its frame in that state with so many retries.
-fn turned_row(
+fn row_in_state(
     row: &SlotRow,
-    frame: &FrameRow,
+    frame: &Frame,
     state: FrameState,
     version: Version,
     retries: u32,
 ) -> SlotRow
     requires { row.now.frame ≡ Some frame.now }
-    ensures { result ≡ turned_row state version retries row.now }
+    ensures { result ≡ row_in_state state version retries row.now }
 {
-    let mut turned = *frame;
-    turned.state = state;
-    turned.retries = retries;
+    let mut in_state = *frame;
+    in_state.state = state;
+    in_state.retries = retries;
     SlotRow {
         version,
-        frame: Some(turned),
+        frame: Some(in_state),
         proc: row.proc,
     }
 }

@@ -1,25 +1,23 @@
 //! Whether a job can be placed.
 
-ghost use Rattle.std.specs.Prelude.{◌≡◌, ◌≤◌, option_map, bytes_eq, if◌then◌else◌, Some, None, []};
+ghost use Rattle.std.specs.Prelude.{◌≡◌, ◌≤◌, option_map, bytes_eq, if◌then◌else◌, IfOk, Some, None, []};
 ghost use Rattle.std.specs.List.{list_any};
-ghost use Rattle.farm_types.specs.Jobs.{is_pending_named, repeated_name, room_refusal};
 ghost use Rattle.farm_types.specs.Booking.{is_pending};
-ghost use Rattle.farm_types.specs.Spec.{frames_in};
+ghost use Rattle.farm_types.specs.Jobs.{frames_in, is_pending_named, repeated_name, room_refusal};
 ghost use Rattle.farm_types.specs.SpecLimits.{JobKeepsLimits};
+ghost use Rattle.farm_types.specs.declared.limits.TheConstants.{MOST_FRAMES};
 ghost use Rattle.farm_types.specs.declared.refusal.Refusal.TheVariants as refusal;
 ghost use Rattle.job_book.specs.Book.{Checks};
-ghost use Rattle.job_book.specs.Refused.{Refuses, IsExisting};
+ghost use Rattle.job_book.specs.Refused.{Refuses};
+ghost use Rattle.job_book.specs.declared.placing.JobFault.TheVariants as fault;
 
 use crate::jobs::Jobs;
 use crate::placing::{JobFault, Placing};
 use crate::put::next_free;
 use farm_types::{
-    Counted, JobNo, JobRow, JobSpec, JobState, LayerSpec, Refusal, ShowNo, Slot, Text,
+    Counted, JobNo, JobRow, JobSpec, JobState, LAST_JOB, LayerSpec, Refusal, ShowNo, Slot, Text,
 };
-use std::alloc::Global;
-
-/// The greatest number that is given to a job.
-const LAST_JOB: u64 = 4294967295;
+use std::alloc::{AllocError, Global};
 
 impl Jobs {
     /// Where a job of that show would be placed, or its first refusal: a pending job of its name, a layer's name that
@@ -30,8 +28,8 @@ impl Jobs {
     {
         check_name(alloc, self.jobs.as_slice(), &spec.name)?;
         check_layers(alloc, spec.layers.as_slice())?;
-        let frames = frames_in(spec.layers.as_slice());
-        self.check_room(spec, frames)?;
+        let frames = spec.layers.count_frames() as u32;
+        self.check_left(spec, frames)?;
         Ok(Placing {
             job: JobNo(self.next_job as u32),
             show,
@@ -41,7 +39,7 @@ impl Jobs {
     }
 
     // Refuses a job that has more frames than there are free slots, and one for which no number is left.
-    fn check_room(&self, spec: &JobSpec, frames: u32) -> Result<(), JobFault>
+    fn check_left(&self, spec: &JobSpec, frames: u32) -> Result<(), JobFault>
         requires { frames ≡ frames_in spec.now.layers }
         ensures { Refuses (room_refusal self.now spec.now) result }
     {
@@ -50,10 +48,10 @@ impl Jobs {
                 why: Refusal::FarmFull { free: self.free },
             });
         }
-        if self.next_job > LAST_JOB {
+        if self.next_job > u64::from(LAST_JOB) {
             return Err(JobFault::Refused {
                 why: Refusal::Full {
-                    limit: LAST_JOB,
+                    limit: u64::from(LAST_JOB),
                     what: Counted::Jobs,
                 },
             });
@@ -67,7 +65,7 @@ fn check_name(alloc: Global, jobs: &[JobRow], name: &Text) -> Result<(), JobFaul
     ensures { Refuses (if list_any (is_pending_named name.now) jobs.now then Some (refusal.Exists name.now) else None) result }
 {
     if is_pending_named(jobs, name) {
-        return Err(existing(alloc, name));
+        return Err(existing(alloc, name)?);
     }
     Ok(())
 }
@@ -77,7 +75,7 @@ fn is_pending_named(jobs: &[JobRow], name: &Text) -> bool
     ensures { result ≡ list_any (is_pending_named name.now) jobs.now }
 {
     jobs.iter()
-        .any(|j| is_pending(j.state) && j.name.is(name.as_str()))
+        .any(|job| is_pending(job.state) && job.name.is(name.as_str()))
 }
 
 // Whether the job isn't finished.
@@ -93,7 +91,7 @@ fn check_layers(alloc: Global, layers: &[LayerSpec]) -> Result<(), JobFault>
 {
     for (place, layer) in layers.iter().enumerate() {
         if has_name(&layers[..place], &layer.name) {
-            return Err(existing(alloc, &layer.name));
+            return Err(existing(alloc, &layer.name)?);
         }
     }
     Ok(())
@@ -101,28 +99,17 @@ fn check_layers(alloc: Global, layers: &[LayerSpec]) -> Result<(), JobFault>
 
 // Whether one of the layers has the name.
 fn has_name(layers: &[LayerSpec], name: &Text) -> bool
-    ensures { result ≡ list_any (λ l. bytes_eq name.now l.name) layers.now }
+    ensures { result ≡ list_any (λ layer. bytes_eq name.now layer.name) layers.now }
 {
-    layers.iter().any(|l| name.is(l.name.as_str()))
+    layers.iter().any(|layer| name.is(layer.name.as_str()))
 }
 
 // That something of that name is there.
-fn existing(alloc: Global, name: &Text) -> JobFault
-    ensures { IsExisting name.now result }
+fn existing(alloc: Global, name: &Text) -> Result<JobFault, AllocError>
+    ensures { IfOk result (λ why. why ≡ fault.Refused (refusal.Exists name.now)) }
 {
-    match name.copy(alloc) {
-        Ok(name) => JobFault::Refused {
-            why: Refusal::Exists { name },
-        },
-        Err(_) => JobFault::NoMemory,
-    }
-}
-
-// How many frames the layers have together.
-fn frames_in(layers: &[LayerSpec]) -> u32
-    requires { frames_in layers.now ≤ 10000 }
-    ensures { result ≡ frames_in layers.now }
-{
-    let frames: usize = layers.iter().map(|l| l.numbers.len()).sum();
-    frames as u32
+    let name = name.copy(alloc)?;
+    Ok(JobFault::Refused {
+        why: Refusal::Exists { name },
+    })
 }

@@ -3,6 +3,7 @@
 ghost use Rattle.std.specs.Prelude.{◌≡◌, ◌<◌, ◌≤◌, slice_get, IfSome};
 ghost use Rattle.std.specs.Vec.{vec_capacity};
 ghost use Rattle.farm_types.specs.Farm.{changed_at};
+ghost use Rattle.farm_types.specs.declared.limits.TheConstants.{SLOT_LIMIT};
 ghost use Rattle.job_book.specs.Counting.{part, lowered, raised, CanMove, moved};
 
 use crate::counts::Counts;
@@ -12,7 +13,7 @@ use farm_types::FrameState;
 pub(crate) fn recount(counts: &mut Vec<Counts>, place: usize, old: FrameState, new: FrameState)
     requires { IfSome (slice_get counts.old.items place) (CanMove old new) }
     ensures items { counts.new.items ≡ changed_at counts.old.items place (moved old new) }
-    ensures room { vec_capacity counts.new ≡ vec_capacity counts.old }
+    ensures capacity { vec_capacity counts.new ≡ vec_capacity counts.old }
 {
     let Some(had) = counts.get(place).copied() else {
         return;
@@ -48,7 +49,7 @@ fn lowered(counts: Counts, state: FrameState) -> Counts
 
 // One more in that state.
 fn raised(counts: Counts, state: FrameState) -> Counts
-    requires { part state counts ≤ 65536 }
+    requires { part state counts ≤ SLOT_LIMIT }
     ensures { result ≡ raised state counts }
 {
     let mut raised = counts;

@@ -4,12 +4,9 @@ ghost use Rattle.std.specs.Prelude.{◌≡◌, IfOk};
 ghost use Rattle.job_book.specs.Book.{no_jobs};
 
 use crate::counts::Counts;
-use farm_types::{JobRow, LayerRow, SlotRow};
+use farm_types::{JobRow, LayerRow, SLOT_LIMIT, SlotRow};
 use std::alloc::{AllocError, Global};
 use std::marker::Model;
-
-/// How many slots there are, those past the last used one too. Each job and each layer takes one at least.
-pub(crate) const SLOT_LIMIT: usize = 65536;
 
 /// The jobs with their layers, in the order of their numbers, and the frame slots, up to the last that was ever used.
 /// Beside them are kept each job's counts, at its place in `jobs`, and how many slots are free, those that were never
@@ -37,16 +34,17 @@ impl Model for Jobs {
 }
 
 impl Jobs {
-    /// The book of no jobs. It takes the room of all slots, jobs and layers at once.
+    /// The book of no jobs. It takes the memory of all slots, jobs and layers at once: each job and each layer takes a slot at
+    /// least.
     pub fn make(alloc: Global) -> Result<Jobs, AllocError>
         ensures { IfOk result (λ b. b ≡ no_jobs) }
     {
         Ok(Jobs {
-            jobs: Vec::with_capacity(alloc, SLOT_LIMIT)?,
-            counts: Vec::with_capacity(alloc, SLOT_LIMIT)?,
-            layers: Vec::with_capacity(alloc, SLOT_LIMIT)?,
-            slots: Vec::with_capacity(alloc, SLOT_LIMIT)?,
-            free: SLOT_LIMIT as u32,
+            jobs: Vec::with_capacity(alloc, SLOT_LIMIT as usize)?,
+            counts: Vec::with_capacity(alloc, SLOT_LIMIT as usize)?,
+            layers: Vec::with_capacity(alloc, SLOT_LIMIT as usize)?,
+            slots: Vec::with_capacity(alloc, SLOT_LIMIT as usize)?,
+            free: SLOT_LIMIT,
             next_job: 1,
         })
     }

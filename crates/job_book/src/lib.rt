@@ -19,6 +19,3 @@ pub use counts::Counts;
 pub use frame_view::FrameView;
 pub use jobs::Jobs;
 pub use placing::{JobFault, JobSpare, Placing};
-
-#[cfg(test)]
-mod tests;

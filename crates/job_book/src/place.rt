@@ -2,9 +2,9 @@
 
 ghost use Rattle.std.specs.Prelude.{◌≡◌, ◌≤◌, ◌+◌, ◌++◌, length, None};
 ghost use Rattle.std.specs.Vec.{vec_capacity};
-ghost use Rattle.farm_types.specs.Jobs.{job_refusal, job_row, layer_row, layer_rows, with_job};
-ghost use Rattle.farm_types.specs.Spec.{frames_in};
+ghost use Rattle.farm_types.specs.Jobs.{frames_in, job_refusal, job_row, layer_row, layer_rows, with_job};
 ghost use Rattle.farm_types.specs.SpecLimits.{JobKeepsLimits};
+ghost use Rattle.farm_types.specs.declared.limits.TheConstants.{MOST_LAYERS};
 ghost use Rattle.job_book.specs.Book.{placing_of};
 ghost use Rattle.job_book.specs.Counting.{new_counts};
 
@@ -15,17 +15,17 @@ use crate::put::put_layers;
 use farm_types::{JobNo, JobRow, JobState, LayerRow, LayerSpec};
 
 impl Jobs {
-    /// Places a job that isn't refused where `check` said, with the memory that was taken for it: its frames wait in the
+    /// Places a job that isn't refused where `check` said, with the memory that was reserved for it: its frames wait in the
     /// lowest free slots, layer by layer in range order. Says the job's number. It takes no memory.
-    pub fn place(&mut self, spare: JobSpare, placing: Placing) -> JobNo
-        requires limits { JobKeepsLimits spare }
-        requires accepted { job_refusal self.old spare ≡ None }
-        requires placing { placing ≡ placing_of self.old placing.show spare }
-        ensures book { self.new ≡ with_job self.old placing.show spare }
+    pub fn place(&mut self, reserved: JobSpare, placing: Placing) -> JobNo
+        requires limits { JobKeepsLimits reserved }
+        requires accepted { job_refusal self.old reserved ≡ None }
+        requires placing { placing ≡ placing_of self.old placing.show reserved }
+        ensures book { self.new ≡ with_job self.old placing.show reserved }
         ensures job { result ≡ self.old.next_job }
     {
         let job = placing.job;
-        let (row, layers) = taken_apart(spare, &placing);
+        let (row, layers) = taken_apart(reserved, &placing);
         put_layers(&mut self.slots, placing.first, job, layers.as_slice());
         add_layers(&mut self.layers, job, layers);
         self.jobs.push_reserved(row);
@@ -36,13 +36,13 @@ impl Jobs {
     }
 }
 
-// The job's row and its layers, of the texts that were taken for it.
-fn taken_apart(spare: JobSpare, placing: &Placing) -> (JobRow, Vec<LayerSpec>)
-    requires { placing.now.frames ≡ frames_in spare.layers }
-    ensures row { result.0 ≡ job_row placing.now.job placing.now.show spare }
-    ensures layers { result.1.items ≡ spare.layers }
+// The job's row and its layers, of the texts that were reserved for it.
+fn taken_apart(reserved: JobSpare, placing: &Placing) -> (JobRow, Vec<LayerSpec>)
+    requires { placing.now.frames ≡ frames_in reserved.layers }
+    ensures row { result.0 ≡ job_row placing.now.job placing.now.show reserved }
+    ensures layers { result.1.items ≡ reserved.layers }
 {
-    let JobSpare { spec } = spare;
+    let JobSpare { spec } = reserved;
     let row = JobRow {
         job: placing.job,
         name: spec.name,
@@ -65,10 +65,10 @@ fn taken_apart(spare: JobSpare, placing: &Placing) -> (JobRow, Vec<LayerSpec>)
 
 // The rows of a job's layers, behind the others.
 fn add_layers(rows: &mut Vec<LayerRow>, job: JobNo, layers: Vec<LayerSpec>)
-    requires room { length rows.old.items + length layers.items ≤ vec_capacity rows.old }
-    requires count { length layers.items ≤ 64 }
+    requires capacity { length rows.old.items + length layers.items ≤ vec_capacity rows.old }
+    requires count { length layers.items ≤ MOST_LAYERS }
     ensures rows { rows.new.items ≡ rows.old.items ++ layer_rows job 0 layers.items }
-    ensures room { vec_capacity rows.new ≡ vec_capacity rows.old }
+    ensures capacity { vec_capacity rows.new ≡ vec_capacity rows.old }
 {
     let mut place = 0;
     for layer in layers {

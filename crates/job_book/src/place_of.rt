@@ -7,6 +7,9 @@ ghost use Rattle.job_book.specs.Inside.{IsRising, job_key, layer_key};
 use crate::jobs::Jobs;
 use farm_types::{JobNo, JobRow, LayerRow};
 
+/// A layer's place in its job is below this, so that a job's number and a place make one key.
+pub(crate) const PLACE_LIMIT: u64 = 4_294_967_296;
+
 impl Jobs {
     /// The place of the job of that number, and how many jobs there are where it isn't among them.
     pub(crate) fn place_of(&self, job: JobNo) -> usize
@@ -36,10 +39,8 @@ fn place_in(jobs: &[JobRow], job: u32) -> usize
     requires { (high : ℕ) × IsRising job_key 0 jobs.now high }
     ensures { result ≡ position_or_len (λ j. job_key j == job) jobs.now }
 {
-    match jobs.binary_search_by_key(&job, |j| j.job.0) {
-        Ok(place) => place,
-        Err(_) => jobs.len(),
-    }
+    jobs.binary_search_by_key(&job, |row| row.job.0)
+        .unwrap_or(jobs.len())
 }
 
 // The place of the first number above `after` among jobs whose numbers rise.
@@ -47,7 +48,7 @@ fn place_above(jobs: &[JobRow], after: u32) -> usize
     requires { (high : ℕ) × IsRising job_key 0 jobs.now high }
     ensures { result ≡ position_or_len (λ j. nat_lt after (job_key j)) jobs.now }
 {
-    jobs.partition_point(|j| j.job.0 <= after)
+    jobs.partition_point(|row| row.job.0 <= after)
 }
 
 // The place of a key among layers whose keys rise.
@@ -55,15 +56,14 @@ fn layer_place_in(layers: &[LayerRow], key: u64) -> usize
     requires { (high : ℕ) × IsRising layer_key 0 layers.now high }
     ensures { result ≡ position_or_len (λ l. layer_key l == key) layers.now }
 {
-    match layers.binary_search_by_key(&key, |l| key_of(l.job.0, l.place)) {
-        Ok(place) => place,
-        Err(_) => layers.len(),
-    }
+    layers
+        .binary_search_by_key(&key, |row| key_of(row.job.0, row.place))
+        .unwrap_or(layers.len())
 }
 
 // The key by which layers are in order.
 fn key_of(job: u32, place: u32) -> u64
-    ensures { result ≡ 4294967296 * job + place }
+    ensures { result ≡ PLACE_LIMIT * job + place }
 {
-    4294967296 * u64::from(job) + u64::from(place)
+    PLACE_LIMIT * u64::from(job) + u64::from(place)
 }

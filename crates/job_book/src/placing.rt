@@ -1,7 +1,8 @@
-//! Where a job is to be placed, and the room for it.
+//! Where a job is to be placed, and the memory for it.
 
 use farm_types::{JobNo, JobSpec, Refusal, ShowNo, Slot};
 use std::alloc::AllocError;
+use std::fmt;
 use std::marker::Model;
 
 /// Where a job is to be placed: its number and its show's, its lowest slot, and how many frames it has. They take the
@@ -14,7 +15,7 @@ pub struct Placing {
     pub frames: u32,
 }
 
-/// The memory that a job needs, taken before the job is placed: its texts, numbers and tags, which contracts see as its
+/// The memory that a job needs, reserved before the job is placed: its texts, numbers and tags, which contracts see as its
 /// spec.
 #[derive(Debug, Drop)]
 pub struct JobSpare {
@@ -26,7 +27,7 @@ impl Model for JobSpare {
 
     ghost Value = { types.JobSpec };
 
-    ghost view = { λ a. a.spec };
+    ghost view = { λ reserved. reserved.spec };
 }
 
 /// Why a job can't be placed.
@@ -36,6 +37,15 @@ pub enum JobFault {
     Refused { why: Refusal },
     /// Memory ran out.
     NoMemory,
+}
+
+impl fmt::Display for JobFault {
+    fn fmt<W: fmt::Write>(&self, f: &mut fmt::Formatter<W>) -> fmt::Result {
+        match self {
+            JobFault::Refused { why } => write!(f, "the job is refused: {why:?}"),
+            JobFault::NoMemory => write!(f, "out of memory"),
+        }
+    }
 }
 
 impl From<AllocError> for JobFault {

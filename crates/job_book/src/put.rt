@@ -2,26 +2,23 @@
 
 ghost use Rattle.std.specs.Prelude.{◌≡◌, ◌≤◌, ◌+◌, ◌∷◌, [], length, drop, slice_get};
 ghost use Rattle.std.specs.Vec.{vec_capacity};
-ghost use Rattle.farm_types.specs.Jobs.{slot_limit, is_free, free_in, new_frame, fresh_slot, slot_with, frames_from, frames_of, place_frames};
-ghost use Rattle.farm_types.specs.Spec.{frames_in};
+ghost use Rattle.farm_types.specs.Jobs.{is_free, free_in, new_frame, fresh_slot, slot_with, frames_from, frames_in, frames_of, place_frames};
 ghost use Rattle.job_book.specs.Book.{first_free};
-ghost use Rattle.job_book.specs.Puts.{HasRoom, Puts};
+ghost use Rattle.job_book.specs.Puts.{HasFree, Puts};
+ghost use Rattle.farm_types.specs.declared.limits.TheConstants.{MOST_FRAMES, MOST_LAYERS, SLOT_LIMIT};
 
-use farm_types::{FrameRow, FrameState, JobNo, LayerSpec, Slot, SlotRow, Version};
-
-/// The last version of a slot, at which it takes no frame more.
-const LAST_VERSION: u32 = 16777215;
+use farm_types::{Frame, FrameState, JobNo, LAST_VERSION, LayerSpec, Slot, SlotRow, Version};
 
 /// Puts the frames of a job's layers into the lowest free slots, the first of which is said. It takes no memory.
 pub(crate) fn put_layers(slots: &mut Vec<SlotRow>, first: Slot, job: JobNo, layers: &[LayerSpec])
-    requires room { slot_limit ≤ vec_capacity slots.old }
-    requires slot_count { length slots.old.items ≤ slot_limit }
+    requires capacity { SLOT_LIMIT ≤ vec_capacity slots.old }
+    requires slot_count { length slots.old.items ≤ SLOT_LIMIT }
     requires first { first ≡ first_free slots.old.items }
     requires enough { frames_in layers.now ≤ free_in slots.old.items }
-    requires layer_count { length layers.now ≤ 64 }
-    requires frame_count { frames_in layers.now ≤ 10000 }
+    requires layer_count { length layers.now ≤ MOST_LAYERS }
+    requires frame_count { frames_in layers.now ≤ MOST_FRAMES }
     ensures slots { slots.new.items ≡ place_frames slots.old.items (frames_of job 0 layers.now) }
-    ensures room { vec_capacity slots.new ≡ vec_capacity slots.old }
+    ensures capacity { vec_capacity slots.new ≡ vec_capacity slots.old }
 {
     let mut next = first.0 as usize;
     for (place, layer) in layers.iter().enumerate() {
@@ -37,11 +34,11 @@ fn put_layer(
     layer: u32,
     numbers: &[i32],
 ) -> usize
-    requires room { slot_limit ≤ vec_capacity slots.old }
-    requires fits { HasRoom first slots.old.items (length numbers.now) }
-    requires frame_count { length numbers.now ≤ 10000 }
+    requires capacity { SLOT_LIMIT ≤ vec_capacity slots.old }
+    requires fits { HasFree first slots.old.items (length numbers.now) }
+    requires frame_count { length numbers.now ≤ MOST_FRAMES }
     ensures puts { Puts (frames_from job layer 0 numbers.now) first slots.old.items result slots.new.items }
-    ensures room { vec_capacity slots.new ≡ vec_capacity slots.old }
+    ensures capacity { vec_capacity slots.new ≡ vec_capacity slots.old }
 {
     let mut next = first;
     for (position, number) in numbers.iter().enumerate() {
@@ -51,11 +48,11 @@ fn put_layer(
 }
 
 // Puts a frame into the first free slot from a place on, and says the place after it.
-fn put(slots: &mut Vec<SlotRow>, from: usize, frame: FrameRow) -> usize
-    requires room { slot_limit ≤ vec_capacity slots.old }
-    requires fits { HasRoom from slots.old.items 1 }
+fn put(slots: &mut Vec<SlotRow>, from: usize, frame: Frame) -> usize
+    requires capacity { SLOT_LIMIT ≤ vec_capacity slots.old }
+    requires fits { HasFree from slots.old.items 1 }
     ensures puts { Puts (frame ∷ []) from slots.old.items result slots.new.items }
-    ensures room { vec_capacity slots.new ≡ vec_capacity slots.old }
+    ensures capacity { vec_capacity slots.new ≡ vec_capacity slots.old }
 {
     let place = next_free(slots.as_slice(), from);
     let Some(row) = row_at(slots.as_slice(), place) else {
@@ -95,10 +92,10 @@ fn is_free(row: &SlotRow) -> bool
 }
 
 // A frame that waits.
-fn new_frame(job: JobNo, layer: u32, position: u32, number: i32) -> FrameRow
+fn new_frame(job: JobNo, layer: u32, position: u32, number: i32) -> Frame
     ensures { result ≡ new_frame job layer position number }
 {
-    FrameRow {
+    Frame {
         job,
         layer,
         position,
@@ -109,7 +106,7 @@ fn new_frame(job: JobNo, layer: u32, position: u32, number: i32) -> FrameRow
 }
 
 // The slot with that frame, at its version.
-fn slot_with(frame: FrameRow, row: &SlotRow) -> SlotRow
+fn slot_with(frame: Frame, row: &SlotRow) -> SlotRow
     ensures { result ≡ slot_with frame row.now }
 {
     SlotRow {
@@ -120,7 +117,7 @@ fn slot_with(frame: FrameRow, row: &SlotRow) -> SlotRow
 }
 
 // A slot that was never used, with that frame.
-fn fresh_slot(frame: FrameRow) -> SlotRow
+fn fresh_slot(frame: Frame) -> SlotRow
     ensures { result ≡ fresh_slot frame }
 {
     SlotRow {

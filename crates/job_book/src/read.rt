@@ -1,19 +1,20 @@
 //! What is read of the book.
 
-ghost use Rattle.std.specs.Prelude.{◌≡◌, ◌==◌, ◌&&◌, ◌≤◌, length, slice_get, find, nat_lt, option_copied, true, Some};
+ghost use Rattle.std.specs.Prelude.{◌≡◌, ◌==◌, ◌&&◌, ◌≤◌, length, slice_get, find, option_copied, option_map, true, All, IfNone, IfSome, Some};
 ghost use Rattle.farm_types.specs.Farm.{for_some};
-ghost use Rattle.job_book.specs.Book.{job_named, job_after, frame_at, frame_view, state_at, is_placed, slot_from, has_frame, has_job, counts_of};
+ghost use Rattle.farm_types.specs.declared.limits.TheConstants.{SLOT_LIMIT};
+ghost use Rattle.job_book.specs.Book.{job_named, job_after, IsLeastAbove, frame_at, frame_view, state_at, is_placed, slot_from, has_frame, has_job, counts_of};
 
 use crate::counts::Counts;
 use crate::frame_view::FrameView;
 use crate::jobs::Jobs;
-use farm_types::{FrameRow, FrameState, JobNo, JobRow, LayerRow, Slot, SlotRow, Version};
+use farm_types::{Frame, FrameState, JobNo, JobRow, LayerRow, Slot, SlotRow, Version};
 
 impl Jobs {
     /// The slots, each at its number, up to the last that was ever used.
     pub fn slots(&self) -> &[SlotRow]
         ensures value { result.now ≡ self.now.slots }
-        ensures count { length result.now ≤ 65536 }
+        ensures count { length result.now ≤ SLOT_LIMIT }
     {
         self.slots.as_slice()
     }
@@ -34,19 +35,11 @@ impl Jobs {
 
     /// The number of the job with the least number above `after`.
     pub fn next(&self, after: u32) -> Option<JobNo>
-        ensures { result ≡ job_after self.now after }
+        ensures value { result ≡ job_after self.now after }
+        ensures least { IfSome result (IsLeastAbove self.now.jobs after) }
+        ensures none { IfNone result (All (λ j. j.job ≤ after) self.now.jobs) }
     {
-        match self.row_after(after) {
-            None => None,
-            Some(job) => Some(job.job),
-        }
-    }
-
-    // The first job with a number above `after`.
-    fn row_after(&self, after: u32) -> Option<&JobRow>
-        ensures { option_copied result ≡ find (λ j. nat_lt after j.job) self.now.jobs }
-    {
-        job_at(self.jobs.as_slice(), self.place_after(after))
+        number_at(self.jobs.as_slice(), self.place_after(after))
     }
 
     /// The layer at that place (from 0) of a job.
@@ -60,7 +53,7 @@ impl Jobs {
     pub fn find(&self, name: &str) -> Option<JobNo>
         ensures { result ≡ job_named self.now name.now }
     {
-        match self.jobs.iter().find(|j| j.name.is(name)) {
+        match self.jobs.iter().find(|job| job.name.is(name)) {
             None => None,
             Some(job) => Some(job.job),
         }
@@ -116,6 +109,16 @@ fn job_at(jobs: &[JobRow], place: usize) -> Option<&JobRow>
     jobs.get(place)
 }
 
+// The number of the job at a place of the list.
+fn number_at(jobs: &[JobRow], place: usize) -> Option<JobNo>
+    ensures { result ≡ option_map (λ j. j.job) (slice_get jobs.now place) }
+{
+    match jobs.get(place) {
+        None => None,
+        Some(job) => Some(job.job),
+    }
+}
+
 // The layer at a place of the list.
 fn layer_at(layers: &[LayerRow], place: usize) -> Option<&LayerRow>
     ensures { option_copied result ≡ slice_get layers.now place }
@@ -124,7 +127,7 @@ fn layer_at(layers: &[LayerRow], place: usize) -> Option<&LayerRow>
 }
 
 // The frame, with its slot's version.
-fn frame_view(version: Version, frame: &FrameRow) -> FrameView
+fn frame_view(version: Version, frame: &Frame) -> FrameView
     ensures { result ≡ frame_view version frame.now }
 {
     FrameView {
@@ -140,7 +143,7 @@ fn frame_view(version: Version, frame: &FrameRow) -> FrameView
 
 // The first of the slots with the frame.
 fn slot_in(slots: &[SlotRow], job: JobNo, layer: u32, position: u32) -> Option<Slot>
-    requires { length slots.now ≤ 65536 }
+    requires { length slots.now ≤ SLOT_LIMIT }
     ensures { result ≡ slot_from 0 (is_placed job layer position) slots.now }
 {
     for (place, row) in slots.iter().enumerate() {
@@ -162,7 +165,7 @@ fn is_at(row: &SlotRow, job: JobNo, layer: u32, position: u32) -> bool
 }
 
 // Whether the frame is that of the job, its layer and its position.
-fn is_placed(frame: &FrameRow, job: JobNo, layer: u32, position: u32) -> bool
+fn is_placed(frame: &Frame, job: JobNo, layer: u32, position: u32) -> bool
     ensures { result ≡ is_placed job layer position frame.now }
 {
     frame.job == job && frame.layer == layer && frame.position == position

@@ -11,7 +11,7 @@ impl Jobs {
     /// Takes the memory that the job needs, so that placing it takes none. The book is as before.
     pub fn reserve(&mut self, alloc: Global, spec: &JobSpec) -> Result<JobSpare, AllocError>
         ensures book { self.new ≡ self.old }
-        ensures spare { IfOk result (λ spare. spare ≡ spec.now) }
+        ensures reserved { IfOk result (λ reserved. reserved ≡ spec.now) }
     {
         Ok(JobSpare {
             spec: spec.copy(alloc)?,

@@ -3,7 +3,7 @@ use Rattle.std.proofs.Common.{◌≡◌, ℕ, ◌<◌, List, [], ◌∷◌, leng
 use Rattle.serde_json.specs.declared.value.Value.{Value}
 use Rattle.serde_json.specs.View.{items_view}
 use Rattle.cue_json.specs.Fields.{WrongKind}
-use Rattle.farm_types.specs.Spec.{none_of}
+use Rattle.farm_lines.specs.Spec.{none_of}
 
 pub none_of_empty : (field : List ℕ) (values : List Value) → length values ≡ 0 → none_of field (items_view values) ≡ Ok tt
 none_of_empty field [] empty = refl

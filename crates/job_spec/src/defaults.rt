@@ -3,7 +3,7 @@
 ghost use Rattle.std.specs.Prelude.{[], ◌∷◌, codes, false};
 ghost use Rattle.serde_json.specs.View.{items_view, members_view};
 ghost use Rattle.cue_json.specs.Fields.{Gives, flag_at, text_at};
-ghost use Rattle.farm_types.specs.Spec.{is_name_or_empty, no_items_at, none_of, number_at, or_default, tags_at, text_of};
+ghost use Rattle.farm_lines.specs.Spec.{is_name_or_empty, no_items_at, none_of, number_at, or_default, tags_at, text_of};
 
 use crate::{tags, words};
 use cue_json::{FieldFault, Map};
@@ -81,10 +81,8 @@ pub fn no_items(alloc: Global, object: &Map, field: &str) -> Result<(), FieldFau
 fn empty_list(alloc: Global, object: &Map, field: &str) -> Result<(), FieldFault>
     ensures { Gives (λ none. none) result (no_items_at field.now (members_view object.now.entries)) }
 {
-    match cue_json::list(alloc, object, field) {
-        Ok(values) => no_values(alloc, field, values),
-        Err(fault) => Err(fault),
-    }
+    let values = cue_json::list(alloc, object, field)?;
+    no_values(alloc, field, values)
 }
 
 // Nothing where the list of that field has no items.

@@ -2,16 +2,16 @@
 
 ghost use Rattle.serde_json.specs.View.{members_view};
 ghost use Rattle.cue_json.specs.Fields.{Gives};
-ghost use Rattle.farm_types.specs.Spec.{job_form_at};
+ghost use Rattle.farm_lines.specs.Spec.{job_form_at};
 
 use crate::layer_form::read_layers;
 use crate::{defaults, words};
 use cue_json::{FieldFault, Map};
-use farm_types::{JobForm, read_name};
+use farm_lines::{JobForm, read_name};
 use std::alloc::Global;
 
 /// A job's fields in order, and no others. Depends can't be asked for yet.
-#[tactic(auto, unfolding(farm_types::specs::Spec::job_form_at))]
+#[tactic(auto, unfolding(farm_lines::specs::Spec::job_form_at))]
 pub fn read_job(alloc: Global, object: &Map) -> Result<JobForm, FieldFault>
     ensures { Gives (λ job. job) result (job_form_at (members_view object.now.entries)) }
 {

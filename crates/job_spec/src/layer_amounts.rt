@@ -4,14 +4,17 @@ ghost use Rattle.std.specs.Prelude.{◌≡◌, ◌<◌, IfOk, length};
 ghost use Rattle.std.specs.List.{All, IsDistinct};
 ghost use Rattle.std.specs.Ordering.{int_eq};
 ghost use Rattle.frame_range.specs.Printed.{printed};
-ghost use Rattle.frame_range.specs.Sets.{numbers_of, set_of};
-ghost use Rattle.farm_types.specs.Spec.{layer_of, layer_with, layers_of, range_of};
+ghost use Rattle.frame_range.specs.Sets.{set_of};
+ghost use Rattle.farm_lines.specs.Spec.{layer_of, layer_with, layers_of, range_of};
 ghost use Rattle.farm_types.specs.SpecLimits.{LayerKeepsLimits};
-ghost use Rattle.job_spec.specs.Answers.{GivesSpec};
+ghost use Rattle.job_spec.specs.SpecResults.{GivesSpec};
 
 use crate::amounts::{read_layer_cores, within};
 use crate::fault::SpecFault;
-use farm_types::{Cores, Items, Kb, LayerForm, LayerSpec, Text};
+use farm_lines::{LayerForm, MOST_RANGE};
+use farm_types::{
+    Cores, Items, Kb, LEAST_MEMORY, LayerSpec, MOST_COMMAND, MOST_MEMORY, MOST_TAGS, Text,
+};
 use frame_range::{FrameSet, RangeFault, parse_set};
 use std::alloc::{AllocError, Global};
 
@@ -29,29 +32,41 @@ pub fn judge_layers(alloc: Global, forms: &[LayerForm]) -> Result<Items<LayerSpe
 }
 
 // A layer's amounts in order: the length of its range's text, its range, its command's length, cores, memory, tags.
-#[tactic(auto, unfolding(farm_types::specs::Spec::layer_of))]
+#[tactic(auto, unfolding(farm_lines::specs::Spec::layer_of))]
 fn judge_layer(alloc: Global, form: &LayerForm) -> Result<LayerSpec, SpecFault>
     ensures gives { GivesSpec result (layer_of form.now) }
     ensures limits { IfOk result LayerKeepsLimits }
 {
-    within(alloc, "range", 0, 1024, form.range.as_str().len() as u128)?;
+    within(
+        alloc,
+        "range",
+        0,
+        u128::from(MOST_RANGE),
+        form.range.as_str().len() as u128,
+    )?;
     let range = read_range(alloc, &form.name, &form.range)?;
     within(
         alloc,
         "command",
         1,
-        4096,
+        u128::from(MOST_COMMAND),
         form.command.as_str().len() as u128,
     )?;
     let cores = read_layer_cores(alloc, "cores", form.cores.as_str())?;
     within(
         alloc,
         "memory",
-        262_144,
-        1_000_000_000_000,
+        u128::from(LEAST_MEMORY),
+        u128::from(MOST_MEMORY),
         u128::from(form.memory),
     )?;
-    within(alloc, "tags", 1, 32, form.tags.len() as u128)?;
+    within(
+        alloc,
+        "tags",
+        1,
+        u128::from(MOST_TAGS),
+        form.tags.len() as u128,
+    )?;
     Ok(made_layer(alloc, form, &range, cores)?)
 }
 

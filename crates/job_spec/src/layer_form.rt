@@ -2,12 +2,13 @@
 
 ghost use Rattle.serde_json.specs.View.{items_view, members_view, view};
 ghost use Rattle.cue_json.specs.Fields.{Gives};
-ghost use Rattle.farm_types.specs.Fields.{item_at, items_at, list_of};
-ghost use Rattle.farm_types.specs.Spec.{layer_form_at};
+ghost use Rattle.farm_lines.specs.Fields.{item_at, items_at, list_of};
+ghost use Rattle.farm_lines.specs.Spec.{layer_form_at};
 
 use crate::{defaults, words};
 use cue_json::{FieldFault, Map};
-use farm_types::{Items, LayerForm, read_name};
+use farm_lines::{LayerForm, read_name};
+use farm_types::Items;
 use serde_json::Value;
 use std::alloc::Global;
 
@@ -15,10 +16,8 @@ use std::alloc::Global;
 pub fn read_layers(alloc: Global, object: &Map, field: &str) -> Result<Items<LayerForm>, FieldFault>
     ensures { Gives (λ layers. layers) result (list_of field.now layer_form_at (members_view object.now.entries)) }
 {
-    match cue_json::list(alloc, object, field) {
-        Ok(values) => read_items(alloc, field, values),
-        Err(fault) => Err(fault),
-    }
+    let values = cue_json::list(alloc, object, field)?;
+    read_items(alloc, field, values)
 }
 
 // The layers of the list of that field.
@@ -36,14 +35,12 @@ fn read_items(alloc: Global, field: &str, values: &[Value]) -> Result<Items<Laye
 fn read_item(alloc: Global, field: &str, value: &Value) -> Result<LayerForm, FieldFault>
     ensures { Gives (λ layer. layer) result (item_at field.now layer_form_at (view value.now)) }
 {
-    match cue_json::object_item(alloc, value, field) {
-        Ok(object) => read_layer(alloc, object),
-        Err(fault) => Err(fault),
-    }
+    let object = cue_json::object_item(alloc, value, field)?;
+    read_layer(alloc, object)
 }
 
 // A layer's fields in order, and no others.
-#[tactic(auto, unfolding(farm_types::specs::Spec::layer_form_at))]
+#[tactic(auto, unfolding(farm_lines::specs::Spec::layer_form_at))]
 fn read_layer(alloc: Global, object: &Map) -> Result<LayerForm, FieldFault>
     ensures { Gives (λ layer. layer) result (layer_form_at (members_view object.now.entries)) }
 {

@@ -10,8 +10,6 @@ mod layer_amounts;
 mod layer_form;
 mod spec;
 mod tags;
-#[cfg(test)]
-mod tests;
 mod words;
 
 pub use amounts::within;

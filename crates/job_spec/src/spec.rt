@@ -2,9 +2,9 @@
 
 ghost use Rattle.std.specs.Prelude.{IfOk};
 ghost use Rattle.serde_json.specs.View.{members_view};
-ghost use Rattle.farm_types.specs.Spec.{spec_at};
+ghost use Rattle.farm_lines.specs.Spec.{spec_at};
 ghost use Rattle.farm_types.specs.SpecLimits.{JobKeepsLimits};
-ghost use Rattle.job_spec.specs.Answers.{GivesSpec};
+ghost use Rattle.job_spec.specs.SpecResults.{GivesSpec};
 
 use crate::fault::SpecFault;
 use crate::job_amounts::judge_job;
@@ -15,13 +15,11 @@ use std::alloc::Global;
 
 /// The job that the object says, or its first fault. The form of every field is tried first, in order; then
 /// the amounts are: priority, retries, the number of layers, each layer's in order, and the number of frames.
-#[tactic(auto, unfolding(farm_types::specs::Spec::spec_at))]
+#[tactic(auto, unfolding(farm_lines::specs::Spec::spec_at))]
 pub fn read_spec(alloc: Global, value: &Map) -> Result<JobSpec, SpecFault>
     ensures gives { GivesSpec result (spec_at (members_view value.now.entries)) }
     ensures limits { IfOk result JobKeepsLimits }
 {
-    match read_job(alloc, value) {
-        Ok(form) => judge_job(alloc, form),
-        Err(fault) => Err(SpecFault::of_field(fault)),
-    }
+    let form = read_job(alloc, value)?;
+    judge_job(alloc, form)
 }

@@ -3,7 +3,7 @@
 ghost use Rattle.std.specs.Prelude.{◌≡◌, ◌∷◌, [], codes, IfOk};
 ghost use Rattle.serde_json.specs.View.{items_view, members_view, view};
 ghost use Rattle.cue_json.specs.Fields.{Gives};
-ghost use Rattle.farm_types.specs.Spec.{tag_item, tags_at, tags_in};
+ghost use Rattle.farm_lines.specs.Spec.{tag_item, tags_at, tags_in};
 
 use crate::words::kept;
 use cue_json::{FieldFault, Map};
@@ -16,10 +16,8 @@ use std::alloc::{AllocError, Global};
 pub fn read_tags(alloc: Global, object: &Map, field: &str) -> Result<Items<Text>, FieldFault>
     ensures { Gives (λ tags. tags) result (tags_at field.now (members_view object.now.entries)) }
 {
-    match cue_json::list(alloc, object, field) {
-        Ok(values) => read_values(alloc, field, values),
-        Err(fault) => Err(fault),
-    }
+    let values = cue_json::list(alloc, object, field)?;
+    read_values(alloc, field, values)
 }
 
 // The tags of the list of that field.
@@ -37,10 +35,8 @@ fn read_values(alloc: Global, field: &str, values: &[Value]) -> Result<Items<Tex
 fn read_tag(alloc: Global, field: &str, value: &Value) -> Result<Text, FieldFault>
     ensures { Gives (λ tag. tag) result (tag_item field.now (view value.now)) }
 {
-    match cue_json::text_item(alloc, value, field) {
-        Ok(text) => kept(alloc, field, text, is_tag(text)),
-        Err(fault) => Err(fault),
-    }
+    let text = cue_json::text_item(alloc, value, field)?;
+    kept(alloc, field, text, is_tag(text))
 }
 
 /// The tags of a layer that says none: `general`.

@@ -5,7 +5,7 @@ ghost use Rattle.std.specs.List.{list_all};
 ghost use Rattle.serde_json.specs.View.{members_view};
 ghost use Rattle.cue_json.specs.Fields.{Gives, WrongKind, text_at};
 ghost use Rattle.farm_types.specs.Forms.{is_tag_text};
-ghost use Rattle.farm_types.specs.Spec.{is_command_byte, is_command_text, is_name_or_empty, text_of};
+ghost use Rattle.farm_lines.specs.Spec.{is_command_byte, is_command_text, is_name_or_empty, text_of};
 
 use cue_json::{FieldFault, Map};
 use farm_types::{Text, is_name, is_tag};
@@ -15,40 +15,32 @@ use std::alloc::Global;
 pub fn name_or_empty(alloc: Global, object: &Map, field: &str) -> Result<Text, FieldFault>
     ensures { Gives (λ name. name) result (text_of is_name_or_empty field.now (members_view object.now.entries)) }
 {
-    match cue_json::text(alloc, object, field) {
-        Ok(text) => kept(alloc, field, text, text.is_empty() || is_name(text)),
-        Err(fault) => Err(fault),
-    }
+    let text = cue_json::text(alloc, object, field)?;
+    kept(alloc, field, text, text.is_empty() || is_name(text))
 }
 
 /// The field's facility, which has the form of a tag.
 pub fn facility(alloc: Global, object: &Map, field: &str) -> Result<Text, FieldFault>
     ensures { Gives (λ facility. facility) result (text_of is_tag_text field.now (members_view object.now.entries)) }
 {
-    match cue_json::text(alloc, object, field) {
-        Ok(text) => kept(alloc, field, text, is_tag(text)),
-        Err(fault) => Err(fault),
-    }
+    let text = cue_json::text(alloc, object, field)?;
+    kept(alloc, field, text, is_tag(text))
 }
 
 /// The field's command, of any length, without control bytes.
 pub fn command(alloc: Global, object: &Map, field: &str) -> Result<Text, FieldFault>
     ensures { Gives (λ command. command) result (text_of is_command_text field.now (members_view object.now.entries)) }
 {
-    match cue_json::text(alloc, object, field) {
-        Ok(text) => kept(alloc, field, text, is_command(text)),
-        Err(fault) => Err(fault),
-    }
+    let text = cue_json::text(alloc, object, field)?;
+    kept(alloc, field, text, is_command(text))
 }
 
 /// The field's text, whatever it is.
 pub fn text(alloc: Global, object: &Map, field: &str) -> Result<Text, FieldFault>
     ensures { Gives (λ text. text) result (text_at field.now (members_view object.now.entries)) }
 {
-    match cue_json::text(alloc, object, field) {
-        Ok(text) => Ok(Text::from_str(alloc, text)?),
-        Err(fault) => Err(fault),
-    }
+    let text = cue_json::text(alloc, object, field)?;
+    Ok(Text::from_str(alloc, text)?)
 }
 
 /// A copy of the text where it has the form that was asked for.

@@ -3,13 +3,13 @@ use Rattle.std.proofs.Common.{◌≡◌, ℕ, List, [], ◌∷◌, map, false, r
 use Rattle.serde_json.specs.View.{items_of}
 use Rattle.serde_json.specs.Written.{has_float, items_have_float}
 use Rattle.farm_types.specs.declared.attempt.Attempt.{Attempt}
-use Rattle.farm_types.specs.declared.launch.Launch.{Launch}
+use Rattle.farm_lines.specs.declared.launch.Launch.{Launch}
 use Rattle.farm_types.specs.declared.refusal.Refusal.{Refusal}
 use Rattle.farm_types.specs.declared.refusal.Refusal.TheVariants.{Unknown, Exists, WrongBoot, Stale, FarmFull, Full}
-use Rattle.farm_types.specs.declared.reply.Reply.{Reply}
-use Rattle.farm_types.specs.declared.reply.Reply.TheVariants as reply
+use Rattle.farm_lines.specs.declared.reply.Reply.{Reply}
+use Rattle.farm_lines.specs.declared.reply.Reply.TheVariants as reply
 use Rattle.frame_range.specs.declared.fault.RangeFault.{RangeFault}
-use Rattle.farm_types.specs.Reply.{attempt_data, launch_data, report_data, refusal_data, submit_data, bad_line, bad_range, bad_amount, too_long, no_memory, done_data, sub_data, boot_data, tick_data, cut_text, reply_data}
+use Rattle.farm_lines.specs.Reply.{attempt_data, launch_data, report_data, refusal_data, submit_data, bad_line, bad_range, bad_amount, too_long, no_memory, done_data, sub_data, boot_data, tick_data, cut_text, reply_data}
 
 attempt_has_no_float : (a : Attempt) → has_float (attempt_data a) ≡ false
 unfolding attempt_data

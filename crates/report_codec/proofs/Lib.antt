@@ -1,3 +1,2 @@
 pub mod Floats
 pub mod Newlines
-pub mod PointLemmas

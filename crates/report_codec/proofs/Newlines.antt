@@ -8,12 +8,12 @@ use Rattle.std.proofs.lemmas.List.Folds.{list_any-append}
 use Rattle.json.specs.Print.{escape_byte, escape_letter, escape, quoted}
 use Rattle.serde_json.specs.Data.{Num, unsigned, negative, float, Data, null, boolean, number, string, array, object, Items, no_items, item, Members, no_members, member}
 use Rattle.serde_json.specs.Written.{compact_text, items_text, members_text, comma_if, number_text}
-use Rattle.cue_io.specs.Lines.{has_newline}
-use Rattle.farm_types.specs.declared.reply.Reply.{Reply}
-use Rattle.farm_types.specs.Reply.{reply_data, reply_text}
+use Rattle.std.specs.List.{list_any}
+use Rattle.farm_lines.specs.declared.reply.Reply.{Reply}
+use Rattle.farm_lines.specs.Reply.{reply_data, reply_text}
 
 abbrev IsClean : List ℕ → Type 0
-IsClean text = has_newline text ≡ false
+IsClean text = list_any (λ (b : ℕ). b == 10) text ≡ false
 
 not_ten : (n : ℕ) → 10 < n → (n == 10) ≡ false
 not_ten n h = grind arith
@@ -127,5 +127,5 @@ mutual
       (clean_append (quoted k) (58 ∷ (compact_text d ++ members_text true ms)) (quoted_clean k) (clean_cons 58 (compact_text d ++ members_text true ms) refl
       (clean_append (compact_text d) (members_text true ms) (compact_is_one_line d) (members_clean true ms))))
 
-pub reply_is_one_line : (r : Reply) → has_newline (reply_text r) ≡ false
+pub reply_is_one_line : (r : Reply) → list_any (λ (b : ℕ). b == 10) (reply_text r) ≡ false
 reply_is_one_line r = compact_is_one_line (reply_data r)

@@ -1,12 +1,12 @@
 -- What reading a line answers.
 use Rattle.std.specs.Prelude.{◌≡◌, Result, Ok, Err}
-use Rattle.farm_types.specs.declared.request.Request.{Request}
-use Rattle.farm_types.specs.declared.request.RequestFault.{RequestFault}
-use Rattle.farm_types.specs.declared.request.RequestFault.TheVariants.{BadLine, BadRange, BadAmount, NoMemory}
-use Rattle.farm_types.specs.Request.{RequestError}
-use Rattle.farm_types.specs.Request as error
+use Rattle.farm_lines.specs.declared.request.Request.{Request}
+use Rattle.farm_lines.specs.declared.request.RequestFault.{RequestFault}
+use Rattle.farm_lines.specs.declared.request.RequestFault.TheVariants.{BadLine, BadRange, BadAmount, NoMemory}
+use Rattle.farm_lines.specs.Request.{RequestError}
+use Rattle.farm_lines.specs.Request as error
 use Rattle.farm_types.specs.Step.{KeepsLimits}
-use Rattle.farm_types.specs.Transcript.{act_of}
+use Rattle.farm_lines.specs.Transcript.{act_of}
 
 -- the call's fault is the one that was to be read, unless memory ran out
 abbrev pub Fails : RequestFault → Result Request RequestError → Type 0

@@ -1,16 +1,14 @@
-//! Reading the line that adds an allocation.
+//! The line that adds an allocation.
 
-ghost use Rattle.std.specs.Prelude.{◌≡◌, IfOk};
-ghost use Rattle.std.specs.Option.{option_copied};
+ghost use Rattle.std.specs.Prelude.{IfOk};
 ghost use Rattle.serde_json.specs.View.{members_view};
 ghost use Rattle.cue_json.specs.Fields.{Gives, of_kind};
-ghost use Rattle.farm_types.specs.Forms.{after_point, before_point};
-ghost use Rattle.farm_types.specs.Request.{alloc_at, alloc_name_at, alloc_of_name, alloc_parts, asked, asks_alloc};
+ghost use Rattle.farm_lines.specs.Request.{alloc_at, alloc_name_at, alloc_of_name, alloc_parts, asked, asks_alloc};
 ghost use Rattle.report_codec.specs.Reads.{AsksWithin, IsRequest};
 
-use crate::fault::field_fault;
 use cue_json::{FieldFault, Map};
-use farm_types::{AllocRow, Request, RequestFault, Text, is_tag};
+use farm_lines::{Request, RequestFault, split_at_point};
+use farm_types::{AllocRow, Text, is_tag};
 use std::alloc::Global;
 
 /// The allocation that the object adds, or its first fault.
@@ -18,14 +16,12 @@ pub fn read_alloc(alloc: Global, object: &Map) -> Result<Request, RequestFault>
     ensures gives { IsRequest result (asked asks_alloc (alloc_at (members_view object.now.entries))) }
     ensures limits { IfOk result AsksWithin }
 {
-    match allocation(alloc, object) {
-        Ok(AllocRow { facility, tag }) => Ok(Request::Alloc { facility, tag }),
-        Err(fault) => Err(field_fault(fault)),
-    }
+    let AllocRow { facility, tag } = allocation(alloc, object)?;
+    Ok(Request::Alloc { facility, tag })
 }
 
 // The allocation's name, and no other field.
-#[tactic(auto, unfolding(farm_types::specs::Request::alloc_at))]
+#[tactic(auto, unfolding(farm_lines::specs::Request::alloc_at))]
 fn allocation(alloc: Global, object: &Map) -> Result<AllocRow, FieldFault>
     ensures { Gives (λ row. row) result (alloc_at (members_view object.now.entries)) }
 {
@@ -38,10 +34,8 @@ fn allocation(alloc: Global, object: &Map) -> Result<AllocRow, FieldFault>
 fn read_alloc_name(alloc: Global, object: &Map, field: &str) -> Result<AllocRow, FieldFault>
     ensures { Gives (λ row. row) result (alloc_name_at field.now (members_view object.now.entries)) }
 {
-    match cue_json::text(alloc, object, field) {
-        Ok(name) => named(alloc, field, name),
-        Err(fault) => Err(fault),
-    }
+    let name = cue_json::text(alloc, object, field)?;
+    named(alloc, field, name)
 }
 
 // The allocation of that name, whose parts stand around the first point.
@@ -66,16 +60,5 @@ fn parts(alloc: Global, field: &str, facility: &str, tag: &str) -> Result<AllocR
         })
     } else {
         Err(FieldFault::wrong_kind(alloc, field))
-    }
-}
-
-// What stands before the first point, and what follows it.
-fn split_at_point(text: &str) -> (&str, Option<&str>)
-    ensures before { result.0.now ≡ before_point text.now }
-    ensures after { option_copied result.1 ≡ after_point text.now }
-{
-    match text.split_once('.') {
-        Some((facility, tag)) => (facility, Some(tag)),
-        None => (text, None),
     }
 }

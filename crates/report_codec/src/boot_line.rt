@@ -1,45 +1,37 @@
-//! Reading a host's boot.
+//! A host's boot, and its reply.
 
-ghost use Rattle.std.specs.Prelude.{IfOk};
-ghost use Rattle.serde_json.specs.View.{members_view};
+ghost use Rattle.std.specs.Prelude.{◌≡◌, IfOk};
+ghost use Rattle.serde_json.specs.View.{members_view, view};
 ghost use Rattle.cue_json.specs.Fields.{Gives};
-ghost use Rattle.farm_types.specs.declared.request.Request.TheVariants as request;
+ghost use Rattle.farm_lines.specs.declared.request.Request.TheVariants as request;
 ghost use Rattle.farm_types.specs.Limits.{BootKeepsLimits};
-ghost use Rattle.farm_types.specs.Request.{boot_form_at, boot_line_at, boot_line_of, judged};
-ghost use Rattle.job_spec.specs.Answers.{GivesSpec};
+ghost use Rattle.farm_lines.specs.Reply.{boot_data};
+ghost use Rattle.farm_lines.specs.Request.{boot_form_at, boot_line_at, boot_line_of, judged};
+ghost use Rattle.job_spec.specs.SpecResults.{GivesSpec};
 ghost use Rattle.report_codec.specs.Reads.{AsksWithin, IsRequest};
 
-use crate::fault::{field_fault, spec_fault};
 use crate::read_fields::{read_number, read_text};
 use cue_json::{FieldFault, Map};
-use farm_types::{BootForm, BootLine, Cores, Kb, Request, RequestFault, read_name};
+use farm_lines::{BootForm, Request, RequestFault, read_name};
+use farm_types::{
+    BootLine, Cores, Kb, LEAST_CORES, LEAST_MEMORY, MOST_CORES, MOST_MEMORY, MOST_TAGS,
+};
 use job_spec::{SpecFault, read_tags, within};
-use std::alloc::Global;
+use serde_json::{Value, json};
+use std::alloc::{AllocError, Global};
 
 /// The boot that the object tells, or its first fault. All forms come before the amounts.
 pub fn read_boot(alloc: Global, object: &Map) -> Result<Request, RequestFault>
     ensures gives { IsRequest result (judged request.Boot (boot_line_at (members_view object.now.entries))) }
     ensures limits { IfOk result AsksWithin }
 {
-    match read_form(alloc, object) {
-        Ok(form) => judge(alloc, form),
-        Err(fault) => Err(field_fault(fault)),
-    }
-}
-
-// What is asked where the amounts are within their limits.
-fn judge(alloc: Global, form: BootForm) -> Result<Request, RequestFault>
-    ensures gives { IsRequest result (judged request.Boot (boot_line_of form)) }
-    ensures limits { IfOk result AsksWithin }
-{
-    match judge_amounts(alloc, form) {
-        Ok(line) => Ok(Request::Boot(line)),
-        Err(fault) => Err(spec_fault(fault)),
-    }
+    let form = read_form(alloc, object)?;
+    let line = judge(alloc, form)?;
+    Ok(Request::Boot(line))
 }
 
 // A boot's fields in order, and no others.
-#[tactic(auto, unfolding(farm_types::specs::Request::boot_form_at))]
+#[tactic(auto, unfolding(farm_lines::specs::Request::boot_form_at))]
 fn read_form(alloc: Global, object: &Map) -> Result<BootForm, FieldFault>
     ensures { Gives (λ form. form) result (boot_form_at (members_view object.now.entries)) }
 {
@@ -65,18 +57,30 @@ fn read_form(alloc: Global, object: &Map) -> Result<BootForm, FieldFault>
 }
 
 // The amounts in order: how many tags there are, then cores, then memory.
-#[tactic(auto, unfolding(farm_types::specs::Request::boot_line_of))]
-fn judge_amounts(alloc: Global, form: BootForm) -> Result<BootLine, SpecFault>
+#[tactic(auto, unfolding(farm_lines::specs::Request::boot_line_of))]
+fn judge(alloc: Global, form: BootForm) -> Result<BootLine, SpecFault>
     ensures gives { GivesSpec result (boot_line_of form) }
     ensures limits { IfOk result BootKeepsLimits }
 {
-    within(alloc, "tags", 0, 32, form.tags.len() as u128)?;
-    within(alloc, "cores", 10, 1_000_000, u128::from(form.cores))?;
+    within(
+        alloc,
+        "tags",
+        0,
+        u128::from(MOST_TAGS),
+        form.tags.len() as u128,
+    )?;
+    within(
+        alloc,
+        "cores",
+        u128::from(LEAST_CORES),
+        u128::from(MOST_CORES),
+        u128::from(form.cores),
+    )?;
     within(
         alloc,
         "memory",
-        262_144,
-        1_000_000_000_000,
+        u128::from(LEAST_MEMORY),
+        u128::from(MOST_MEMORY),
         u128::from(form.memory),
     )?;
     Ok(BootLine {
@@ -87,4 +91,12 @@ fn judge_amounts(alloc: Global, form: BootForm) -> Result<BootLine, SpecFault>
         cores: Cores(form.cores as u32),
         memory: Kb(form.memory),
     })
+}
+
+/// The reply to it: the number of the boot, and the nonce that the host sent.
+#[tactic(auto, unfolding(farm_lines::specs::Reply::boot_data))]
+pub fn boot_value(alloc: Global, boot: u32, nonce: u64) -> Result<Value, AllocError>
+    ensures { IfOk result (λ value. view value ≡ boot_data boot nonce) }
+{
+    json!(in alloc; {"boot": boot, "nonce": nonce, "ok": true})
 }

@@ -1,14 +1,16 @@
 //! The items of a report's lists, each read from an object.
 
-ghost use Rattle.std.specs.Prelude.{◌≡◌, Result, ⊤};
+ghost use Rattle.std.specs.Prelude.{Result};
 ghost use Rattle.serde_json.specs.Data.{Members};
 ghost use Rattle.serde_json.specs.View.{items_view, members_view, view};
 ghost use Rattle.cue_json.specs.Fields.{Fault, Gives};
-ghost use Rattle.farm_types.specs.Fields.{item_at, items_at, list_of, optional_whole_at};
-ghost use Rattle.farm_types.specs.Request.{attempt_at, done_at};
+ghost use Rattle.farm_lines.specs.Fields.{item_at, items_at, list_of, optional_whole_at};
+ghost use Rattle.farm_lines.specs.Request.{attempt_at, done_at};
 
 use cue_json::{FieldFault, Map};
-use farm_types::{Attempt, DoneItem, Exit, Items, Slot, Version};
+use farm_types::{
+    Attempt, Cores, DoneItem, Exit, Items, LAST_SLOT, LAST_VERSION, MOST_CORES, Slot, Version,
+};
 use serde_json::Value;
 use std::alloc::Global;
 
@@ -26,10 +28,10 @@ pub trait Item: Drop {
 impl Item for Attempt {
     ghost reads = { attempt_at };
 
-    #[tactic(auto, unfolding(farm_types::specs::Request::attempt_at))]
+    #[tactic(auto, unfolding(farm_lines::specs::Request::attempt_at))]
     fn read(alloc: Global, object: &Map) -> Result<Attempt, FieldFault> {
-        let slot = cue_json::whole(alloc, object, "slot", 0, 65535)?;
-        let version = cue_json::whole(alloc, object, "version", 0, 16777215)?;
+        let slot = cue_json::whole(alloc, object, "slot", 0, u64::from(LAST_SLOT))?;
+        let version = cue_json::whole(alloc, object, "version", 0, u64::from(LAST_VERSION))?;
         cue_json::no_others(alloc, object, &["slot", "version"])?;
         Ok(Attempt {
             slot: Slot(slot as u32),
@@ -41,13 +43,13 @@ impl Item for Attempt {
 impl Item for DoneItem {
     ghost reads = { done_at };
 
-    #[tactic(auto, unfolding(farm_types::specs::Request::done_at))]
+    #[tactic(auto, unfolding(farm_lines::specs::Request::done_at))]
     fn read(alloc: Global, object: &Map) -> Result<DoneItem, FieldFault> {
-        let slot = cue_json::whole(alloc, object, "slot", 0, 65535)?;
-        let version = cue_json::whole(alloc, object, "version", 0, 16777215)?;
+        let slot = cue_json::whole(alloc, object, "slot", 0, u64::from(LAST_SLOT))?;
+        let version = cue_json::whole(alloc, object, "version", 0, u64::from(LAST_VERSION))?;
         let status = cue_json::whole(alloc, object, "status", 0, 0)?;
         let signal = cue_json::whole(alloc, object, "signal", 0, 0)?;
-        optional_whole(alloc, object, "free", 0, 1000000)?;
+        let free = optional_cores(alloc, object, "free", MOST_CORES)?;
         cue_json::no_others(
             alloc,
             object,
@@ -62,34 +64,34 @@ impl Item for DoneItem {
                 status: status as u32,
                 signal: signal as u32,
             },
+            free,
         })
     }
 }
 
-// A number that may be left out, and isn't used.
-fn optional_whole(
+// An amount of cores that may be left out.
+fn optional_cores(
     alloc: Global,
     object: &Map,
     field: &str,
-    least: u64,
-    most: u64,
-) -> Result<(), FieldFault>
-    ensures { Gives (λ none. none) result (optional_whole_at field.now least most (members_view object.now.entries)) }
+    most: u32,
+) -> Result<Option<Cores>, FieldFault>
+    ensures { Gives (λ cores. cores) result (optional_whole_at field.now 0 most (members_view object.now.entries)) }
 {
     if cue_json::has(object, field) {
-        cue_json::whole(alloc, object, field, least, most)?;
+        let cores = cue_json::whole(alloc, object, field, 0, u64::from(most))?;
+        Ok(Some(Cores(cores as u32)))
+    } else {
+        Ok(None)
     }
-    Ok(())
 }
 
 /// The list of that field, item by item.
 pub fn list<T: Item>(alloc: Global, object: &Map, field: &str) -> Result<Items<T>, FieldFault>
     ensures { Gives (λ items. items) result (list_of field.now T.reads (members_view object.now.entries)) }
 {
-    match cue_json::list(alloc, object, field) {
-        Ok(values) => read_items(alloc, field, values),
-        Err(fault) => Err(fault),
-    }
+    let values = cue_json::list(alloc, object, field)?;
+    read_items(alloc, field, values)
 }
 
 // The items of the list of that field.
@@ -107,8 +109,6 @@ fn read_items<T: Item>(alloc: Global, field: &str, values: &[Value]) -> Result<I
 fn read_item<T: Item>(alloc: Global, field: &str, value: &Value) -> Result<T, FieldFault>
     ensures { Gives (λ item. item) result (item_at field.now T.reads (view value.now)) }
 {
-    match cue_json::object_item(alloc, value, field) {
-        Ok(object) => T::read(alloc, object),
-        Err(fault) => Err(fault),
-    }
+    let object = cue_json::object_item(alloc, value, field)?;
+    T::read(alloc, object)
 }

@@ -3,26 +3,19 @@
 
 mod alloc_line;
 mod boot_line;
-mod fault;
 mod fault_value;
 mod item;
 mod laws;
 mod lock_line;
 mod read;
 mod read_fields;
-#[cfg(test)]
-mod read_tests;
 mod refusal_value;
-mod reply_value;
 mod report_line;
-mod report_value;
 mod show_line;
 mod sub_line;
 mod submit_line;
 mod tick_line;
 mod write;
-#[cfg(test)]
-mod write_tests;
 
 pub use laws::replies_are_single_lines;
 pub use read::read_request;

@@ -1,14 +1,14 @@
-//! Reading the line that locks or opens a host.
+//! The line that locks or opens a host.
 
 ghost use Rattle.std.specs.Prelude.{◌≡◌, IfOk};
 ghost use Rattle.serde_json.specs.View.{members_view};
 ghost use Rattle.cue_json.specs.Fields.{Gives};
-ghost use Rattle.farm_types.specs.Request.{LockLine, asked, asks_lock, lock_at, lock_line_at, lock_of};
+ghost use Rattle.farm_lines.specs.Request.{asked, asks_lock, lock_at, lock_line_at, lock_of};
 ghost use Rattle.report_codec.specs.Reads.{AsksWithin, IsRequest};
 
-use crate::fault::field_fault;
 use cue_json::{FieldFault, Map};
-use farm_types::{LockState, Request, RequestFault, Text, read_name};
+use farm_lines::{Request, RequestFault, read_name};
+use farm_types::{LockState, Text};
 use std::alloc::Global;
 
 /// The host whose lock the object sets, or its first fault.
@@ -16,14 +16,12 @@ pub fn read_lock(alloc: Global, object: &Map) -> Result<Request, RequestFault>
     ensures gives { IsRequest result (asked asks_lock (lock_line_at (members_view object.now.entries))) }
     ensures limits { IfOk result AsksWithin }
 {
-    match lock_line(alloc, object) {
-        Ok((host, lock)) => Ok(Request::Lock { host, lock }),
-        Err(fault) => Err(field_fault(fault)),
-    }
+    let (host, lock) = lock_line(alloc, object)?;
+    Ok(Request::Lock { host, lock })
 }
 
 // The host's name and its lock, and no others.
-#[tactic(auto, unfolding(farm_types::specs::Request::lock_line_at))]
+#[tactic(auto, unfolding(farm_lines::specs::Request::lock_line_at))]
 fn lock_line(alloc: Global, object: &Map) -> Result<(Text, LockState), FieldFault>
     ensures { Gives (λ line. record { host = line.0; lock = line.1 }) result (lock_line_at (members_view object.now.entries)) }
 {
@@ -37,10 +35,7 @@ fn lock_line(alloc: Global, object: &Map) -> Result<(Text, LockState), FieldFaul
 fn read_state(alloc: Global, object: &Map, field: &str) -> Result<LockState, FieldFault>
     ensures { Gives (λ lock. lock) result (lock_at field.now (members_view object.now.entries)) }
 {
-    let word = match cue_json::text(alloc, object, field) {
-        Ok(word) => word,
-        Err(fault) => return Err(fault),
-    };
+    let word = cue_json::text(alloc, object, field)?;
     match named(word) {
         Some(lock) => Ok(lock),
         None => Err(FieldFault::wrong_kind(alloc, field)),

@@ -2,12 +2,11 @@
 
 ghost use Rattle.std.specs.Prelude.{Err, IfOk, None};
 ghost use Rattle.serde_json.specs.View.{members_view};
-ghost use Rattle.farm_types.specs.Request.{by_op, request_at, request_in, request_of};
+ghost use Rattle.farm_lines.specs.Request.{by_op, request_at, request_in, request_of};
 ghost use Rattle.report_codec.specs.Reads.{AsksWithin, IsRequest};
 
 use crate::alloc_line::read_alloc;
 use crate::boot_line::read_boot;
-use crate::fault::field_fault;
 use crate::lock_line::read_lock;
 use crate::report_line::read_report;
 use crate::show_line::read_show;
@@ -15,11 +14,12 @@ use crate::sub_line::read_sub;
 use crate::submit_line::read_submit;
 use crate::tick_line::read_tick;
 use cue_json::{FieldFault, LineFault, Map};
-use farm_types::{Request, RequestFault, Text};
+use farm_lines::{Request, RequestFault};
+use farm_types::Text;
 use std::alloc::Global;
 
 /// What the line asks, or its first fault. The amounts of what is asked are within their limits.
-#[tactic(auto, unfolding(farm_types::specs::Request::request_of))]
+#[tactic(auto, unfolding(farm_lines::specs::Request::request_of))]
 pub fn read_request(alloc: Global, line: &[u8]) -> Result<Request, RequestFault>
     ensures gives { IsRequest result (request_of line.now) }
     ensures limits { IfOk result AsksWithin }
@@ -46,10 +46,8 @@ fn request(alloc: Global, object: &Map) -> Result<Request, RequestFault>
     ensures gives { IsRequest result (request_at (members_view object.now.entries)) }
     ensures limits { IfOk result AsksWithin }
 {
-    match cue_json::text(alloc, object, "op") {
-        Ok(op) => request_by_op(alloc, object, op),
-        Err(fault) => Err(field_fault(fault)),
-    }
+    let op = cue_json::text(alloc, object, "op")?;
+    request_by_op(alloc, object, op)
 }
 
 // The request that `op` names.
@@ -66,6 +64,6 @@ fn request_by_op(alloc: Global, object: &Map, op: &str) -> Result<Request, Reque
         "host" => read_lock(alloc, object),
         "submit" => read_submit(alloc, object),
         "tick" => read_tick(alloc, object),
-        _ => Err(field_fault(FieldFault::wrong_kind(alloc, "op"))),
+        _ => Err(RequestFault::from(FieldFault::wrong_kind(alloc, "op"))),
     }
 }

@@ -2,7 +2,7 @@
 
 ghost use Rattle.serde_json.specs.View.{members_view};
 ghost use Rattle.cue_json.specs.Fields.{Gives, text_at};
-ghost use Rattle.farm_types.specs.Spec.{number_at};
+ghost use Rattle.farm_lines.specs.Spec.{number_at};
 
 use cue_json::{FieldFault, Map};
 use farm_types::Text;
@@ -12,10 +12,8 @@ use std::alloc::Global;
 pub fn read_text(alloc: Global, object: &Map, field: &str) -> Result<Text, FieldFault>
     ensures { Gives (λ text. text) result (text_at field.now (members_view object.now.entries)) }
 {
-    match cue_json::text(alloc, object, field) {
-        Ok(text) => Ok(Text::from_str(alloc, text)?),
-        Err(fault) => Err(fault),
-    }
+    let text = cue_json::text(alloc, object, field)?;
+    Ok(Text::from_str(alloc, text)?)
 }
 
 /// The field's whole number of 64 bits, whose limits are judged later.

@@ -1,15 +1,15 @@
-//! Reading the line that adds a show.
+//! The line that adds a show.
 
 ghost use Rattle.std.specs.Prelude.{IfOk};
 ghost use Rattle.serde_json.specs.View.{members_view};
 ghost use Rattle.cue_json.specs.Fields.{Gives};
-ghost use Rattle.farm_types.specs.declared.request.Request.TheVariants as request;
-ghost use Rattle.farm_types.specs.Request.{asked, show_at};
+ghost use Rattle.farm_lines.specs.declared.request.Request.TheVariants as request;
+ghost use Rattle.farm_lines.specs.Request.{asked, show_at};
 ghost use Rattle.report_codec.specs.Reads.{AsksWithin, IsRequest};
 
-use crate::fault::field_fault;
 use cue_json::{FieldFault, Map};
-use farm_types::{Request, RequestFault, Text, read_name};
+use farm_lines::{Request, RequestFault, read_name};
+use farm_types::Text;
 use std::alloc::Global;
 
 /// The show that the object adds, or its first fault.
@@ -17,14 +17,12 @@ pub fn read_show(alloc: Global, object: &Map) -> Result<Request, RequestFault>
     ensures gives { IsRequest result (asked request.Show (show_at (members_view object.now.entries))) }
     ensures limits { IfOk result AsksWithin }
 {
-    match show(alloc, object) {
-        Ok(name) => Ok(Request::Show { name }),
-        Err(fault) => Err(field_fault(fault)),
-    }
+    let name = show(alloc, object)?;
+    Ok(Request::Show { name })
 }
 
 // The show's name, and no other field.
-#[tactic(auto, unfolding(farm_types::specs::Request::show_at))]
+#[tactic(auto, unfolding(farm_lines::specs::Request::show_at))]
 fn show(alloc: Global, object: &Map) -> Result<Text, FieldFault>
     ensures { Gives (λ name. name) result (show_at (members_view object.now.entries)) }
 {

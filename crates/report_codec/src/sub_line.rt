@@ -1,48 +1,35 @@
-//! Reading the line that sets a subscription.
+//! The line that sets a subscription, and its reply.
 
-ghost use Rattle.std.specs.Prelude.{IfOk};
-ghost use Rattle.serde_json.specs.View.{members_view};
+ghost use Rattle.std.specs.Prelude.{◌≡◌, IfOk};
+ghost use Rattle.serde_json.specs.View.{members_view, view};
 ghost use Rattle.cue_json.specs.Fields.{Gives};
-ghost use Rattle.farm_types.specs.declared.request.Request.TheVariants as request;
+ghost use Rattle.farm_lines.specs.declared.request.Request.TheVariants as request;
 ghost use Rattle.farm_types.specs.Limits.{SubKeepsLimits};
-ghost use Rattle.farm_types.specs.Request.{judged, sub_form_at, sub_line_at, sub_line_of};
-ghost use Rattle.job_spec.specs.Answers.{GivesSpec};
+ghost use Rattle.farm_lines.specs.Reply.{sub_data};
+ghost use Rattle.farm_lines.specs.Request.{judged, sub_form_at, sub_line_at, sub_line_of};
+ghost use Rattle.job_spec.specs.SpecResults.{GivesSpec};
 ghost use Rattle.report_codec.specs.Reads.{AsksWithin, IsRequest};
 
-use crate::fault::{field_fault, spec_fault};
 use crate::read_fields::{read_number, read_text};
 use cue_json::{FieldFault, Map};
-use farm_types::{Cores, Request, RequestFault, SubForm, SubLine, read_name};
+use farm_lines::{Request, RequestFault, SubForm, read_name};
+use farm_types::{Cores, MOST_BURST, SubLine};
 use job_spec::{SpecFault, within};
-use std::alloc::Global;
-
-// The greatest size and the greatest burst (hundredths of a core).
-const MOST_BURST: u128 = 2_000_000_000;
+use serde_json::{Value, json};
+use std::alloc::{AllocError, Global};
 
 /// The subscription that the object sets, or its first fault. All forms come before the amounts.
 pub fn read_sub(alloc: Global, object: &Map) -> Result<Request, RequestFault>
     ensures gives { IsRequest result (judged request.Sub (sub_line_at (members_view object.now.entries))) }
     ensures limits { IfOk result AsksWithin }
 {
-    match read_form(alloc, object) {
-        Ok(form) => judge(alloc, form),
-        Err(fault) => Err(field_fault(fault)),
-    }
-}
-
-// What is asked where the amounts are within their limits.
-fn judge(alloc: Global, form: SubForm) -> Result<Request, RequestFault>
-    ensures gives { IsRequest result (judged request.Sub (sub_line_of form)) }
-    ensures limits { IfOk result AsksWithin }
-{
-    match judge_amounts(alloc, form) {
-        Ok(line) => Ok(Request::Sub(line)),
-        Err(fault) => Err(spec_fault(fault)),
-    }
+    let form = read_form(alloc, object)?;
+    let line = judge(alloc, form)?;
+    Ok(Request::Sub(line))
 }
 
 // A subscription's fields in order, and no others.
-#[tactic(auto, unfolding(farm_types::specs::Request::sub_form_at))]
+#[tactic(auto, unfolding(farm_lines::specs::Request::sub_form_at))]
 fn read_form(alloc: Global, object: &Map) -> Result<SubForm, FieldFault>
     ensures { Gives (λ form. form) result (sub_form_at (members_view object.now.entries)) }
 {
@@ -60,17 +47,45 @@ fn read_form(alloc: Global, object: &Map) -> Result<SubForm, FieldFault>
 }
 
 // The amounts in order: size, then burst.
-#[tactic(auto, unfolding(farm_types::specs::Request::sub_line_of))]
-fn judge_amounts(alloc: Global, form: SubForm) -> Result<SubLine, SpecFault>
+#[tactic(auto, unfolding(farm_lines::specs::Request::sub_line_of))]
+fn judge(alloc: Global, form: SubForm) -> Result<SubLine, SpecFault>
     ensures gives { GivesSpec result (sub_line_of form) }
     ensures limits { IfOk result SubKeepsLimits }
 {
-    within(alloc, "size", 0, MOST_BURST, u128::from(form.size))?;
-    within(alloc, "burst", 0, MOST_BURST, u128::from(form.burst))?;
+    within(
+        alloc,
+        "size",
+        0,
+        u128::from(MOST_BURST),
+        u128::from(form.size),
+    )?;
+    within(
+        alloc,
+        "burst",
+        0,
+        u128::from(MOST_BURST),
+        u128::from(form.burst),
+    )?;
     Ok(SubLine {
         show: form.show,
         alloc: form.alloc,
         size: Cores(form.size as u32),
         burst: Cores(form.burst as u32),
     })
+}
+
+/// The reply to it: the subscription's amounts, in hundredths of a core.
+#[tactic(auto, unfolding(farm_lines::specs::Reply::sub_data))]
+pub fn sub_value(
+    alloc: Global,
+    booked: Cores,
+    burst: Cores,
+    size: Cores,
+) -> Result<Value, AllocError>
+    ensures { IfOk result (λ value. view value ≡ sub_data booked burst size) }
+{
+    let booked = booked.0;
+    let burst = burst.0;
+    let size = size.0;
+    json!(in alloc; {"booked": booked, "burst": burst, "ok": true, "size": size})
 }

@@ -1,9 +1,4 @@
-pub mod AnswerLemmas
-pub mod LaunchLemmas
-pub mod LegalLemmas
-pub mod LineLemmas
-pub mod OpeningLemmas
-pub mod OutcomeLemmas
-pub mod RunLemmas
-pub mod SessionLemmas
-pub mod TurnLemmas
+mod ExchangeLemmas
+mod OpeningLemmas
+mod RunLemmas
+mod SessionLemmas

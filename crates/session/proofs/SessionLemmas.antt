@@ -1,73 +1,80 @@
--- Turn by turn, a session is the transcript of its lines.
-use Rattle.std.proofs.Common.{◌≡◌, ℕ, Bool, true, false, List, [], ◌∷◌, ◌++◌, refl, sym, ap, ◌∙◌, subst, Option, Result, Ok, Err, append_assoc, append-nil}
+-- Exchange by exchange, a session is the transcript of its lines.
+use Rattle.std.proofs.Common.{◌≡◌, ◌<◌, ◌+◌, ℕ, Bool, true, false, List, [], ◌∷◌, ◌++◌, refl, sym, ap, ◌∙◌, subst, Option, Result, Ok, Err, append_assoc, append-nil, length, length-append}
 use Rattle.std.proofs.lemmas.List.{map-append}
 use Rattle.cue_io.specs.declared.line.LineFault.{LineFault}
 use Rattle.cue_io.specs.declared.line.LineFault.TheVariants as line_fault
 use Rattle.cue_io.specs.History.{HasGiven, HasGiven-next, Continues, IsCut}
-use Rattle.cue_io.specs.Input.{Takes}
+use Rattle.cue_io.specs.Input.{Takes, Takes-append}
+use Rattle.cue_io.specs.Output.{Adds, Adds-append}
+use Rattle.cue_io.specs.Readings.{Tells, Tells-append}
 use Rattle.cue_io.specs.Lines.{lines_of, lines_of-joined}
-use Rattle.cue_io.specs.Reader.{Held, Given, Whole, Long, AtEnd}
+use Rattle.cue_io.specs.Reader.{Held, Given, Whole, Long, AtEnd, Goes}
+use Rattle.cue_io.specs.declared.limits.TheConstants.{BYTE_LIMIT}
 use Rattle.farm_types.specs.Farm.{Farm}
-use Rattle.farm_types.specs.Reply.{reply_text}
-use Rattle.farm_types.specs.Transcript.{Mark, Turn, answer_to, answer_at, farm_next, farm_after, transcript, lines_in, moments_in, line_limit}
-use Rattle.session.specs.declared.turned.Turned.{Turned}
-use Rattle.session.specs.declared.turned.Turned.TheVariants as turned
-use Rattle.session.specs.Answers.{IsAnswer}
-use Rattle.session.specs.Sessions.{Answers, IsTurn, IsStep, HasAnswered, HasServed, AreFirstLines, Ends}
+use Rattle.farm_lines.specs.Reply.{reply_text}
+use Rattle.farm_lines.specs.Transcript.{Mark, Exchange, answer_to, answer_at, farm_next, farm_after, transcript, lines_in, moments_in}
+use Rattle.session.specs.declared.exchanged.Exchanged.{Exchanged}
+use Rattle.session.specs.declared.exchanged.Exchanged.TheVariants as exchanged
+use Rattle.line_answers.specs.LineAnswers.{IsAnswer}
+use Rattle.session.specs.Sessions.{Answers, Call, Streams, IsExchange, IsStep, HasAnswered, HasMoved, HasServed, AreFirstLines, Ends}
+use Rattle.farm_lines.specs.declared.limits.TheConstants.{LINE_LIMIT}
 
--- ---- one turn more
+-- ---- one exchange more
 
-transcript-append : (f : Farm) (ts : List Turn) (t : Turn) → transcript f (ts ++ t ∷ []) ≡ transcript f ts ++ (reply_text (answer_at (farm_after f ts) t).reply ++ 10 ∷ [])
+transcript-append : (f : Farm) (ts : List Exchange) (t : Exchange) → transcript f (ts ++ t ∷ []) ≡ transcript f ts ++ (reply_text (answer_at (farm_after f ts) t).reply ++ 10 ∷ [])
 transcript-append f [] t = refl
 transcript-append f (u ∷ ts) t =
     ap (λ bytes. reply_text (answer_at f u).reply ++ 10 ∷ bytes) (transcript-append (farm_next f u) ts t)
     ∙ sym (append_assoc (reply_text (answer_at f u).reply) (10 ∷ transcript (farm_next f u) ts) (reply_text (answer_at (farm_after (farm_next f u) ts) t).reply ++ 10 ∷ []))
 
-farm_after-append : (f : Farm) (ts : List Turn) (t : Turn) → farm_after f (ts ++ t ∷ []) ≡ farm_next (farm_after f ts) t
+farm_after-append : (f : Farm) (ts : List Exchange) (t : Exchange) → farm_after f (ts ++ t ∷ []) ≡ farm_next (farm_after f ts) t
 farm_after-append f [] t = refl
 farm_after-append f (u ∷ ts) t = farm_after-append (farm_next f u) ts t
 
-lines_in-append : (ts : List Turn) (t : Turn) → lines_in (ts ++ t ∷ []) ≡ lines_in ts ++ t.line ∷ []
+lines_in-append : (ts : List Exchange) (t : Exchange) → lines_in (ts ++ t ∷ []) ≡ lines_in ts ++ t.line ∷ []
 lines_in-append ts t = map-append (λ u. u.line) ts (t ∷ [])
 
-moments_in-append : (ts : List Turn) (t : Turn) → moments_in (ts ++ t ∷ []) ≡ moments_in ts ++ t.moment ∷ []
+moments_in-append : (ts : List Exchange) (t : Exchange) → moments_in (ts ++ t ∷ []) ≡ moments_in ts ++ t.moment ∷ []
 moments_in-append ts t = map-append (λ u. u.moment) ts (t ∷ [])
 
--- the farm, the text and the reading of one turn more
-answered_more : (first : Farm) (turns : List Turn) (farm : Farm) (wrote seen : List ℕ) (t : Turn) (after : Farm) (reply : List ℕ)
-    → HasAnswered first turns farm wrote seen → IsAnswer farm (answer_at farm t) after reply
-    → HasAnswered first (turns ++ t ∷ []) after (wrote ++ reply) (seen ++ t.moment ∷ [])
-answered_more first turns farm wrote seen t after reply answered answer = record {
-  farm_is = answer.farm ∙ ap (λ g. farm_next g t) answered.farm_is ∙ sym (farm_after-append first turns t);
+-- the farm, the text and the reading of one exchange more
+answered_more : (first : Farm) (exchanges : List Exchange) (farm : Farm) (wrote seen : List ℕ) (t : Exchange) (after : Farm) (reply : List ℕ)
+    → HasAnswered first exchanges farm wrote seen → IsAnswer farm (answer_at farm t) after reply
+    → HasAnswered first (exchanges ++ t ∷ []) after (wrote ++ reply) (seen ++ t.moment ∷ [])
+answered_more first exchanges farm wrote seen t after reply answered answer = record {
+  farm_is = answer.farm ∙ ap (λ g. farm_next g t) answered.farm_is ∙ sym (farm_after-append first exchanges t);
   replies = ap (λ bytes. bytes ++ reply) answered.replies
-      ∙ ap (λ bytes. transcript first turns ++ bytes) (answer.text ∙ ap (λ g. reply_text (answer_at g t).reply ++ 10 ∷ []) answered.farm_is)
-      ∙ sym (transcript-append first turns t);
-  moments = ap (λ moments. moments ++ t.moment ∷ []) answered.moments ∙ sym (moments_in-append turns t);
+      ∙ ap (λ bytes. transcript first exchanges ++ bytes) (answer.text ∙ ap (λ g. reply_text (answer_at g t).reply ++ 10 ∷ []) answered.farm_is)
+      ∙ sym (transcript-append first exchanges t);
+  moments = ap (λ moments. moments ++ t.moment ∷ []) answered.moments ∙ sym (moments_in-append exchanges t);
 }
 
 -- the line that was given, and its answer
-line_of_turn : (given : Given) (taken : List ℕ) (lines : List (List ℕ)) (reader : Held) (left : Option (List ℕ)) (old new : Farm) (moment : ℕ) (mark : Mark) (reply : List ℕ)
-    → Continues line_limit taken lines (Ok given) reader left → Answers given old moment mark new reply
-    → (line : List ℕ) × HasGiven line_limit taken (lines ++ line ∷ []) reader left × IsAnswer old (answer_to old line moment mark) new reply
-line_of_turn (Whole line) taken lines reader left old new moment mark reply continues answers = (line, continues.1, answers)
-line_of_turn Long taken lines reader left old new moment mark reply continues answers = (continues.0, continues.2, answers continues.0 continues.1)
-line_of_turn AtEnd taken lines reader left old new moment mark reply continues answers = absurd answers
+line_of_exchange : (given : Given) (taken : List ℕ) (lines : List (List ℕ)) (reader : Held) (left : Option (List ℕ)) (old new : Farm) (moment : ℕ) (mark : Mark) (reply : List ℕ)
+    → Continues LINE_LIMIT taken lines (Ok given) reader left → Answers given old moment mark new reply
+    → (line : List ℕ) × HasGiven LINE_LIMIT taken (lines ++ line ∷ []) reader left × IsAnswer old (answer_to old line moment mark) new reply
+line_of_exchange (Whole line) taken lines reader left old new moment mark reply continues answers = (line, continues.1, answers)
+line_of_exchange Long taken lines reader left old new moment mark reply continues answers = (continues.0, continues.2, answers continues.0 continues.1)
+line_of_exchange AtEnd taken lines reader left old new moment mark reply continues answers = absurd answers
 
--- one turn more, with all of its reply
-served_more : (first : Farm) (turns : List Turn) (taken wrote seen : List ℕ) (farm after : Farm) (reader new : Held) (left left' : Option (List ℕ)) (taken' : List ℕ)
-    (given : Given) (w u s : List ℕ) → HasServed first turns taken wrote seen farm reader left → Continues line_limit taken' (lines_in turns) (Ok given) new left'
-    → IsTurn given farm after w u s → (turns' : List Turn) × HasServed first turns' taken' (wrote ++ (w ++ u)) (seen ++ s) after new left'
-served_more first turns taken wrote seen farm after reader new left left' taken' given w u s served continues turn =
-    let found = line_of_turn given taken' (lines_in turns) new left' farm after turn.moment turn.mark turn.reply continues turn.answers in
-    let t : Turn = record { line = found.0; moment = turn.moment; mark = turn.mark } in
-    let answered : HasAnswered first (turns ++ t ∷ []) after (wrote ++ turn.reply) (seen ++ turn.moment ∷ [])
-    = answered_more first turns farm wrote seen t after turn.reply served.answered found.2 in (
-      turns ++ t ∷ [],
+-- one exchange more: what was written of its reply, and what wasn't, is its text
+served_more : (first : Farm) (call : Call) (farm after : Farm) (reader new : Held) (left left' : Option (List ℕ)) (taken' : List ℕ)
+    (given : Given) (w u s : List ℕ) → HasServed first call farm reader left → Continues LINE_LIMIT taken' (lines_in call.exchanges) (Ok given) new left'
+    → IsExchange given farm after w u s
+    → (t : Exchange) × HasServed first (record { taken = taken'; written = call.written ++ (w ++ u); readings = call.readings ++ s; exchanges = call.exchanges ++ t ∷ [] }) after new left'
+    × (w ++ u ≡ reply_text (answer_at (farm_after first call.exchanges) t).reply ++ 10 ∷ [])
+served_more first call farm after reader new left left' taken' given w u s served continues exchange =
+    let found = line_of_exchange given taken' (lines_in call.exchanges) new left' farm after exchange.moment exchange.mark exchange.reply continues exchange.answers in
+    let t : Exchange = record { line = found.0; moment = exchange.moment; mark = exchange.mark } in
+    let answered : HasAnswered first (call.exchanges ++ t ∷ []) after (call.written ++ exchange.reply) (call.readings ++ exchange.moment ∷ [])
+    = answered_more first call.exchanges farm call.written call.readings t after exchange.reply served.answered found.2 in (
+      t,
       record {
-        answered = subst (λ (bytes : List ℕ). HasAnswered first (turns ++ t ∷ []) after (wrote ++ bytes) (seen ++ s)) (sym turn.written)
-            (subst (λ (moments : List ℕ). HasAnswered first (turns ++ t ∷ []) after (wrote ++ turn.reply) (seen ++ moments)) (sym turn.read) answered);
-        given = subst (λ (lines : List (List ℕ)). HasGiven line_limit taken' lines new left') (sym (lines_in-append turns t)) found.1;
+        answered = subst (λ (bytes : List ℕ). HasAnswered first (call.exchanges ++ t ∷ []) after (call.written ++ bytes) (call.readings ++ s)) (sym exchange.written)
+            (subst (λ (moments : List ℕ). HasAnswered first (call.exchanges ++ t ∷ []) after (call.written ++ exchange.reply) (call.readings ++ moments)) (sym exchange.read) answered);
+        given = subst (λ (lines : List (List ℕ)). HasGiven LINE_LIMIT taken' lines new left') (sym (lines_in-append call.exchanges t)) found.1;
       },
+      exchange.written ∙ found.2.text ∙ ap (λ g. reply_text (answer_at g t).reply ++ 10 ∷ []) served.answered.farm_is,
     )
 
 -- ---- the lines that were given are the first of the bytes taken
@@ -76,59 +83,92 @@ first_lines_by : (ended : Bool) (taken : List ℕ) (lines : List (List ℕ)) (pe
 first_lines_by false taken lines pending cut = (lines_of pending, ap lines_of cut.cut ∙ lines_of-joined lines pending cut.in_lines)
 first_lines_by true taken lines pending cut = ([], cut.cut ∙ sym (append-nil lines))
 
-first_lines : (taken : List ℕ) (lines : List (List ℕ)) (reader : Held) (left : Option (List ℕ)) → HasGiven line_limit taken lines reader left → AreFirstLines taken lines
+first_lines : (taken : List ℕ) (lines : List (List ℕ)) (reader : Held) (left : Option (List ℕ)) → HasGiven LINE_LIMIT taken lines reader left → AreFirstLines taken lines
 first_lines taken lines reader left given = first_lines_by reader.ended taken lines given.pending given.is_cut
 
--- ---- a turn of the loop
+-- ---- a step of the loop
 
-module _ (first : Farm) (turns : List Turn) (taken wrote seen : List ℕ) (farm after : Farm) (reader new : Held) (left left' : Option (List ℕ)) (took w s : List ℕ)
-    (served : HasServed first turns taken wrote seen farm reader left) (takes : Takes left left' took) where
-  -- where the reader stands after the turn
-  stands : (answer : Result Given LineFault) (result : Turned) → (step : IsStep result reader new left' farm after took w s) → step.answer ≡ answer
-      → Continues line_limit (taken ++ took) (lines_in turns) answer new left'
+-- what was taken, written and read in one step more
+pub moved_more : (before mid after : Streams) (call : Call) (took w s : List ℕ) (exchanges : List Exchange) → HasMoved before mid call
+    → Takes mid.left after.left took → Adds mid.written after.written w → Tells mid.readings after.readings s
+    → HasMoved before after (record { taken = call.taken ++ took; written = call.written ++ w; readings = call.readings ++ s; exchanges = exchanges })
+moved_more before mid after call took w s exchanges moved takes adds tells = record {
+  taken = Takes-append before.left mid.left after.left call.taken took moved.taken takes;
+  written = Adds-append before.written mid.written after.written call.written w moved.written adds;
+  readings = Tells-append before.readings mid.readings after.readings call.readings s moved.readings tells;
+}
+
+module _ (first : Farm) (call : Call) (farm after : Farm) (reader new : Held) (left left' : Option (List ℕ)) (took w s : List ℕ)
+    (served : HasServed first call farm reader left) (takes : Takes left left' took) where
+  -- what is taken, written and read after the step, with these exchanges
+  abbrev more_of : List Exchange → Call
+  more_of exchanges = record { taken = call.taken ++ took; written = call.written ++ w; readings = call.readings ++ s; exchanges = exchanges }
+
+  -- where the reader stands after the step
+  stands : (answer : Result Given LineFault) (result : Exchanged) → (step : IsStep result reader new left' farm after took w s) → step.answer ≡ answer
+      → Continues LINE_LIMIT (call.taken ++ took) (lines_in call.exchanges) answer new left'
   stands answer result step is =
-      let Stands : Result Given LineFault → Type 0 = λ a. Continues line_limit (taken ++ took) (lines_in turns) a new left' in
-      subst Stands is (HasGiven-next line_limit taken (lines_in turns) reader left step.answer new left' served.given (record { took = took; takes = takes; goes = step.goes; end = step.at_end }))
+      let Stands : Result Given LineFault → Type 0 = λ a. Continues LINE_LIMIT (call.taken ++ took) (lines_in call.exchanges) a new left' in
+      subst Stands is (HasGiven-next LINE_LIMIT call.taken (lines_in call.exchanges) reader left step.answer new left' served.given (record { took = took; takes = takes; goes = step.goes; end = step.at_end }))
 
   -- the line was answered
-  pub served_went : (step : IsStep turned.Went reader new left' farm after took w s) → (turns' : List Turn) × HasServed first turns' (taken ++ took) (wrote ++ w) (seen ++ s) after new left'
+  pub served_went : (step : IsStep exchanged.Went reader new left' farm after took w s) → (exchanges : List Exchange) × HasServed first (more_of exchanges) after new left'
   served_went step =
-      let more = served_more first turns taken wrote seen farm after reader new left left' (taken ++ took) step.turns.0 w [] s served (stands (Ok step.turns.0) turned.Went step step.turns.1) step.turns.2 in
-      (more.0, subst (λ (bytes : List ℕ). HasServed first more.0 (taken ++ took) (wrote ++ bytes) (seen ++ s) after new left') (append-nil w) more.1)
+      let more = served_more first call farm after reader new left left' (call.taken ++ took) step.exchanges.0 w [] s served (stands (Ok step.exchanges.0) exchanged.Went step step.exchanges.1) step.exchanges.2 in
+      let exchanges : List Exchange = call.exchanges ++ more.0 ∷ [] in (
+        exchanges,
+        subst (λ (bytes : List ℕ). HasServed first (record { taken = call.taken ++ took; written = call.written ++ bytes; readings = call.readings ++ s; exchanges = exchanges }) after new left')
+            (append-nil w) more.1,
+      )
 
-  -- nothing was written or read in a turn without a line
-  quiet : w ≡ [] → s ≡ [] → (wrote ++ w ≡ transcript first turns) × (seen ++ s ≡ moments_in turns)
+  -- nothing was written or read in a step without a line
+  quiet : w ≡ [] → s ≡ [] → (call.written ++ w ≡ transcript first call.exchanges) × (call.readings ++ s ≡ moments_in call.exchanges)
   quiet none unread = (
-    ap (λ bytes. wrote ++ bytes) none ∙ append-nil wrote ∙ served.answered.replies,
-    ap (λ moments. seen ++ moments) unread ∙ append-nil seen ∙ served.answered.moments,
+    ap (λ bytes. call.written ++ bytes) none ∙ append-nil call.written ∙ served.answered.replies,
+    ap (λ moments. call.readings ++ moments) unread ∙ append-nil call.readings ∙ served.answered.moments,
   )
 
+  -- at the end of the source the reader took fewer bytes than it takes at most
+  unspent : (result : Exchanged) (step : IsStep result reader new left' farm after took w s) → step.answer ≡ Ok AtEnd → length (call.taken ++ took) < BYTE_LIMIT
+  unspent result step is =
+      let goes : Goes reader took (Ok AtEnd) new = subst (λ (a : Result Given LineFault). Goes reader took a new) is step.goes in
+      subst (λ (count : ℕ). count < BYTE_LIMIT)
+      (goes.taken_is ∙ ap (λ count. count + length took) served.given.taken_is ∙ sym (length-append call.taken took))
+      (goes.unspent (goes.leaves served.given.pending served.given.is_pending).cuts.ended)
+
   -- the session ended
-  pub served_ended : (result : Turned) → (result ≡ turned.Went → ⊥) → IsStep result reader new left' farm after took w s
-      → (turns' : List Turn) × Ends result first turns' (taken ++ took) (wrote ++ w) (seen ++ s) left'
-  served_ended turned.Went ends step = absurd (ends refl)
-  served_ended turned.End ends step =
-      let at = stands (Ok AtEnd) turned.End step step.turns.0 in
-      let same = quiet step.turns.1.none_written step.turns.1.none_read in
-      (turns, record { lines = at.0; none_left = at.1; replies = same.0; moments = same.1 })
-  served_ended turned.Read ends step =
-      let at = stands (Err line_fault.Read) turned.Read step step.turns.0 in
-      let same = quiet step.turns.1.none_written step.turns.1.none_read in
-      (turns, (record { lines = at.0; replies = same.0; moments = same.1 }, at.1))
-  served_ended turned.Spent ends step =
-      let at = stands (Err line_fault.Spent) turned.Spent step step.turns.0 in
-      let same = quiet step.turns.1.none_written step.turns.1.none_read in
-      (turns, (record { lines = at.0; replies = same.0; moments = same.1 }, at.1))
-  served_ended turned.Write ends step =
-      let given = step.turns.0 in
-      let unwritten = step.turns.1 in
-      let more = served_more first turns taken wrote seen farm after reader new left left' (taken ++ took) given w unwritten s served (stands (Ok given) turned.Write step step.turns.2) step.turns.4 in (
-        more.0,
+  pub served_ended : (result : Exchanged) → (result ≡ exchanged.Went → ⊥) → IsStep result reader new left' farm after took w s
+      → (exchanges : List Exchange) × Ends result first (more_of exchanges) left'
+  served_ended exchanged.Went ends step = absurd (ends refl)
+  served_ended exchanged.End ends step =
+      let at = stands (Ok AtEnd) exchanged.End step step.exchanges.0 in
+      let same = quiet step.exchanges.1.none_written step.exchanges.1.none_read in
+      (call.exchanges, record { lines = (record { cut = at.0; none_left = at.1 }, unspent exchanged.End step step.exchanges.0); replies = same.0; moments = same.1 })
+  served_ended exchanged.Read ends step =
+      let at = stands (Err line_fault.Read) exchanged.Read step step.exchanges.0 in
+      let same = quiet step.exchanges.1.none_written step.exchanges.1.none_read in
+      (call.exchanges, record { lines = (at.0, at.1); replies = same.0; moments = same.1 })
+  served_ended exchanged.Spent ends step =
+      let at = stands (Err line_fault.Spent) exchanged.Spent step step.exchanges.0 in
+      let same = quiet step.exchanges.1.none_written step.exchanges.1.none_read in
+      (call.exchanges, record { lines = (at.0, at.1); replies = same.0; moments = same.1 })
+  served_ended exchanged.Write ends step =
+      let given = step.exchanges.0 in
+      let unwritten = step.exchanges.1 in
+      let more = served_more first call farm after reader new left left' (call.taken ++ took) given w unwritten s served (stands (Ok given) exchanged.Write step step.exchanges.2) step.exchanges.4 in (
+        call.exchanges ++ more.0 ∷ [],
         record {
-          lines = first_lines (taken ++ took) (lines_in more.0) new left' more.1.given;
-          unwritten = unwritten;
-          some = step.turns.3;
-          replies = append_assoc wrote w unwritten ∙ more.1.answered.replies;
+          lines = first_lines (call.taken ++ took) (lines_in (call.exchanges ++ more.0 ∷ [])) new left' more.1.given;
+          replies = record {
+            before = call.exchanges;
+            last = more.0;
+            part = w;
+            unwritten = unwritten;
+            all = refl;
+            some = step.exchanges.3;
+            reply = more.2;
+            written = ap (λ bytes. bytes ++ w) served.answered.replies;
+          };
           moments = more.1.answered.moments;
         },
       )

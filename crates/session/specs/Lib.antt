@@ -1,6 +1,3 @@
-pub mod Answers
-pub mod Launches
-pub mod Lines
-pub mod Outcomes
+pub mod Hints
 pub mod Sessions
 pub mod Words

@@ -1,29 +1,35 @@
--- What a whole call does: the lines that it took, what it wrote, and how it ended.
-use Rattle.std.specs.Prelude.{◌≡◌, ◌<◌, ◌++◌, ◌∷◌, [], ◌⊎◌, ℕ, List, true, false, length, is_some, Option, Some, Result, Ok, Err}
+-- What a whole call does: what it took, wrote and read of the clock, the exchanges that it made, and how it ended.
+use Rattle.std.specs.Prelude.{◌≡◌, ◌↔◌, ◌<◌, ◌++◌, ◌∷◌, [], ◌⊎◌, ℕ, List, true, false, length, is_some, Option, Some, Result, Ok, Err}
 use Rattle.cue_io.specs.declared.line.LineFault.{LineFault}
 use Rattle.cue_io.specs.declared.line.LineFault.TheVariants as line_fault
+use Rattle.cue_io.specs.Faults.{HasRisen}
 use Rattle.cue_io.specs.History.{HasGiven, IsUnfinished}
-use Rattle.cue_io.specs.Input.{IsAtEnd}
+use Rattle.cue_io.specs.Input.{IsAtEnd, Takes}
 use Rattle.cue_io.specs.Lines.{lines_of}
-use Rattle.cue_io.specs.Reader.{Held, Given, Whole, Long, AtEnd, Goes, byte_limit}
+use Rattle.cue_io.specs.Output.{Adds}
+use Rattle.cue_io.specs.Reader.{Held, Given, Whole, Long, AtEnd, Goes}
+use Rattle.cue_io.specs.declared.limits.TheConstants.{BYTE_LIMIT}
+use Rattle.cue_io.specs.Readings.{Tells}
 use Rattle.farm_types.specs.Farm.{Farm}
 use Rattle.farm_types.specs.Run.{IsLegal, IsSafe}
-use Rattle.farm_types.specs.Transcript.{Mark, Turn, answer_to, line_limit, transcript, farm_after, entries_in, lines_in, moments_in}
-use Rattle.session.specs.Answers.{IsAnswer}
-use Rattle.session.specs.declared.turned.Turned.{Turned}
-use Rattle.session.specs.declared.turned.Turned.TheVariants as turned
+use Rattle.farm_lines.specs.Reply.{reply_text}
+use Rattle.farm_lines.specs.Transcript.{Mark, Exchange, answer_at, answer_to, transcript, farm_after, entries_in, lines_in, moments_in}
+use Rattle.line_answers.specs.LineAnswers.{IsAnswer}
+use Rattle.session.specs.declared.exchanged.Exchanged.{Exchanged}
+use Rattle.session.specs.declared.exchanged.Exchanged.TheVariants as exchanged
 use Rattle.session.specs.Words.{WordForm, form_of, opened_farm}
+use Rattle.farm_lines.specs.declared.limits.TheConstants.{LINE_LIMIT}
 
 -- ---- one line
 
 -- what the reader gave is answered: a whole line, or any line that is too long
 abbrev pub Answers : Given → Farm → ℕ → Mark → Farm → List ℕ → Type 0
 Answers (Whole line) old moment mark new text = IsAnswer old (answer_to old line moment mark) new text
-Answers Long old moment mark new text = (line : List ℕ) → line_limit < length line → IsAnswer old (answer_to old line moment mark) new text
+Answers Long old moment mark new text = (line : List ℕ) → LINE_LIMIT < length line → IsAnswer old (answer_to old line moment mark) new text
 Answers AtEnd old moment mark new text = ⊥
 
 -- a line was answered, with the clock's reading and the mark; of the reply's text this was written, and this wasn't
-pub record IsTurn (given : Given) (old new : Farm) (wrote unwritten seen : List ℕ) : Type 0 where
+pub record IsExchange (given : Given) (old new : Farm) (wrote unwritten seen : List ℕ) : Type 0 where
   pub moment : ℕ
   pub mark : Mark
   pub reply : List ℕ
@@ -32,122 +38,155 @@ pub record IsTurn (given : Given) (old new : Farm) (wrote unwritten seen : List 
   pub written : wrote ++ unwritten ≡ reply
 
 -- nothing was answered
-pub record IsNoTurn (old new : Farm) (wrote seen : List ℕ) : Type 0 where
+pub record IsNoExchange (old new : Farm) (wrote seen : List ℕ) : Type 0 where
   pub same : new ≡ old
   pub none_written : wrote ≡ []
   pub none_read : seen ≡ []
 
--- what a turn did, by what the reader gave
-abbrev pub Turns : Turned → Result Given LineFault → Farm → Farm → List ℕ → List ℕ → Type 0
-Turns turned.Went answer old new wrote seen = (given : Given) × (answer ≡ Ok given) × IsTurn given old new wrote [] seen
-Turns turned.Write answer old new wrote seen =
-    (given : Given) × (unwritten : List ℕ) × (answer ≡ Ok given) × (0 < length unwritten) × IsTurn given old new wrote unwritten seen
-Turns turned.End answer old new wrote seen = (answer ≡ Ok AtEnd) × IsNoTurn old new wrote seen
-Turns turned.Read answer old new wrote seen = (answer ≡ Err line_fault.Read) × IsNoTurn old new wrote seen
-Turns turned.Spent answer old new wrote seen = (answer ≡ Err line_fault.Spent) × IsNoTurn old new wrote seen
+-- what came of a call of the reader, by what it gave
+abbrev pub Exchanges : Exchanged → Result Given LineFault → Farm → Farm → List ℕ → List ℕ → Type 0
+Exchanges exchanged.Went answer old new wrote seen = (given : Given) × (answer ≡ Ok given) × IsExchange given old new wrote [] seen
+Exchanges exchanged.Write answer old new wrote seen =
+    (given : Given) × (unwritten : List ℕ) × (answer ≡ Ok given) × (0 < length unwritten) × IsExchange given old new wrote unwritten seen
+Exchanges exchanged.End answer old new wrote seen = (answer ≡ Ok AtEnd) × IsNoExchange old new wrote seen
+Exchanges exchanged.Read answer old new wrote seen = (answer ≡ Err line_fault.Read) × IsNoExchange old new wrote seen
+Exchanges exchanged.Spent answer old new wrote seen = (answer ≡ Err line_fault.Spent) × IsNoExchange old new wrote seen
 
 -- all of the reply's text was written, or a front of it
-abbrev pub Sends : Turned → List ℕ → List ℕ → Type 0
-Sends turned.Went text wrote = wrote ≡ text
-Sends turned.Write text wrote = (unwritten : List ℕ) × (0 < length unwritten) × (wrote ++ unwritten ≡ text)
-Sends turned.End text wrote = ⊥
-Sends turned.Read text wrote = ⊥
-Sends turned.Spent text wrote = ⊥
+abbrev pub Sends : Exchanged → List ℕ → List ℕ → Type 0
+Sends exchanged.Went text wrote = wrote ≡ text
+Sends exchanged.Write text wrote = (unwritten : List ℕ) × (0 < length unwritten) × (wrote ++ unwritten ≡ text)
+Sends exchanged.End text wrote = ⊥
+Sends exchanged.Read text wrote = ⊥
+Sends exchanged.Spent text wrote = ⊥
 
--- one turn: what the reader did with the bytes taken, and what was done with what it gave
-pub record IsStep (result : Turned) (old new : Held) (left : Option (List ℕ)) (before after : Farm) (took wrote seen : List ℕ) : Type 0 where
+-- one step: what the reader did with the bytes taken, and what was done with what it gave
+pub record IsStep (result : Exchanged) (old new : Held) (left : Option (List ℕ)) (before after : Farm) (took wrote seen : List ℕ) : Type 0 where
   pub answer : Result Given LineFault
   pub goes : Goes old took answer new
   pub at_end : old.ended ≡ false → new.ended ≡ true → IsAtEnd left
-  pub turns : Turns result answer before after wrote seen
+  pub exchanges : Exchanges result answer before after wrote seen
+
+-- ---- what a call took, wrote and read
+
+-- the bytes that a call took of its source and wrote to its sink, the clock's readings, and the exchanges that it made
+pub record Call : Type 0 where
+  pub taken : List ℕ
+  pub written : List ℕ
+  pub readings : List ℕ
+  pub exchanges : List Exchange
+
+-- what a source has left, a sink was given and a clock has to come, each where it tells it, and the counts of faults
+pub record Streams : Type 0 where
+  pub left : Option (List ℕ)
+  pub read_faults : ℕ
+  pub written : Option (List ℕ)
+  pub write_faults : ℕ
+  pub readings : Option (List ℕ)
+
+abbrev pub streams : Option (List ℕ) → ℕ → Option (List ℕ) → ℕ → Option (List ℕ) → Streams
+streams left read_faults written write_faults readings =
+    record { left = left; read_faults = read_faults; written = written; write_faults = write_faults; readings = readings }
+
+-- the bytes taken are the first that were left, those written came behind the earlier ones, and the readings are those that were to come
+pub record HasMoved (before after : Streams) (call : Call) : Type 0 where
+  pub taken : Takes before.left after.left call.taken
+  pub written : Adds before.written after.written call.written
+  pub readings : Tells before.readings after.readings call.readings
 
 -- ---- a whole session
 
--- these turns were answered: the farm is the one after them, and the bytes written are their transcript
-pub record HasAnswered (first : Farm) (turns : List Turn) (farm : Farm) (wrote seen : List ℕ) : Type 0 where
-  pub farm_is : farm ≡ farm_after first turns
-  pub replies : wrote ≡ transcript first turns
-  pub moments : seen ≡ moments_in turns
+-- these exchanges were made: the farm is the one after them, and the bytes written are their transcript
+pub record HasAnswered (first : Farm) (exchanges : List Exchange) (farm : Farm) (wrote seen : List ℕ) : Type 0 where
+  pub farm_is : farm ≡ farm_after first exchanges
+  pub replies : wrote ≡ transcript first exchanges
+  pub moments : seen ≡ moments_in exchanges
 
--- these turns were answered, and their lines are those that the reader gave of the bytes taken
-pub record HasServed (first : Farm) (turns : List Turn) (taken wrote seen : List ℕ) (farm : Farm) (reader : Held) (left : Option (List ℕ)) : Type 0 where
-  pub answered : HasAnswered first turns farm wrote seen
-  pub given : HasGiven line_limit taken (lines_in turns) reader left
+-- these exchanges were made, and their lines are those that the reader gave of the bytes taken
+pub record HasServed (first : Farm) (call : Call) (farm : Farm) (reader : Held) (left : Option (List ℕ)) : Type 0 where
+  pub answered : HasAnswered first call.exchanges farm call.written call.readings
+  pub given : HasGiven LINE_LIMIT call.taken (lines_in call.exchanges) reader left
+
+-- the lines are all those of the bytes taken, and the source has none left
+pub record AreAllLines (taken : List ℕ) (lines : List (List ℕ)) (left : Option (List ℕ)) : Type 0 where
+  pub cut : lines_of taken ≡ lines
+  pub none_left : IsAtEnd left
 
 -- the lines are the first of the bytes taken, cut at their newlines
 abbrev pub AreFirstLines : List ℕ → List (List ℕ) → Type 0
 AreFirstLines taken lines = (rest : List (List ℕ)) × (lines_of taken ≡ lines ++ rest)
 
--- Each line of the source's bytes was answered, and none is left.
-pub record EndsAtEnd (first : Farm) (turns : List Turn) (taken wrote seen : List ℕ) (left : Option (List ℕ)) : Type 0 where
-  pub lines : lines_of taken ≡ lines_in turns
-  pub none_left : IsAtEnd left
-  pub replies : wrote ≡ transcript first turns
-  pub moments : seen ≡ moments_in turns
+-- The lines that were answered, of the bytes taken, by how the session ended: all; or each whole one, and what was taken after it has no
+-- newline; or the first ones. It ends as Spent exactly where the bytes that one session takes are spent and each whole line is answered.
+abbrev pub HasLines : Exchanged → List ℕ → List (List ℕ) → Option (List ℕ) → Type 0
+HasLines exchanged.Went taken lines left = ⊥
+HasLines exchanged.End taken lines left = AreAllLines taken lines left × (length taken < BYTE_LIMIT)
+HasLines exchanged.Read taken lines left = IsUnfinished taken lines × (length taken < BYTE_LIMIT)
+HasLines exchanged.Spent taken lines left = IsUnfinished taken lines × (length taken ≡ BYTE_LIMIT)
+HasLines exchanged.Write taken lines left = AreFirstLines taken lines
 
--- Each line that was whole was answered; what was taken after it has no newline.
-pub record EndsInLine (first : Farm) (turns : List Turn) (taken wrote seen : List ℕ) : Type 0 where
-  pub lines : IsUnfinished taken (lines_in turns)
-  pub replies : wrote ≡ transcript first turns
-  pub moments : seen ≡ moments_in turns
-
--- The last line's reply was written in part.
-pub record EndsInReply (first : Farm) (turns : List Turn) (taken wrote seen : List ℕ) : Type 0 where
-  pub lines : AreFirstLines taken (lines_in turns)
+-- The exchanges are those before and one last: the replies of those before were written, and a part of the last one's.
+pub record EndsInReply (first : Farm) (exchanges : List Exchange) (wrote : List ℕ) : Type 0 where
+  pub before : List Exchange
+  pub last : Exchange
+  pub part : List ℕ
   pub unwritten : List ℕ
+  pub all : exchanges ≡ before ++ last ∷ []
   pub some : 0 < length unwritten
-  pub replies : wrote ++ unwritten ≡ transcript first turns
-  pub moments : seen ≡ moments_in turns
+  pub reply : part ++ unwritten ≡ reply_text (answer_at (farm_after first before) last).reply ++ 10 ∷ []
+  pub written : wrote ≡ transcript first before ++ part
 
-abbrev pub Ends : Turned → Farm → List Turn → List ℕ → List ℕ → List ℕ → Option (List ℕ) → Type 0
-Ends turned.Went first turns taken wrote seen left = ⊥
-Ends turned.End first turns taken wrote seen left = EndsAtEnd first turns taken wrote seen left
-Ends turned.Read first turns taken wrote seen left = EndsInLine first turns taken wrote seen × (length taken < byte_limit)
-Ends turned.Spent first turns taken wrote seen left = EndsInLine first turns taken wrote seen × (length taken ≡ byte_limit)
-Ends turned.Write first turns taken wrote seen left = EndsInReply first turns taken wrote seen
+-- the bytes written are the replies, but where a write failed
+abbrev pub HasReplies : Exchanged → Farm → List Exchange → List ℕ → Type 0
+HasReplies exchanged.Write first exchanges wrote = EndsInReply first exchanges wrote
+HasReplies ended first exchanges wrote = wrote ≡ transcript first exchanges
+
+-- how a session ended that began with this farm
+pub record Ends (ended : Exchanged) (first : Farm) (call : Call) (left : Option (List ℕ)) : Type 0 where
+  pub lines : HasLines ended call.taken (lines_in call.exchanges) left
+  pub replies : HasReplies ended first call.exchanges call.written
+  pub moments : call.readings ≡ moments_in call.exchanges
 
 -- ---- the call
 
 -- the status of a session, by how it ended
-abbrev pub status_of : Turned → ℕ
-status_of turned.Went = 0
-status_of turned.End = 0
-status_of turned.Read = 4
-status_of turned.Write = 5
-status_of turned.Spent = 8
+abbrev pub status_of : Exchanged → ℕ
+status_of exchanged.Went = 0
+status_of exchanged.End = 0
+status_of exchanged.Read = 4
+status_of exchanged.Write = 5
+status_of exchanged.Spent = 8
 
--- The farm of the words was opened at the clock's first reading, and a session over it ended with this status. The entries that it recorded
+-- The arguments have a form, and the farm of that form was opened at the clock's first reading. The session over it ended with this status.
+-- Its lines are those of the bytes taken, and what it wrote are their replies, each at a reading of the clock. The entries that it recorded
 -- are a legal run from the opened farm, and a safe one.
-pub record IsSession (words : List (List ℕ)) (status : ℕ) (taken wrote seen : List ℕ) (left : Option (List ℕ)) : Type 0 where
+pub record IsSession (words : List (List ℕ)) (status : ℕ) (call : Call) (left : Option (List ℕ)) : Type 0 where
   pub form : WordForm
-  pub ended : Turned
   pub opened : ℕ
-  pub later : List ℕ
-  pub turns : List Turn
+  pub ended : Exchanged
   pub formed : form_of words ≡ Some form
   pub status_is : status ≡ status_of ended
-  pub read : seen ≡ opened ∷ later
-  pub ends : Ends ended (opened_farm form opened) turns taken wrote later left
-  pub legal : IsLegal (opened_farm form opened) (entries_in (opened_farm form opened) turns)
-  pub safe : IsSafe (opened_farm form opened) (entries_in (opened_farm form opened) turns)
+  pub lines : HasLines ended call.taken (lines_in call.exchanges) left
+  pub replies : HasReplies ended (opened_farm form opened) call.exchanges call.written
+  pub readings : call.readings ≡ opened ∷ moments_in call.exchanges
+  pub legal : IsLegal (opened_farm form opened) (entries_in (opened_farm form opened) call.exchanges)
+  pub safe : IsSafe (opened_farm form opened) (entries_in (opened_farm form opened) call.exchanges)
 
--- The words were of no form, or memory was wanting before the first line: nothing was taken or written.
-pub record IsNoSession (status : ℕ) (taken wrote : List ℕ) : Type 0 where
+-- The arguments are invalid, or memory ran out before the first line: nothing was taken or written.
+pub record IsNoSession (status : ℕ) (call : Call) : Type 0 where
   pub status_is : (status ≡ 2) ⊎ (status ≡ 7)
-  pub none_taken : taken ≡ []
-  pub none_written : wrote ≡ []
+  pub none_taken : call.taken ≡ []
+  pub none_written : call.written ≡ []
 
-abbrev pub IsCall : List (List ℕ) → ℕ → List ℕ → List ℕ → List ℕ → Option (List ℕ) → Type 0
-IsCall words status taken wrote seen left = IsNoSession status taken wrote ⊎ IsSession words status taken wrote seen left
+-- the input was read to its end, each of its lines answered; or memory ran out before the first line, and nothing was taken or written
+abbrev pub EndsWell : ℕ → Call → Type 0
+EndsWell status call = (status ≡ 0) ⊎ ((status ≡ 7) × (call.taken ≡ []) × (call.written ≡ []))
 
--- ---- what ends a call
-
--- the input was read to its end, each of its lines answered; or memory was wanting before the first line, and nothing was taken or written
-abbrev pub EndsWell : ℕ → List ℕ → List ℕ → Type 0
-EndsWell status taken wrote = (status ≡ 0) ⊎ ((status ≡ 7) × (taken ≡ []) × (wrote ≡ []))
-
--- Nothing but a fault of the outside ends a call early: where the words are of a form, no fault of reading or of writing was counted, and
--- fewer bytes were taken than one session takes, it ends well.
-abbrev pub IsComplete : List (List ℕ) → ℕ → List ℕ → List ℕ → Type 0 → Type 0 → Type 0
-IsComplete words status taken wrote ReadFails WriteFails =
-    is_some (form_of words) ≡ true → (ReadFails → ⊥) → (WriteFails → ⊥) → length taken < byte_limit → EndsWell status taken wrote
+-- A call for these arguments that answered this status. It was a session, or none. Status 8 comes exactly where the bytes that one session
+-- takes are spent and no write failed. Where the arguments are valid, nothing but an I/O error and that limit ends the call early.
+pub record IsCall (words : List (List ℕ)) (status : ℕ) (before after : Streams) (call : Call) : Type 0 where
+  pub moved : HasMoved before after call
+  pub session : IsNoSession status call ⊎ IsSession words status call after.left
+  pub spent : (status ≡ 8) ↔ ((length call.taken ≡ BYTE_LIMIT) × (status ≡ 5 → ⊥))
+  pub complete : is_some (form_of words) ≡ true → (HasRisen before.read_faults after.read_faults → ⊥) → (HasRisen before.write_faults after.write_faults → ⊥)
+      → length call.taken < BYTE_LIMIT → EndsWell status call

@@ -18,7 +18,7 @@ abbrev pub word_form : Form → WordForm
 word_form form.Demo = Demo
 word_form (form.Script store) = Script store.now
 
--- the forms: `demo`, and `script :memory:`
+-- the valid words: `demo`, and `script :memory:`
 abbrev pub form_of : List (List ℕ) → Option WordForm
 form_of (word ∷ []) = if bytes_eq word (codes "demo") then Some Demo else None
 form_of (word ∷ store ∷ []) = if bytes_eq word (codes "script") && bytes_eq store (codes ":memory:") then Some (Script store) else None

@@ -9,7 +9,7 @@ use farm_types::Text;
 // The store in memory.
 const MEMORY: &str = ":memory:";
 
-/// The form of the words. None comes exactly where they are of no form.
+/// The form of the words. None comes exactly where they are invalid.
 pub fn form(words: &[Text]) -> Option<Form<'_>>
     ensures { option_map word_form result ≡ form_of words.now }
 {

@@ -6,14 +6,14 @@ use Rattle.std.proofs.lemmas.Bool.{false≢true}
 use Rattle.std.proofs.lemmas.Option.{slice_get-map}
 use Rattle.farm_types.specs.declared.rows.SubRow.{SubRow}
 use Rattle.farm_types.specs.Farm.{changed_at}
-use Rattle.farm_types.specs.Limits.{sub_numbers}
 use Rattle.farm_types.specs.Subs.{with_sub}
 use Rattle.farm_types.specs.Sums.{total_in, total_at}
 use Rattle.sub_ledger.specs.declared.subs.SubState.{SubState}
 use Rattle.sub_ledger.specs.Ledger.{Ledger, no_subs, row_of, state_for, state_of, IsWithin, CanAdd, CanRemove}
 use Rattle.sub_ledger.specs.Inside.{row_for, with_place, rows_from, booked_of, ledger_for, state_in, set_to, with_more, with_less, TakesCores, GivesCores}
-use Rattle.sub_ledger.proofs.Changed.{changed_at_none, map-changed_at}
+use Rattle.farm_types.proofs.ChangedLists.{map-changed_at, map-changed_at_kept}
 use Rattle.sub_ledger.proofs.Rows.{row_from, rows_set, rows_kept}
+use Rattle.farm_types.specs.declared.limits.TheConstants.{SUB_NUMBERS}
 
 -- ---- what is read
 
@@ -67,7 +67,7 @@ pub ledger_set : (places : List (Option SubState)) (sub size burst : ℕ) → su
     → ledger_for (changed_at places sub (set_to size burst)) ≡ record (ledger_for places) { subs = with_sub (record { sub = sub; size = size; burst = burst }) (rows_from 0 places) }
 ledger_set places sub size burst within =
     two_lists _ _ _ _ (rows_set sub size burst 0 sub places (omega arith) within)
-    (map-changed_at booked_of places sub (set_to size burst) (λ n. n) (λ p at. refl) ∙ changed_at_none (map booked_of places) sub (λ n. n) (λ n at. refl))
+    (map-changed_at_kept booked_of (set_to size burst) (λ p. refl) places sub)
 
 more_keeps : (cores sub : ℕ) (p : Option SubState) (rows : List SubRow) → with_place sub (with_more cores p) rows ≡ with_place sub p rows
 more_keeps cores sub None rows = refl
@@ -81,7 +81,7 @@ pub ledger_more : (places : List (Option SubState)) (sub cores : ℕ) → TakesC
     → ledger_for (changed_at places sub (with_more cores)) ≡ record (ledger_for places) { booked = changed_at (map booked_of places) sub (λ total. total + cores) }
 ledger_more places sub cores takes =
     two_lists _ _ _ _ (rows_kept (with_more cores) (more_keeps cores) 0 sub places)
-    (map-changed_at booked_of places sub (with_more cores) (λ total. total + cores) (λ p at. more_booked cores p (subst (λ (o : Option (Option SubState)). TakesCores (state_in o) cores) at takes)))
+    (map-changed_at booked_of (with_more cores) places sub (λ total. total + cores) (λ p at. more_booked cores p (subst (λ (o : Option (Option SubState)). TakesCores (state_in o) cores) at takes)))
 
 less_keeps : (cores sub : ℕ) (p : Option SubState) (rows : List SubRow) → with_place sub (with_less cores p) rows ≡ with_place sub p rows
 less_keeps cores sub None rows = refl
@@ -95,7 +95,7 @@ pub ledger_less : (places : List (Option SubState)) (sub cores : ℕ)
     → ledger_for (changed_at places sub (with_less cores)) ≡ record (ledger_for places) { booked = changed_at (map booked_of places) sub (λ total. total - cores) }
 ledger_less places sub cores =
     two_lists _ _ _ _ (rows_kept (with_less cores) (less_keeps cores) 0 sub places)
-    (map-changed_at booked_of places sub (with_less cores) (λ total. total - cores) (λ p at. less_booked cores p))
+    (map-changed_at booked_of (with_less cores) places sub (λ total. total - cores) (λ p at. less_booked cores p))
 
 -- ---- no subscription
 
@@ -107,6 +107,6 @@ none_booked : (n : ℕ) → map booked_of (replicate n None) ≡ replicate n 0
 none_booked zero = refl
 none_booked (suc n) = ap (λ ms. 0 ∷ ms) (none_booked n)
 
-pub no_subs_are : (places : List (Option SubState)) → places ≡ replicate sub_numbers None → ledger_for places ≡ no_subs
+pub no_subs_are : (places : List (Option SubState)) → places ≡ replicate SUB_NUMBERS None → ledger_for places ≡ no_subs
 unfolding no_subs
-no_subs_are places empty = ap ledger_for empty ∙ two_lists _ _ _ _ (no_rows 0 sub_numbers) (none_booked sub_numbers)
+no_subs_are places empty = ap ledger_for empty ∙ two_lists _ _ _ _ (no_rows 0 SUB_NUMBERS) (none_booked SUB_NUMBERS)

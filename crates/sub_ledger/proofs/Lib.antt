@@ -1,3 +1,2 @@
 pub mod Books
-pub mod Changed
 pub mod Rows

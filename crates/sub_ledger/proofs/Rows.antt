@@ -8,7 +8,7 @@ use Rattle.farm_types.specs.Farm.{changed_at}
 use Rattle.farm_types.specs.Subs.{with_sub}
 use Rattle.sub_ledger.specs.declared.subs.SubState.{SubState}
 use Rattle.sub_ledger.specs.Inside.{row_for, with_place, rows_from, state_in, set_to}
-use Rattle.sub_ledger.proofs.Changed.{changed_at_suc}
+use Rattle.farm_types.proofs.ChangedLists.{changed_at_suc}
 
 -- places from a number on have no row of a number before it
 none_before : (sub low : ℕ) (places : List (Option SubState)) → sub < low → find (λ (s : SubRow). eqb s.sub sub) (rows_from low places) ≡ None

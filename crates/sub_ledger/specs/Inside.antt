@@ -1,10 +1,10 @@
 -- What the ledger of subscriptions keeps in its places, one for each number.
 use Rattle.std.specs.Prelude.{ℕ, ◌≡◌, ◌≤◌, ◌+◌, ◌-◌, List, [], ◌∷◌, map, length, Option, None, Some}
 use Rattle.farm_types.specs.declared.rows.SubRow.{SubRow}
-use Rattle.farm_types.specs.Limits.{sub_numbers}
 use Rattle.sub_ledger.specs.declared.subs.SubState.{SubState}
 use Rattle.sub_ledger.specs.declared.subs.Subs.TheInside.{Inside}
 use Rattle.sub_ledger.specs.Ledger.{Ledger}
+use Rattle.farm_types.specs.declared.limits.TheConstants.{SUB_NUMBERS}
 
 -- ---- the ledger that the places make
 
@@ -29,11 +29,11 @@ abbrev pub ledger_for : List (Option SubState) → Ledger
 ledger_for places = record { subs = rows_from 0 places; booked = map booked_of places }
 
 abbrev pub ledger_of : Inside → Ledger
-ledger_of a = ledger_for a.places.items
+ledger_of book = ledger_for book.places.items
 
 -- each number has its place
 abbrev pub HasAllPlaces : Inside → Type 0
-HasAllPlaces a = length a.places.items ≡ sub_numbers
+HasAllPlaces book = length book.places.items ≡ SUB_NUMBERS
 
 -- ---- one place
 

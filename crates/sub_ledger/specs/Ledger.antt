@@ -3,9 +3,9 @@ use Rattle.std.specs.Prelude.{ℕ, ◌≡◌, ◌≤◌, ◌==◌, ◌+◌, List
 use Rattle.std.specs.declared.cmp.Ordering.{Ordering}
 use Rattle.farm_types.specs.declared.rows.SubRow.{SubRow}
 use Rattle.farm_types.specs.Dispatch.{by_ratio}
-use Rattle.farm_types.specs.Limits.{sub_numbers}
 use Rattle.farm_types.specs.Sums.{total_at}
 use Rattle.sub_ledger.specs.declared.subs.SubState.{SubState}
+use Rattle.farm_types.specs.declared.limits.TheConstants.{SUB_NUMBERS}
 
 -- the subscriptions in the order of their numbers, and by number the cores that are booked
 pub record Ledger : Type 0 where
@@ -14,7 +14,7 @@ pub record Ledger : Type 0 where
 
 -- no subscription, and nothing booked
 unfoldable pub no_subs : Ledger
-no_subs = record { subs = []; booked = replicate sub_numbers 0 }
+no_subs = record { subs = []; booked = replicate SUB_NUMBERS 0 }
 
 abbrev pub row_of : Ledger → ℕ → Option SubRow
 row_of b sub = find (λ s. s.sub == sub) b.subs

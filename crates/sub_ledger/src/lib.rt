@@ -7,6 +7,3 @@ mod subs;
 
 pub use ratio::by_ratio;
 pub use subs::{SubState, Subs};
-
-#[cfg(test)]
-mod tests;

@@ -1,21 +1,18 @@
 //! The subscriptions, in the order of their numbers.
 
-ghost use Rattle.std.specs.Prelude.{◌≡◌, ◌<◌, ◌+◌, ◌-◌, is_some, true, IfOk};
+ghost use Rattle.std.specs.Prelude.{◌≡◌, ◌<◌, ◌+◌, ◌-◌, IfOk};
 ghost use Rattle.farm_types.specs.Farm.{changed_at};
-ghost use Rattle.farm_types.specs.Limits.{sub_numbers};
 ghost use Rattle.farm_types.specs.Subs.{with_sub};
 ghost use Rattle.farm_types.specs.Sums.{total_at};
 ghost use Rattle.sub_ledger.specs.Ledger.{no_subs, state_of, row_of, size_of, before, CanAdd, CanRemove};
+ghost use Rattle.farm_types.specs.declared.limits.TheConstants.{SUB_NUMBERS};
 
 use crate::places::{add_at, remove_at, set_at, state_at};
 use crate::ratio::by_ratio;
-use farm_types::{Cores, SubNo, SubRow};
+use farm_types::{Cores, SUB_NUMBERS, SubNo, SubRow};
 use std::alloc::{AllocError, Global};
 use std::cmp::Ordering;
 use std::marker::Model;
-
-/// How many numbers there are for subscriptions.
-const SUB_NUMBERS: usize = 1024;
 
 /// A subscription: its size, its burst, and what is booked of it (hundredths of a core).
 #[derive(Clone, Copy, Debug, PartialEq, Eq)]
@@ -45,18 +42,18 @@ impl Model for Subs {
 }
 
 impl Subs {
-    /// No subscriptions. It takes the room of all.
+    /// No subscriptions. It takes the memory of all.
     pub fn make(alloc: Global) -> Result<Subs, AllocError>
         ensures { IfOk result (λ b. b ≡ no_subs) }
     {
         Ok(Subs {
-            places: vec![in alloc; None; SUB_NUMBERS]?,
+            places: vec![in alloc; None; SUB_NUMBERS as usize]?,
         })
     }
 
     /// Sets a subscription's size and burst, and adds it where it isn't there. What is booked stays, also above the burst.
     pub fn set(&mut self, sub: SubNo, size: Cores, burst: Cores)
-        requires { sub < sub_numbers }
+        requires { sub < SUB_NUMBERS }
         ensures { self.new ≡ record self.old { subs = with_sub (record { sub = sub; size = size; burst = burst }) self.old.subs } }
     {
         set_at(&mut self.places, sub, size, burst);
@@ -119,17 +116,16 @@ impl Subs {
         }
     }
 
-    /// How two subscriptions that are there compare by what is booked of their sizes. Size 0 comes last, and ties are Equal.
-    pub fn before(&self, a: SubNo, b: SubNo) -> Ordering
-        requires first { is_some (row_of self.now a) ≡ true }
-        requires second { is_some (row_of self.now b) ≡ true }
-        ensures { result ≡ before self.now a b }
+    /// How two subscriptions compare by what is booked of their sizes. Size 0 comes last, as does one that isn't there, and ties
+    /// are Equal.
+    pub fn before(&self, first: SubNo, second: SubNo) -> Ordering
+        ensures { result ≡ before self.now first second }
     {
         by_ratio(
-            u64::from(self.booked(a).0),
-            u64::from(self.size(a).0),
-            u64::from(self.booked(b).0),
-            u64::from(self.size(b).0),
+            u64::from(self.booked(first).0),
+            u64::from(self.size(first).0),
+            u64::from(self.booked(second).0),
+            u64::from(self.size(second).0),
         )
     }
 

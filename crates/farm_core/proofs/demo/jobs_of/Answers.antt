@@ -4,4 +4,4 @@ use Rattle.farm_core.proofs.DemoLimits.{demo_keeps}
 use Rattle.farm_core.proofs.demo.jobs_of.Goals as goal
 
 pub place-requires-clause-limits : goal.place-requires-clause-limits
-place-requires-clause-limits c = subst JobKeepsLimits (sym (c.in_ok-spare.ensures.spare ∙ c.in_ok-spec.ensures)) demo_keeps
+place-requires-clause-limits c = subst JobKeepsLimits (sym (c.in_ok-spare.ensures.reserved ∙ c.in_ok-spec.ensures)) demo_keeps

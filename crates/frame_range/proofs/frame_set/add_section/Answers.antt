@@ -1,6 +1,7 @@
 use Rattle.std.proofs.Common.{◌≡◌, ◌∙◌, ◌+◌, ◌≤◌, sym, rules, length, subst, List, ℤ}
 use Rattle.frame_range.specs.Sets.{numbers_of}
 use Rattle.frame_range.proofs.AddLemmas.{add_none, add_past, add_fault, add_done, fault_zero, fault_wrong, fault_empty, fault_many, fault_none, numbers_push, set_push}
+use Rattle.frame_range.specs.declared.limits.TheConstants.{MOST_NUMBERS}
 use Rattle.frame_range.proofs.frame_set.add_section.Goals as goal
 
 pub returns-in_default-clause-gives : goal.returns-in_default-clause-gives
@@ -42,10 +43,10 @@ pub returns-in_ok-push-in-Ok-clause-gives : goal.returns-in_ok-push-in-Ok-clause
 returns-in_ok-push-in-Ok-clause-gives c =
     let at : c.len-place.result + 1 ≡ length c.args.sections.now.items + 1 = search rules in
     let done = rw c.requires.listed at c.in-Ok.ensures in
-    let room = subst (λ (l : List ℤ). length l ≤ 10000) done.0 done.1 in
+    let few = subst (λ (l : List ℤ). length l ≤ MOST_NUMBERS) done.0 done.1 in
     rw c.in_ok-push-in-Ok.ensures.items
     (add_done c.args.sections.now.items c.args.text.now (c.len-place.result + 1) c.in-Some.section at c.in-Some.ensures (sym c.if-has_past.ensures)
-    (fault_none (c.len-place.result + 1) (numbers_of c.args.sections.now.items) c.in-Some.section (sym c.if-has_past.ensures) (sym c.if-has_zero_step.ensures) (sym c.if-goes_wrong_way.ensures) (sym c.if-is_empty.ensures) room))
+    (fault_none (c.len-place.result + 1) (numbers_of c.args.sections.now.items) c.in-Some.section (sym c.if-has_past.ensures) (sym c.if-has_zero_step.ensures) (sym c.if-goes_wrong_way.ensures) (sym c.if-is_empty.ensures) few))
 
 pub returns-in_ok-push-in-Ok-clause-listed : goal.returns-in_ok-push-in-Ok-clause-listed
 returns-in_ok-push-in-Ok-clause-listed c =
@@ -56,7 +57,7 @@ pub returns-in_ok-push-in-Ok-clause-faultless : goal.returns-in_ok-push-in-Ok-cl
 returns-in_ok-push-in-Ok-clause-faultless c =
     let at : c.len-place.result + 1 ≡ length c.args.sections.now.items + 1 = search rules in
     let done = rw c.requires.listed at c.in-Ok.ensures in
-    let room = subst (λ (l : List ℤ). length l ≤ 10000) done.0 done.1 in
+    let few = subst (λ (l : List ℤ). length l ≤ MOST_NUMBERS) done.0 done.1 in
     rw c.in_ok-push-in-Ok.ensures.items
     (set_push c.args.sections.now.items c.in-Some.section (c.len-place.result + 1) at c.requires.faultless
-    (fault_none (c.len-place.result + 1) (numbers_of c.args.sections.now.items) c.in-Some.section (sym c.if-has_past.ensures) (sym c.if-has_zero_step.ensures) (sym c.if-goes_wrong_way.ensures) (sym c.if-is_empty.ensures) room))
+    (fault_none (c.len-place.result + 1) (numbers_of c.args.sections.now.items) c.in-Some.section (sym c.if-has_past.ensures) (sym c.if-has_zero_step.ensures) (sym c.if-goes_wrong_way.ensures) (sym c.if-is_empty.ensures) few))

@@ -7,7 +7,7 @@ use Rattle.frame_range.proofs.frame_set.parse_set.Goals as goal
 pub loop-piece-init : goal.loop-piece-init
 loop-piece-init c = record {
   listed = c.new-listing.ensures ∙ sym (ap numbers_of c.new-sections.ensures.items ∙ numbers_none);
-  room = rw c.new-listing.ensures (omega arith);
+  few = rw c.new-listing.ensures (omega arith);
   faultless = rw c.new-sections.ensures.items set_none;
   so_far = rw (c.new-sections.ensures.items, c.as_bytes-rest.ensures.value) refl;
 }

@@ -30,7 +30,7 @@ loop-step-preserved c =
     let rest = halves_from c.args.first c.args.up c.args.span more.0 (c.loop-step.step / 2) in
     let now = steps_from c.args.first (stride c.args.up c.loop-step.step) (c.args.span / c.loop-step.step + 1) in
     record {
-      room = done.1;
+      few = done.1;
       so_far = (more.0, more.1, simp to_z-of_z (ap (λ l. with_all l rest) done.0 ∙ sym (with_all-append c.loop-step.listing now rest) ∙ ap (with_all c.loop-step.listing) (sym more.2) ∙ so.2));
     }
 
@@ -39,4 +39,4 @@ returns c =
     let fit : SFits w32 c.args.first = c.ranges.first in
     let so = simp to_z-of_z at c.loop-step.invariant.so_far in
     let none = halves_none c.args.first c.args.up c.args.span so.0 c.loop-step.step (omega arith) in
-    (ap (with_all c.loop-step.listing) (sym none) ∙ so.2, c.loop-step.invariant.room)
+    (ap (with_all c.loop-step.listing) (sym none) ∙ so.2, c.loop-step.invariant.few)

@@ -9,7 +9,7 @@ use Rattle.frame_range.proofs.steps.list_others.Goals as goal
 
 pub loop-offset-preserved-then-offset-size-eq0 : goal.loop-offset-preserved-then-offset-size-eq0
 loop-offset-preserved-then-offset-size-eq0 c = record {
-  room = c.loop-offset.invariant.room;
+  few = c.loop-offset.invariant.few;
   so_far = ap (with_all c.loop-offset.listing) (sym (others_skip _ c.args.up c.args.size c.loop-offset.offset c.args.span c.loop-offset-test.true c.if-offset-size-eq0.true))
       ∙ c.loop-offset.invariant.so_far;
 }
@@ -35,7 +35,7 @@ loop-offset-preserved c =
     let rest = others_from c.args.first c.args.up c.args.size (c.loop-offset.offset + 1) ((c.args.span + 1) - (c.loop-offset.offset + 1)) in
     let take = others_take c.args.first c.args.up c.args.size c.loop-offset.offset c.args.span c.loop-offset-test.true c.if-offset-size-eq0.false in
     record {
-      room = c.in_ok-list.ensures.1;
+      few = c.in_ok-list.ensures.1;
       so_far = simp to_z-of_z (ap (λ l. with_all l rest) (c.in_ok-list.ensures.0 ∙ ap (with_number c.loop-offset.listing) same) ∙ ap (with_all c.loop-offset.listing) (sym take) ∙ so);
     }
 
@@ -44,4 +44,4 @@ returns c =
     let fit : SFits w32 c.args.first = c.ranges.first in
     let so = simp to_z-of_z at c.loop-offset.invariant.so_far in
     let none = others_none c.args.first c.args.up c.args.size c.loop-offset.offset c.args.span c.loop-offset-test.false in
-    (ap (with_all c.loop-offset.listing) (sym none) ∙ so, c.loop-offset.invariant.room)
+    (ap (with_all c.loop-offset.listing) (sym none) ∙ so, c.loop-offset.invariant.few)

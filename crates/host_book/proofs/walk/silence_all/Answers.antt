@@ -1,28 +1,19 @@
-use Rattle.std.proofs.Common.{◌≡◌, ◌∙◌, ℕ, List, length, refl, sym, ap, arith, add-one}
-use Rattle.std.proofs.lemmas.List.{length-map}
-use Rattle.farm_types.specs.declared.rows.HostRow.{HostRow}
-use Rattle.farm_types.specs.Farm.{changed_at}
+use Rattle.std.proofs.Common.{◌≡◌, ◌∙◌, length, arith}
 use Rattle.farm_types.specs.Hosts.{silenced_row}
 use Rattle.host_book.specs.Inside.{watched_of}
-use Rattle.host_book.proofs.Walked.{changed_below, below_more, below_all}
+use Rattle.host_book.proofs.Walked.{changed_below_next, changed_below_end}
 use Rattle.host_book.proofs.walk.silence_all.Goals as goal
 
 pub loop-place-preserved : goal.loop-place-preserved
 loop-place-preserved c =
-    let change = silenced_row c.args.now in
-    let i = c.loop-place.place in
-    let hosts = c.args.rows.now.items in
     record {
-      rows = c.silence_at.ensures.rows ∙ ap (λ (hs : List HostRow). changed_at hs i change) c.loop-place.invariant.rows ∙ below_more change change i hosts (λ x at. refl) ∙ ap (λ (n : ℕ). changed_below change n hosts) (sym (add-one i));
+      rows = changed_below_next (silenced_row c.args.now) c.loop-place.place c.args.rows.now.items _ _ c.loop-place.invariant.rows c.silence_at.ensures.rows;
       watched = c.silence_at.ensures.watched;
-      rows_room = c.silence_at.ensures.rows_room ∙ c.loop-place.invariant.rows_room;
-      watched_room = c.silence_at.ensures.watched_room ∙ c.loop-place.invariant.watched_room;
+      rows_capacity = c.silence_at.ensures.rows_capacity ∙ c.loop-place.invariant.rows_capacity;
+      watched_capacity = c.silence_at.ensures.watched_capacity ∙ c.loop-place.invariant.watched_capacity;
     }
 
 pub returns-clause-rows : goal.returns-clause-rows
 returns-clause-rows c =
-    let change = silenced_row c.args.now in
-    let hosts = c.args.rows.now.items in
-    let same = ap length c.requires ∙ length-map hosts watched_of in
-    let all : c.loop-place.place ≡ length hosts = omega (arith, same) in
-    c.loop-place.invariant.rows ∙ ap (λ (n : ℕ). changed_below change n hosts) all ∙ below_all change hosts
+    let end : c.loop-place.place ≡ length c.args.watched.now.items = omega arith in
+    changed_below_end (silenced_row c.args.now) watched_of c.loop-place.place c.args.rows.now.items _ _ c.requires end c.loop-place.invariant.rows

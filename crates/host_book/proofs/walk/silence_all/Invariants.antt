@@ -9,6 +9,6 @@ abbrev pub invariant-loop-place : goal.invariant-loop-place
 invariant-loop-place l = record {
   rows : l.rows.items ≡ changed_below (silenced_row l.now) l.place l.fn.rows.items;
   watched : l.watched.items ≡ map watched_of l.rows.items;
-  rows_room : vec_capacity l.rows ≡ vec_capacity l.fn.rows;
-  watched_room : vec_capacity l.watched ≡ vec_capacity l.fn.watched;
+  rows_capacity : vec_capacity l.rows ≡ vec_capacity l.fn.rows;
+  watched_capacity : vec_capacity l.watched ≡ vec_capacity l.fn.watched;
 }

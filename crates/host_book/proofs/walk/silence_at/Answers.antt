@@ -2,7 +2,7 @@ use Rattle.std.proofs.Common.{◌≡◌, ◌∙◌, ◌≤◌, ℕ, true, false,
 use Rattle.std.specs.List.{slice_set}
 use Rattle.farm_types.specs.Hosts.{down_row}
 use Rattle.host_book.specs.Inside.{watched_of, never_past}
-use Rattle.host_book.proofs.Changed.{map-changed_at_set}
+use Rattle.farm_types.proofs.ChangedLists.{map-changed_at_set}
 use Rattle.host_book.proofs.Walked.{heard_stays, unheard_falls}
 use Rattle.host_book.proofs.walk.silence_at.Goals as goal
 

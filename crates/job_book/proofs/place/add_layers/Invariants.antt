@@ -9,5 +9,5 @@ invariant-loop-layer l = record {
   rows : l.rows.items ++ layer_rows l.job l.place (into_iter_items l.layer-iterator) ≡ l.fn.rows.items ++ layer_rows l.job 0 l.fn.layers.items;
   count : l.place + length (into_iter_items l.layer-iterator) ≡ length l.fn.layers.items;
   fits : length l.rows.items + length (into_iter_items l.layer-iterator) ≤ vec_capacity l.rows;
-  room : vec_capacity l.rows ≡ vec_capacity l.fn.rows;
+  capacity : vec_capacity l.rows ≡ vec_capacity l.fn.rows;
 }

@@ -14,7 +14,7 @@ push_reserved-requires c =
     let found = c.next_free-place.ensures.value ∙ ap (λ (ss : List SlotRow). c.args.from + first_free (drop c.args.from ss)) c.as_slice.ensures.value in
     let at : slice_get slots c.next_free-place.result ≡ None = ap (λ (ss : List SlotRow). slice_get ss c.next_free-place.result) (sym c.as_slice-2.ensures.value) ∙ sym c.in_default.ensures in
     let puts = put_push slots c.args.from c.next_free-place.result c.args.frame c.requires.fits.within c.requires.fits.slot_count found at c.requires.fits.enough in
-    omega (arith, puts.slot_count, length_push slots (fresh_slot c.args.frame), c.requires.room, c.args.slots.now.ok.0)
+    omega (arith, puts.slot_count, length_push slots (fresh_slot c.args.frame), c.requires.capacity, c.args.slots.now.ok.0)
 
 pub returns-in_default-clause-puts : goal.returns-in_default-clause-puts
 returns-in_default-clause-puts c =

@@ -3,7 +3,7 @@ use mir.Val.{SFits}
 use mir.Syntax.{w32}
 use Rattle.std.proofs.lemmas.Int.{to_z-of_z}
 use Rattle.std.proofs.lemmas.List.{length-take-le}
-use Rattle.farm_types.specs.declared.slot_row.FrameRow.{FrameRow}
+use Rattle.farm_types.specs.declared.slot_row.Frame.{Frame}
 use Rattle.farm_types.specs.Jobs.{new_frame, frames_from}
 use Rattle.job_book.specs.Puts.{Puts}
 use Rattle.job_book.proofs.Putting.{puts_join, frames_from-more, length-frames_from}
@@ -32,6 +32,6 @@ loop-position-preserved c =
     let frame : c.new_frame.result ≡ new_frame c.args.job c.args.layer i number = c.new_frame.ensures ∙ ap (new_frame c.args.job c.args.layer i) (to_z-of_z w32 number fits) in
     let more = frames_from-more c.args.job c.args.layer numbers i (pos 0) (omega arith) in
     record {
-      puts = subst (λ (fs : List FrameRow). Puts fs c.args.first c.args.slots.now.items c.put-next.result c.put-next.new.slots.items) (ap (λ f. before ++ f ∷ []) frame ∙ sym more) both;
-      room = c.put-next.ensures.room ∙ c.loop-position.invariant.room;
+      puts = subst (λ (fs : List Frame). Puts fs c.args.first c.args.slots.now.items c.put-next.result c.put-next.new.slots.items) (ap (λ f. before ++ f ∷ []) frame ∙ sym more) both;
+      capacity = c.put-next.ensures.capacity ∙ c.loop-position.invariant.capacity;
     }

@@ -7,5 +7,5 @@ use Rattle.job_book.proofs.put.put_layer.Given as goal
 abbrev pub invariant-loop-position : goal.invariant-loop-position
 invariant-loop-position l = record {
   puts : Puts (frames_from l.job l.layer 0 (take l.position l.numbers)) l.first l.fn.slots.items l.next l.slots.items;
-  room : vec_capacity l.slots ≡ vec_capacity l.fn.slots;
+  capacity : vec_capacity l.slots ≡ vec_capacity l.fn.slots;
 }

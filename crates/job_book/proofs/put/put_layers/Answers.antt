@@ -1,6 +1,6 @@
 use Rattle.std.proofs.Common.{◌≡◌, ℕ, ◌+◌, ◌∙◌, [], ◌++◌, List, length, drop, take, refl, sym, ap, subst, arith}
 use Rattle.std.proofs.lemmas.List.{take_all}
-use Rattle.farm_types.specs.declared.slot_row.FrameRow.{FrameRow}
+use Rattle.farm_types.specs.declared.slot_row.Frame.{Frame}
 use Rattle.farm_types.specs.Jobs.{frames_from, frames_of}
 use Rattle.job_book.specs.Book.{first_free}
 use Rattle.job_book.specs.Puts.{Puts}
@@ -12,7 +12,7 @@ loop-place-init c =
     let slots = c.args.slots.now.items in
     let start : c.args.first ≡ 0 + first_free (drop 0 slots) = omega (arith, c.requires.first) in
     let none = puts_none c.args.first slots (found_within slots 0 c.args.first (omega arith) start) c.requires.slot_count in
-    record { puts = subst (λ (n : ℕ). Puts [] c.args.first slots n slots) (sym c.first.view_is) none; room = refl }
+    record { puts = subst (λ (n : ℕ). Puts [] c.args.first slots n slots) (sym c.first.view_is) none; capacity = refl }
 
 pub put_layer-next-requires-clause-fits : goal.put_layer-next-requires-clause-fits
 put_layer-next-requires-clause-fits c =
@@ -38,8 +38,8 @@ loop-place-preserved c =
     let both = puts_join before these c.args.first c.loop-place.next c.put_layer-next.result c.args.slots.now.items c.loop-place.slots.items c.put_layer-next.new.slots.items c.loop-place.invariant.puts c.put_layer-next.ensures.puts in
     let more = frames_of-more c.args.job layers i layer (omega arith) c.index-layers-place.is in
     record {
-      puts = subst (λ (fs : List FrameRow). Puts fs c.args.first c.args.slots.now.items c.put_layer-next.result c.put_layer-next.new.slots.items) (ap (λ ns. before ++ frames_from c.args.job i 0 ns) c.as_slice.ensures ∙ sym more) both;
-      room = c.put_layer-next.ensures.room ∙ c.loop-place.invariant.room;
+      puts = subst (λ (fs : List Frame). Puts fs c.args.first c.args.slots.now.items c.put_layer-next.result c.put_layer-next.new.slots.items) (ap (λ ns. before ++ frames_from c.args.job i 0 ns) c.as_slice.ensures ∙ sym more) both;
+      capacity = c.put_layer-next.ensures.capacity ∙ c.loop-place.invariant.capacity;
     }
 
 pub returns-clause-slots : goal.returns-clause-slots

@@ -1,9 +1,9 @@
 -- What was judged so far and what is left to judge give what all of the layers are judged as. Each judged one keeps its limits.
 use Rattle.std.proofs.Common.{◌≡◌, drop, length}
 use Rattle.std.specs.List.{All}
-use Rattle.farm_types.specs.Spec.{layers_of}
+use Rattle.farm_lines.specs.Spec.{layers_of}
 use Rattle.farm_types.specs.SpecLimits.{LayerKeepsLimits}
-use Rattle.job_spec.specs.Answers.{prepend}
+use Rattle.job_spec.specs.SpecResults.{prepend}
 use Rattle.job_spec.proofs.layer_amounts.judge_layers.Given as goal
 
 abbrev pub invariant-loop-form : goal.invariant-loop-form

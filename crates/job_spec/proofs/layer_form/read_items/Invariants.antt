@@ -1,9 +1,9 @@
 -- What was read so far and what is left to read give what all of the list reads as.
 use Rattle.std.proofs.Common.{◌≡◌, drop}
 use Rattle.serde_json.specs.View.{items_view}
-use Rattle.farm_types.specs.Fields.{items_at}
-use Rattle.farm_types.specs.Spec.{layer_form_at}
-use Rattle.job_spec.specs.Answers.{prepend}
+use Rattle.farm_lines.specs.Fields.{items_at}
+use Rattle.farm_lines.specs.Spec.{layer_form_at}
+use Rattle.job_spec.specs.SpecResults.{prepend}
 use Rattle.job_spec.proofs.layer_form.read_items.Given as goal
 
 abbrev pub invariant-loop-value : goal.invariant-loop-value

@@ -1,8 +1,8 @@
 -- What was read so far and what is left to read give what all of the list reads as.
 use Rattle.std.proofs.Common.{◌≡◌, drop}
 use Rattle.serde_json.specs.View.{items_view}
-use Rattle.farm_types.specs.Spec.{tags_in}
-use Rattle.job_spec.specs.Answers.{prepend}
+use Rattle.farm_lines.specs.Spec.{tags_in}
+use Rattle.job_spec.specs.SpecResults.{prepend}
 use Rattle.job_spec.proofs.tags.read_values.Given as goal
 
 abbrev pub invariant-loop-value : goal.invariant-loop-value

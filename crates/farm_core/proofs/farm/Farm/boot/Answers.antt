@@ -2,7 +2,7 @@ use Rattle.std.proofs.Common.{◌≡◌, List, ℕ, not, sym, ap, subst, ◌∙�
 use Rattle.std.specs.Prelude.{is_some}
 use Rattle.farm_types.specs.Farm.{Farm, host_from, host_named}
 use Rattle.farm_core.specs.Inside.{IsKept, farm_of, totals_of}
-use Rattle.farm_core.proofs.Kept.{booted_kept}
+use Rattle.farm_core.proofs.KeptChanges.{booted_kept}
 use Rattle.farm_core.proofs.farm.Farm.boot.Goals as goal
 
 pub invariant_of-self : goal.invariant_of-self

@@ -1,7 +1,7 @@
 use Rattle.std.proofs.Common.{sym, subst}
 use Rattle.farm_types.specs.Farm.{Farm}
 use Rattle.farm_core.specs.Change.{IsBoot}
-use Rattle.farm_core.proofs.Fits.{boot_fits}
+use Rattle.farm_core.proofs.FittingChanges.{boot_fits}
 use Rattle.farm_core.proofs.farm.Farm.boot_in.Goals as goal
 
 pub boot-requires-clause-planned : goal.boot-requires-clause-planned

@@ -3,7 +3,7 @@ use Rattle.std.specs.List.{slice_get}
 use Rattle.farm_types.specs.declared.slot_row.SlotRow.{SlotRow}
 use Rattle.farm_types.specs.Farm.{Farm}
 use Rattle.farm_core.specs.Inside.{IsKept, totals_of}
-use Rattle.farm_core.proofs.Turned.{turned_ended, live_framed, ended_live}
+use Rattle.farm_core.proofs.SlotChanges.{slots_ended, live_framed, ended_live}
 use Rattle.farm_core.proofs.farm.Farm.end_attempt.Goals as goal
 
 pub unreachable-requires-in_default-frame : goal.unreachable-requires-in_default-frame
@@ -19,5 +19,5 @@ returns c =
     let f = c.args.self.now in
     let d = c.args.item.now in
     let at : slice_get f.slots d.attempt.slot ≡ Some c.in-Some.row = subst (λ (g : Farm). slice_get g.slots d.attempt.slot ≡ Some c.in-Some.row) c.self.view_is (sym c.in-Some.ensures) in
-    let same = turned_ended f d.attempt.slot d.exit c.in-Some.row c.in-Some-frame.frame c.judged_frame-judged.result at c.in-Some-frame.is c.judged_frame-judged.ensures.frame in
+    let same = slots_ended f d.attempt.slot d.exit c.in-Some.row c.in-Some-frame.frame c.judged_frame-judged.result at c.in-Some-frame.is c.judged_frame-judged.ensures.frame in
     c.release.ensures ∙ (ap (λ (ss : List SlotRow). record f { slots = ss }) same ∙ sym (ended_live f c.args.host c.args.boot d (sym c.is_live.ensures ∙ c.if-not-is_live.false)))

@@ -1,7 +1,7 @@
 use Rattle.std.proofs.Common.{◌≡◌, sym, subst, ◌∙◌}
 use Rattle.farm_types.specs.Farm.{Farm}
 use Rattle.farm_types.specs.Hosts.{count_unheard}
-use Rattle.farm_core.proofs.Expired.{expire_none}
+use Rattle.farm_core.proofs.SilentHosts.{expire_none}
 use Rattle.farm_core.proofs.farm.Farm.expire.Goals as goal
 
 pub returns-then-count_expired-eq0 : goal.returns-then-count_expired-eq0

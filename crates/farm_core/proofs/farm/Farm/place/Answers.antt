@@ -1,4 +1,4 @@
-use Rattle.farm_core.proofs.Kept.{placed_kept}
+use Rattle.farm_core.proofs.KeptChanges.{placed_kept}
 use Rattle.farm_core.proofs.farm.Farm.place.Goals as goal
 
 pub invariant_of-self : goal.invariant_of-self

@@ -4,9 +4,9 @@ use Rattle.farm_types.specs.declared.boot.BootLine.{BootLine}
 use Rattle.farm_types.specs.Farm.{Farm, alloc_named}
 use Rattle.host_book.specs.Book.{plan_of}
 use Rattle.farm_core.specs.declared.change.Effect.TheVariants.{Boot}
-use Rattle.farm_core.proofs.Named.{host_found}
-use Rattle.farm_core.proofs.Planned.{boot_refused}
-use Rattle.farm_core.proofs.Prepared.{boot_makes, boot_refuses, made}
+use Rattle.farm_core.proofs.FoundByName.{host_found}
+use Rattle.farm_core.proofs.PlannedBoots.{boot_refused}
+use Rattle.farm_core.proofs.PreparedChanges.{boot_makes, boot_refuses, made}
 use Rattle.farm_core.proofs.farm.Farm.prepare_boot.Goals as goal
 
 pub returns-in-Err : goal.returns-in-Err

@@ -2,7 +2,7 @@ use Rattle.std.proofs.Common.{◌≡◌, Some, sym, subst}
 use Rattle.std.specs.List.{slice_get}
 use Rattle.farm_types.specs.Farm.{Farm}
 use Rattle.farm_core.specs.Inside.{farm_of, totals_of}
-use Rattle.farm_core.proofs.Released.{can_lower, can_remove, released_kept}
+use Rattle.farm_core.proofs.ReleasedSlot.{can_lower, can_remove, released_kept}
 use Rattle.farm_core.proofs.farm.Farm.release.Goals as goal
 
 pub remove-requires : goal.remove-requires
@@ -18,5 +18,5 @@ remove-requires-2 c =
 pub invariant_of-self : goal.invariant_of-self
 invariant_of-self c =
     let at = subst (λ (g : Farm). slice_get g.slots c.args.slot ≡ Some c.args.row.now) (sym c.self.view_is) c.requires.there in
-    rw (c.turn.ensures, c.remove-2.ensures, c.remove.ensures)
+    rw (c.set_attempt.ensures, c.remove-2.ensures, c.remove.ensures)
     (released_kept (farm_of c.self.inside) (totals_of c.self.inside) c.args.slot c.args.row.now c.args.live.now at c.requires.live c.self.invariant c.args.frame.now.state c.args.frame.now.retries c.args.row.now.version c.requires.still)

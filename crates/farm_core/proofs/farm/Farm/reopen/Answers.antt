@@ -1,6 +1,6 @@
 use Rattle.farm_types.specs.Hosts.{reopened_row}
-use Rattle.farm_core.proofs.Hosts.{reopened_amounts}
-use Rattle.farm_core.proofs.Kept.{mapped_kept}
+use Rattle.farm_law.proofs.Hosts.{reopened_amounts}
+use Rattle.farm_core.proofs.KeptChanges.{mapped_kept}
 use Rattle.farm_core.proofs.farm.Farm.reopen.Goals as goal
 
 pub invariant_of-self : goal.invariant_of-self

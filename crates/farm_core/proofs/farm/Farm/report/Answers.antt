@@ -1,6 +1,6 @@
 use Rattle.std.proofs.Common.{◌<◌, length, sym, subst}
 use Rattle.farm_types.specs.Farm.{Farm}
-use Rattle.farm_core.proofs.Fits.{expire_count}
+use Rattle.farm_core.proofs.FittingChanges.{expire_count}
 use Rattle.farm_core.proofs.farm.Farm.report.Goals as goal
 
 pub hear-requires : goal.hear-requires

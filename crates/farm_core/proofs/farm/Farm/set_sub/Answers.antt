@@ -1,4 +1,4 @@
-use Rattle.farm_core.proofs.Kept.{sub_kept}
+use Rattle.farm_core.proofs.KeptChanges.{sub_kept}
 use Rattle.farm_core.proofs.farm.Farm.set_sub.Goals as goal
 
 pub invariant_of-self : goal.invariant_of-self

@@ -1,6 +1,6 @@
 use Rattle.farm_types.specs.Hosts.{silenced_row}
-use Rattle.farm_core.proofs.Hosts.{silenced_amounts}
-use Rattle.farm_core.proofs.Kept.{mapped_kept}
+use Rattle.farm_law.proofs.Hosts.{silenced_amounts}
+use Rattle.farm_core.proofs.KeptChanges.{mapped_kept}
 use Rattle.farm_core.proofs.farm.Farm.silence.Goals as goal
 
 pub invariant_of-self : goal.invariant_of-self

@@ -1,12 +1,20 @@
-use Rattle.std.proofs.Common.{◌≡◌, ◌≤◌, true, sym, subst, arith}
-use Rattle.std.specs.List.{list_all}
+use Rattle.std.proofs.Common.{◌≡◌, ◌≤◌, ◌∙◌, ℕ, true, sym, ap, subst, arith, eqb}
+use Rattle.std.specs.List.{list_all, find}
+use Rattle.farm_types.specs.declared.rows.SubRow.{SubRow}
 use Rattle.farm_types.specs.Farm.{Farm, sub_of}
+use Rattle.farm_types.specs.declared.limits.TheConstants.{SUB_NUMBERS}
 use Rattle.farm_core.specs.Consistent.{is_sub_within}
-use Rattle.farm_core.proofs.Within.{none_past}
+use Rattle.farm_core.proofs.FoundByName.{sub_numbered}
+use Rattle.farm_core.proofs.GreatestAmounts.{none_past}
 use Rattle.farm_core.proofs.farm.Farm.sub_of.Goals as goal
 
-pub returns-else-number-lt-SUB_NUMBERS : goal.returns-else-number-lt-SUB_NUMBERS
-returns-else-number-lt-SUB_NUMBERS c =
+pub returns-then-number-lt-SUB_NUMBERS-clause-number : goal.returns-then-number-lt-SUB_NUMBERS-clause-number
+returns-then-number-lt-SUB_NUMBERS-clause-number c =
+    let subs = c.self.inside.subs.subs in
+    sub_numbered subs (sub_of c.args.show c.args.alloc) c.row.result (c.row.ensures ∙ ap (λ (n : ℕ). find (λ (s : SubRow). eqb s.sub n) subs) c.sub_number-number.ensures)
+
+pub returns-else-number-lt-SUB_NUMBERS-clause-value : goal.returns-else-number-lt-SUB_NUMBERS-clause-value
+returns-else-number-lt-SUB_NUMBERS-clause-value c =
     let within = subst (λ (f : Farm). list_all is_sub_within f.subs ≡ true) c.self.view_is c.self.invariant.consistent.subs_within in
-    let past : 1024 ≤ sub_of c.args.show c.args.alloc = omega arith in
+    let past : SUB_NUMBERS ≤ sub_of c.args.show c.args.alloc = omega arith in
     sym (none_past c.args.self.now.subs (sub_of c.args.show c.args.alloc) within past)

@@ -1,21 +1,13 @@
-use Rattle.std.proofs.Common.{◌∙◌, map, length, sym, ap, arith}
-use Rattle.std.proofs.lemmas.List.{length-map}
+use Rattle.std.proofs.Common.{◌∙◌, map, refl, ap}
 use Rattle.farm_types.specs.Hosts.{reopened_row}
 use Rattle.host_book.specs.Inside.{name_of}
-use Rattle.host_book.proofs.Changed.{map-map_kept}
+use Rattle.farm_types.proofs.ChangedLists.{map-map_kept}
+use Rattle.host_book.proofs.KeptHosts.{kept_hosts}
 use Rattle.host_book.proofs.Walked.{name-reopened}
 use Rattle.host_book.proofs.hosts.Hosts.reopen.Goals as goal
 
 pub invariant_of-self : goal.invariant_of-self
 invariant_of-self c =
-    let rows = c.self.inside.rows.items in
-    let change = reopened_row c.args.now in
-    let new = c.reopen_all.ensures.rows in
-    record {
-      count = omega (arith, ap length new ∙ length-map rows change, c.self.invariant.count);
-      names_are = c.self.invariant.names_are ∙ sym (ap (map name_of) new ∙ map-map_kept name_of change (name-reopened c.args.now) rows);
-      watched_are = c.reopen_all.ensures.watched;
-      rows_room = omega (arith, c.reopen_all.ensures.rows_room, c.self.invariant.rows_room);
-      names_room = c.self.invariant.names_room;
-      watched_room = omega (arith, c.reopen_all.ensures.watched_room, c.self.invariant.watched_room);
-    }
+    let done = c.reopen_all.ensures in
+    let names = ap (map name_of) done.rows ∙ map-map_kept name_of (reopened_row c.args.now) (name-reopened c.args.now) c.self.inside.rows.items in
+    kept_hosts c.self.inside _ c.self.invariant refl names done.watched done.rows_capacity done.watched_capacity

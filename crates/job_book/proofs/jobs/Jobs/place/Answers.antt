@@ -1,28 +1,28 @@
 use Rattle.std.proofs.Common.{◌≡◌, ◌+◌, ◌∙◌, ◌∷◌, [], ◌++◌, length, refl, sym, ap, subst, arith}
 use Rattle.farm_types.specs.Jobs.{JobLists, free_in, job_row, layer_rows, place_frames, frames_of, with_job}
-use Rattle.farm_types.specs.Spec.{frames_in}
+use Rattle.farm_types.specs.Jobs.{frames_in}
 use Rattle.job_book.specs.declared.placing.Placing.{Placing}
 use Rattle.job_book.specs.Counting.{new_counts}
 use Rattle.job_book.specs.Inside.{IsBook, counts_for}
-use Rattle.job_book.proofs.Placed.{accepted, layers_within, book_from, placed_book, placed_free, placed_counts}
+use Rattle.job_book.proofs.Placed.{accepted_fits, layers_within, book_from, placed_book, placed_free, placed_counts}
 use Rattle.job_book.proofs.jobs.Jobs.place.Goals as goal
 
-pub add_layers-requires-clause-room : goal.add_layers-requires-clause-room
-add_layers-requires-clause-room c =
-    let ok = subst IsBook c.self.view_is c.self.invariant.book in
-    let spec = c.args.spare in
+pub add_layers-requires-clause-capacity : goal.add_layers-requires-clause-capacity
+add_layers-requires-clause-capacity c =
+    let ok = subst IsBook c.self.view_is c.self.invariant.lists in
+    let spec = c.args.reserved in
     let layers = ap length c.taken_apart-row.ensures.layers in
     let rows = ap (λ (b : JobLists). length b.layers) c.self.view_is in
     let each = layers_within spec.layers c.requires.limits.each_layer in
-    let enough = (accepted c.args.self.now spec c.requires.accepted).0 in
-    omega (arith, layers, rows, each, enough, ok.layers_fit, c.self.invariant.layers_room)
+    let enough = (accepted_fits c.args.self.now spec c.requires.accepted).0 in
+    omega (arith, layers, rows, each, enough, ok.layers_fit, c.self.invariant.layers_capacity)
 
 pub invariant_of-self : goal.invariant_of-self
 invariant_of-self c =
     let b = c.args.self.now in
-    let spec = c.args.spare in
+    let spec = c.args.reserved in
     let show = c.args.placing.show in
-    let ok = subst IsBook c.self.view_is c.self.invariant.book in
+    let ok = subst IsBook c.self.view_is c.self.invariant.lists in
     let job : c.args.placing.job ≡ b.next_job = ap (λ (p : Placing). p.job) c.requires.placing in
     let frames : c.args.placing.frames ≡ frames_in spec.layers = ap (λ (p : Placing). p.frames) c.requires.placing in
     let old_jobs : c.self.inside.jobs.items ≡ b.jobs = ap (λ (l : JobLists). l.jobs) c.self.view_is in
@@ -42,11 +42,11 @@ invariant_of-self c =
     let waiting = c.all_waiting.ensures ∙ ap new_counts frames in
     let new_counted : c.push_reserved-2.new.self.items ≡ counts_for b.jobs b.slots ++ new_counts (frames_in spec.layers) ∷ [] = c.push_reserved-2.ensures.items ∙ rw (c.self.invariant.counts_are, old_jobs, old_slots, waiting) refl in
     record {
-      book = book_from (with_job b show spec) c.push_reserved.new.self.items c.add_layers.new.rows.items c.put_layers.new.slots.items (c.self.inside.next_job + 1) new_jobs new_layers new_slots new_next placed;
+      lists = book_from (with_job b show spec) c.push_reserved.new.self.items c.add_layers.new.rows.items c.put_layers.new.slots.items (c.self.inside.next_job + 1) new_jobs new_layers new_slots new_next placed;
       free_is = rw new_slots (omega (arith, free, was_free, frames));
       counts_are = rw (new_jobs, new_slots) (new_counted ∙ sym counted);
-      jobs_room = rw c.push_reserved.ensures.capacity c.self.invariant.jobs_room;
-      layers_room = rw c.add_layers.ensures.room c.self.invariant.layers_room;
-      slots_room = rw c.put_layers.ensures.room c.self.invariant.slots_room;
-      counts_room = rw c.push_reserved-2.ensures.capacity c.self.invariant.counts_room;
+      jobs_capacity = rw c.push_reserved.ensures.capacity c.self.invariant.jobs_capacity;
+      layers_capacity = rw c.add_layers.ensures.capacity c.self.invariant.layers_capacity;
+      slots_capacity = rw c.put_layers.ensures.capacity c.self.invariant.slots_capacity;
+      counts_capacity = rw c.push_reserved-2.ensures.capacity c.self.invariant.counts_capacity;
     }

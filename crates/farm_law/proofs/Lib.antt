@@ -1,0 +1,15 @@
+pub mod ActLaws
+pub mod Booked
+pub mod Booted
+pub mod CanBook
+pub mod Ended
+pub mod Hosts
+pub mod KeepsLaw
+pub mod Lost
+pub mod NeedsHosts
+pub mod Once
+pub mod Placed
+pub mod RowsStay
+pub mod SafeRuns
+pub mod Spent
+pub mod Suits

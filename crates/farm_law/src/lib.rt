@@ -1,0 +1,6 @@
+//! The laws of the farm's runs, over the model alone.
+#![tactic(auto)]
+
+mod law;
+
+pub use law::{candidates_suit, legal_runs_are_safe, legal_runs_keep_hosts, suits_stays};

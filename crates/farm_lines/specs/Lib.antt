@@ -1,0 +1,8 @@
+pub mod FieldFaults
+pub mod Fields
+pub mod Names
+pub mod Points
+pub mod Reply
+pub mod Request
+pub mod Spec
+pub mod Transcript

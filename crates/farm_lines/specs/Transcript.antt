@@ -1,0 +1,142 @@
+-- What is answered to lines: the entries that a line makes, its reply, and the bytes of a whole session.
+use Rattle.std.specs.Prelude.{ℕ, List, [], ◌∷◌, ◌++◌, map, take, length, nat_lt, Option, None, Some, Result, Ok, Err, if◌then◌else◌}
+use Rattle.farm_types.specs.declared.entry.Entry.{Entry}
+use Rattle.farm_types.specs.declared.entry.Act.{Act}
+use Rattle.farm_types.specs.declared.entry.Act.TheVariants as act
+use Rattle.farm_types.specs.declared.refusal.Refusal.{Refusal}
+use Rattle.farm_types.specs.declared.dispatch.Cut.{Cut}
+use Rattle.farm_types.specs.declared.dispatch.Cut.TheVariants as cut
+use Rattle.farm_lines.specs.declared.reply.Reply.{Reply}
+use Rattle.farm_lines.specs.declared.reply.Reply.TheVariants as reply
+use Rattle.farm_lines.specs.declared.report.Report.{Report}
+use Rattle.farm_lines.specs.declared.request.Request.{Request}
+use Rattle.farm_lines.specs.declared.request.Request.TheVariants as request
+use Rattle.farm_types.specs.Farm.{Farm, host_named}
+use Rattle.farm_types.specs.Step.{refusal_of, after}
+use Rattle.farm_types.specs.Run.{run_of}
+use Rattle.farm_types.specs.Dispatch.{round_for}
+use Rattle.farm_lines.specs.Request.{RequestError, request_of}
+use Rattle.farm_types.specs.EntryAnswers.{answer_of}
+use Rattle.farm_lines.specs.Reply.{reply_text, error_reply, ok_reply, report_reply}
+use Rattle.farm_lines.specs.declared.limits.TheConstants.{LINE_LIMIT}
+
+-- Where memory ran out while a line was answered: nowhere; before anything was recorded; after so many bookings of the round; or for the
+-- reply's text, after the whole round or after so many bookings.
+pub data Mark : Type 0 where
+  Plain : Mark
+  Memory : Mark
+  CutAfter : ℕ → Mark
+  LatePlain : Mark
+  LateCut : ℕ → Mark
+
+-- what a line makes: the entries recorded, in order, and the reply
+pub record Answered : Type 0 where
+  pub entries : List Entry
+  pub reply : Reply
+
+abbrev pub only_reply : Reply → Answered
+only_reply r = record { entries = []; reply = r }
+
+-- ---- reports
+
+abbrev pub heard_entry : Report → ℕ → Entry
+heard_entry report moment = record { moment = moment; act = act.Heard (record { host = report.host; boot = report.boot; seq = report.seq; done = report.done }) }
+
+-- the entry of a report, the bookings after it, and the reply over the farm that they leave
+abbrev pub with_round : Farm → ℕ → Report → Entry → List Entry → Cut → Answered
+with_round f host report heard round ended = record { entries = heard ∷ round; reply = report_reply (run_of (after f heard) round) host report ended }
+
+abbrev pub late : List Entry → Answered
+late entries = record { entries = entries; reply = reply.NoMemory }
+
+abbrev pub marked_answer : Farm → ℕ → Report → Entry → List Entry → Mark → Answered
+marked_answer f host report heard round Plain = with_round f host report heard round cut.Whole
+marked_answer f host report heard round Memory = only_reply reply.NoMemory
+marked_answer f host report heard round (CutAfter k) = with_round f host report heard (take k round) cut.Memory
+marked_answer f host report heard round LatePlain = late (heard ∷ round)
+marked_answer f host report heard round (LateCut k) = late (heard ∷ take k round)
+
+-- a report that the farm accepts is of a host that is there
+abbrev pub accepted_answer : Farm → Report → ℕ → Mark → Option ℕ → Answered
+accepted_answer f report moment mark None = only_reply reply.NoMemory
+accepted_answer f report moment mark (Some host) =
+    marked_answer f host report (heard_entry report moment) (round_for (after f (heard_entry report moment)) host moment) mark
+
+abbrev pub report_answer : Farm → Report → ℕ → Mark → Option Refusal → Answered
+report_answer f report moment mark (Some why) = only_reply (reply.Refused why)
+report_answer f report moment mark None = accepted_answer f report moment mark (host_named f report.host)
+
+-- ---- other requests
+
+-- the entry that is made of what is asked
+abbrev pub act_of : Request → Act
+act_of (request.Show name) = act.Show name
+act_of (request.Alloc facility tag) = act.Alloc facility tag
+act_of (request.Sub line) = act.Sub line
+act_of (request.Boot line) = act.Boot line
+act_of (request.Report report) = act.Heard (record { host = report.host; boot = report.boot; seq = report.seq; done = report.done })
+act_of (request.Lock host lock) = act.Lock host lock
+act_of (request.Submit spec) = act.Submit spec
+act_of request.Tick = act.Tick
+
+abbrev pub entry_of : Request → ℕ → Entry
+entry_of asked moment = record { moment = moment; act = act_of asked }
+
+-- one entry, and the reply of its numbers; or its refusal
+abbrev pub entry_answer : Farm → Entry → Option Refusal → Answered
+entry_answer f e (Some why) = only_reply (reply.Refused why)
+entry_answer f e None = record { entries = e ∷ []; reply = ok_reply e.act (answer_of f e) }
+
+-- ---- a line
+
+-- what a request makes
+abbrev pub asked_answer : Farm → ℕ → Mark → Request → Answered
+asked_answer f moment mark (request.Report report) = report_answer f report moment mark (refusal_of f (heard_entry report moment))
+asked_answer f moment mark asked = entry_answer f (entry_of asked moment) (refusal_of f (entry_of asked moment))
+
+-- a malformed line, and a request
+abbrev pub request_answer : Farm → ℕ → Mark → Result Request RequestError → Answered
+request_answer f moment mark (Err error) = only_reply (error_reply error)
+request_answer f moment mark (Ok asked) = asked_answer f moment mark asked
+
+abbrev pub unless_memory : Mark → Answered → Answered
+unless_memory Memory answered = only_reply reply.NoMemory
+unless_memory mark answered = answered
+
+-- what a line makes of the farm at a moment, by where memory ran out
+unfoldable pub answer_to : Farm → List ℕ → ℕ → Mark → Answered
+answer_to f line moment mark =
+    if nat_lt LINE_LIMIT (length line) then only_reply reply.TooLong
+    else unless_memory mark (request_answer f moment mark (request_of line))
+
+-- an exchange: one line, with the clock's reading and the mark by which its reply is given
+pub record Exchange : Type 0 where
+  pub line : List ℕ
+  pub moment : ℕ
+  pub mark : Mark
+
+abbrev pub answer_at : Farm → Exchange → Answered
+answer_at f t = answer_to f t.line t.moment t.mark
+
+abbrev pub farm_next : Farm → Exchange → Farm
+farm_next f t = run_of f (answer_at f t).entries
+
+abbrev pub farm_after : Farm → List Exchange → Farm
+farm_after f [] = f
+farm_after f (t ∷ ts) = farm_after (farm_next f t) ts
+
+-- the entries recorded, in order
+abbrev pub entries_in : Farm → List Exchange → List Entry
+entries_in f [] = []
+entries_in f (t ∷ ts) = (answer_at f t).entries ++ entries_in (farm_next f t) ts
+
+-- the replies, each with its newline
+abbrev pub transcript : Farm → List Exchange → List ℕ
+transcript f [] = []
+transcript f (t ∷ ts) = reply_text (answer_at f t).reply ++ 10 ∷ transcript (farm_next f t) ts
+
+abbrev pub lines_in : List Exchange → List (List ℕ)
+lines_in ts = map (λ t. t.line) ts
+
+abbrev pub moments_in : List Exchange → List ℕ
+moments_in ts = map (λ t. t.moment) ts

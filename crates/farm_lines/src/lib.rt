@@ -1,0 +1,28 @@
+//! What speaks of lines: requests and replies, reports and launches, fields and forms that only lines have, and in `specs/`
+//! what each line asks, what is replied to it, and the bytes of a whole session.
+#![tactic(auto)]
+
+mod boot_form;
+mod cores_text;
+mod field_faults;
+mod job_form;
+mod launch;
+mod limits;
+mod name_field;
+mod points;
+mod reply;
+mod report;
+mod request;
+mod sub_form;
+
+pub use boot_form::BootForm;
+pub use cores_text::read_cores;
+pub use job_form::{JobForm, LayerForm};
+pub use launch::Launch;
+pub use limits::{LAUNCHES_EACH, LINE_LIMIT, MOST_RANGE};
+pub use name_field::read_name;
+pub use points::split_at_point;
+pub use reply::{Reply, ReportReply};
+pub use report::Report;
+pub use request::{Request, RequestFault};
+pub use sub_form::SubForm;

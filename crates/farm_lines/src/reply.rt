@@ -1,0 +1,55 @@
+//! What is replied to a line.
+
+use crate::launch::Launch;
+use farm_types::{Attempt, Cores, Cut, Items, Refusal, Text};
+use frame_range::RangeFault;
+
+/// A reply: one variant for each set of keys of an ok reply, and for each refusal.
+#[derive(Debug, Drop)]
+pub enum Reply {
+    /// Done, with nothing to tell: for a show, an allocation and a host's lock.
+    Done,
+    Sub {
+        booked: Cores,
+        burst: Cores,
+        size: Cores,
+    },
+    Boot {
+        boot: u32,
+        nonce: u64,
+    },
+    Tick {
+        down: u32,
+        lost: u32,
+    },
+    Submitted {
+        frames: u32,
+        job: Text,
+    },
+    Report(ReportReply),
+    BadLine {
+        field: Text,
+    },
+    TooLong,
+    BadRange {
+        layer: Text,
+        fault: RangeFault,
+    },
+    BadAmount {
+        field: Text,
+    },
+    Refused(Refusal),
+    NoMemory,
+}
+
+/// The reply to a report: the completions that it listed; what ended the round early; the attempts that the host
+/// is to stop, and those that it is to start. `boot` and `seq` are the report's.
+#[derive(Debug, Drop)]
+pub struct ReportReply {
+    pub acks: Items<Attempt>,
+    pub boot: u32,
+    pub cut: Cut,
+    pub kills: Items<Attempt>,
+    pub launches: Items<Launch>,
+    pub seq: u64,
+}

@@ -1,8 +1,0 @@
--- The frames so far and those of the layers that are left are all frames, and there is room for them.
-use Rattle.std.proofs.Common.{◌≡◌, ◌≤◌, ◌+◌, ◌*◌, ◌^◌, drop}
-use Rattle.farm_types.specs.Spec.{frames_in}
-use Rattle.job_spec.proofs.job_amounts.count_frames.Given as goal
-
-abbrev pub invariant-loop-layer : goal.invariant-loop-layer
-invariant-loop-layer l =
-    record { counted : l.frames + frames_in (drop l.layer-index l.layers) ≡ frames_in l.layers; small : l.frames ≤ (2 ^ 64) * l.layer-index }

@@ -1,0 +1,88 @@
+-- What a line comes to where memory doesn't run out for it.
+use Rattle.std.proofs.Common.{◌≡◌, ℕ, List, ◌∷◌, length, cond, Bool, true, false, true≢false, refl, sym, ap, ◌∙◌, Option, None, Some, Result, Ok, Err}
+use Rattle.std.specs.Prelude.{nat_lt, is_some}
+use Rattle.farm_types.specs.declared.entry.Entry.{Entry}
+use Rattle.farm_types.specs.declared.refusal.Refusal.{Refusal}
+use Rattle.farm_lines.specs.declared.report.Report.{Report}
+use Rattle.farm_lines.specs.declared.request.Request.{Request}
+use Rattle.farm_lines.specs.declared.request.Request.TheVariants as request
+use Rattle.farm_types.specs.Dispatch.{round_for}
+use Rattle.farm_types.specs.Farm.{Farm, host_named}
+use Rattle.farm_lines.specs.declared.reply.Reply.TheVariants as reply
+use Rattle.farm_lines.specs.Request.{RequestError, request_of}
+use Rattle.farm_types.specs.Step.{refusal_of, after, host_refusal}
+use Rattle.farm_lines.specs.Transcript.{Mark, Plain, Memory, CutAfter, LatePlain, LateCut, answer_to, heard_entry, marked_answer, accepted_answer, report_answer, request_answer, unless_memory, only_reply}
+use Rattle.line_answers.specs.Outcomes.{WalksWhole, IsTaken, HasWholeRound, IsAnsweredFully}
+use Rattle.line_answers.proofs.AnswerLemmas.{line_within, long_answer, accepted_is}
+use Rattle.farm_lines.specs.declared.limits.TheConstants.{LINE_LIMIT}
+
+-- ---- the round of a report
+
+-- a report that is taken is of a host that is there
+host_of : (f : Farm) (report : Report) (moment : ℕ) (named : Option ℕ) → host_named f report.host ≡ named → refusal_of f (heard_entry report moment) ≡ None
+    → (host : ℕ) × (host_named f report.host ≡ Some host)
+host_of f report moment None is accepted =
+    absurd (unknown (sym (ap (host_refusal f (record { host = report.host; boot = report.boot; seq = report.seq; done = report.done })) is) ∙ accepted))
+  where
+    unknown : {why : Refusal} → Some why ≡ None → ⊥
+    unknown e = true≢false (ap is_some e)
+host_of f report moment (Some host) is accepted = (host, is)
+
+whole_entries : (f : Farm) (host : ℕ) (report : Report) (heard : Entry) (round : List Entry) (mark : Mark) → WalksWhole mark
+    → (marked_answer f host report heard round mark).entries ≡ heard ∷ round
+whole_entries f host report heard round Plain whole = refl
+whole_entries f host report heard round LatePlain whole = refl
+whole_entries f host report heard round Memory whole = absurd whole
+whole_entries f host report heard round (CutAfter k) whole = absurd whole
+whole_entries f host report heard round (LateCut k) whole = absurd whole
+
+pub whole_round : (f : Farm) (line : List ℕ) (moment : ℕ) (mark : Mark) (report : Report) → WalksWhole mark → IsTaken f line moment report
+    → HasWholeRound f line moment mark report
+whole_round f line moment mark report whole taken =
+    let found = host_of f report moment (host_named f report.host) refl taken.accepted in
+    record {
+      host = found.0;
+      named = found.1;
+      recorded = ap (λ a. a.entries) (
+          line_within f line moment mark taken.fits
+          ∙ ap (λ read. unless_memory mark (request_answer f moment mark read)) taken.asks
+          ∙ accepted_is f report moment found.0 mark taken.accepted found.1
+          ) ∙ whole_entries f found.0 report (heard_entry report moment) (round_for (after f (heard_entry report moment)) found.0 moment) mark whole;
+    }
+
+-- ---- every line
+
+late_accepted : (f : Farm) (report : Report) (moment : ℕ) (host : Option ℕ) → (accepted_answer f report moment LatePlain host).entries ≡ (accepted_answer f report moment Plain host).entries
+late_accepted f report moment None = refl
+late_accepted f report moment (Some host) = refl
+
+late_report : (f : Farm) (report : Report) (moment : ℕ) (why : Option Refusal) → (report_answer f report moment LatePlain why).entries ≡ (report_answer f report moment Plain why).entries
+late_report f report moment None = late_accepted f report moment (host_named f report.host)
+late_report f report moment (Some why) = refl
+
+late_request : (f : Farm) (moment : ℕ) (read : Result Request RequestError) → (request_answer f moment LatePlain read).entries ≡ (request_answer f moment Plain read).entries
+late_request f moment (Err error) = refl
+late_request f moment (Ok (request.Report report)) = late_report f report moment (refusal_of f (heard_entry report moment))
+late_request f moment (Ok (request.Show name)) = refl
+late_request f moment (Ok (request.Alloc facility tag)) = refl
+late_request f moment (Ok (request.Sub line)) = refl
+late_request f moment (Ok (request.Boot line)) = refl
+late_request f moment (Ok (request.Lock host lock)) = refl
+late_request f moment (Ok (request.Submit spec)) = refl
+late_request f moment (Ok request.Tick) = refl
+
+late_line : (f : Farm) (line : List ℕ) (moment : ℕ) → (answer_to f line moment LatePlain).entries ≡ (answer_to f line moment Plain).entries
+unfolding answer_to
+late_line f line moment = by (nat_lt LINE_LIMIT (length line))
+  where
+    by : (b : Bool) → (cond b (only_reply reply.TooLong) (request_answer f moment LatePlain (request_of line))).entries
+        ≡ (cond b (only_reply reply.TooLong) (request_answer f moment Plain (request_of line))).entries
+    by true = refl
+    by false = late_request f moment (request_of line)
+
+pub answered_fully : (f : Farm) (line : List ℕ) (moment : ℕ) → IsAnsweredFully f line moment
+answered_fully f line moment = record {
+  long = λ past mark. long_answer f line moment mark past;
+  plain = λ fits. line_within f line moment Plain fits;
+  late = late_line f line moment;
+}

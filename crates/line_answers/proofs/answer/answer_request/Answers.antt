@@ -1,0 +1,12 @@
+-- A report, and any other request.
+use Rattle.line_answers.specs.Lines.{shown}
+use Rattle.line_answers.proofs.AnswerLemmas.{answered_entry, answered_report}
+use Rattle.line_answers.proofs.answer.answer_request.Goals as goal
+
+pub returns-in-Report : goal.returns-in-Report
+returns-in-Report c =
+    answered_report c.args.farm.now c.answer_report.new.farm c.args.moment (shown c.answer_report.result) c.args.asked c.in-Report.report c.in-Report.is c.answer_report.ensures
+
+pub returns-in_default : goal.returns-in_default
+returns-in_default c =
+    answered_entry c.args.farm.now c.answer_taken.new.farm c.args.moment (shown c.answer_taken.result) c.args.asked c.entry_of.result c.in_default.not-Report c.entry_of.ensures c.answer_taken.ensures

@@ -1,0 +1,4 @@
+pub mod LineAnswers
+pub mod Launches
+pub mod Lines
+pub mod Outcomes

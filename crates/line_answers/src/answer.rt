@@ -1,0 +1,99 @@
+//! Answering one line.
+
+ghost use Rattle.std.specs.Prelude.{◌≡◌, ◌≤◌, length};
+ghost use Rattle.farm_lines.specs.Transcript.{Mark, act_of, answer_to, asked_answer, entry_of, unless_memory};
+ghost use Rattle.farm_types.specs.Step.{HasCondition, KeepsLimits};
+ghost use Rattle.report_codec.specs.Reads.{AsksWithin};
+ghost use Rattle.line_answers.specs.LineAnswers.{AnswersEntry, IsAnswer, fault_reply};
+ghost use Rattle.line_answers.specs.Lines.{IsLineOf, shown};
+ghost use Rattle.farm_lines.specs.declared.limits.TheConstants.{LINE_LIMIT};
+
+use crate::answer_entry::answer_entry;
+use crate::answer_report::answer_report;
+use crate::reply_line::{ReplyLine, line_of};
+use farm_core::Farm;
+use farm_lines::{Reply, Request, RequestFault};
+use farm_types::{Act, Entry, HeardAct};
+use report_codec::read_request;
+use std::alloc::Global;
+
+/// Answers a line at a moment (seconds): records what it asks in the farm, and gives the line of its reply.
+pub fn answer_line(alloc: Global, farm: &mut Farm, line: &[u8], moment: u64) -> ReplyLine
+    requires { length line.now ≤ LINE_LIMIT }
+    ensures { (mark : Mark) × IsAnswer farm.old (answer_to farm.old line.now moment mark) farm.new (shown result) }
+{
+    match read_request(alloc, line) {
+        Ok(asked) => answer_request(alloc, farm, asked, moment),
+        Err(fault) => fault_line(alloc, fault),
+    }
+}
+
+// Answers what a line asks.
+fn answer_request(alloc: Global, farm: &mut Farm, asked: Request, moment: u64) -> ReplyLine
+    requires { AsksWithin asked }
+    ensures { (mark : Mark) × IsAnswer farm.old (unless_memory mark (asked_answer farm.old moment mark asked)) farm.new (shown result) }
+{
+    match asked {
+        Request::Report(report) => answer_report(alloc, farm, &report, moment),
+        asked => answer_taken(alloc, farm, entry_of(asked, moment)),
+    }
+}
+
+// Answers a request of one entry, and lets the entry go.
+fn answer_taken(alloc: Global, farm: &mut Farm, entry: Entry) -> ReplyLine
+    requires condition { HasCondition farm.old entry.act }
+    requires limits { KeepsLimits entry.act }
+    ensures { AnswersEntry farm.old entry farm.new (shown result) }
+{
+    answer_entry(alloc, farm, &entry)
+}
+
+// The entry of a request.
+fn entry_of(asked: Request, moment: u64) -> Entry
+    ensures { result ≡ entry_of asked moment }
+{
+    Entry {
+        moment,
+        act: act_of(asked),
+    }
+}
+
+// What the entry of a request does.
+fn act_of(asked: Request) -> Act
+    ensures { result ≡ act_of asked }
+{
+    match asked {
+        Request::Show { name } => Act::Show { name },
+        Request::Alloc { facility, tag } => Act::Alloc { facility, tag },
+        Request::Sub(line) => Act::Sub(line),
+        Request::Boot(line) => Act::Boot(line),
+        Request::Report(report) => Act::Heard(HeardAct {
+            host: report.host,
+            boot: report.boot,
+            seq: report.seq,
+            done: report.done,
+        }),
+        Request::Lock { host, lock } => Act::Lock { host, lock },
+        Request::Submit(spec) => Act::Submit(spec),
+        Request::Tick => Act::Tick,
+    }
+}
+
+// The line of the reply to a malformed line.
+fn fault_line(alloc: Global, fault: RequestFault) -> ReplyLine
+    ensures { IsLineOf (fault_reply fault) (shown result) }
+{
+    line_of(alloc, &fault_reply(fault))
+}
+
+// The reply to a malformed line.
+fn fault_reply(fault: RequestFault) -> Reply
+    ensures { result ≡ fault_reply fault }
+{
+    match fault {
+        RequestFault::BadLine { field } => Reply::BadLine { field },
+        RequestFault::BadRange { layer, fault } => Reply::BadRange { layer, fault },
+        RequestFault::BadAmount { field } => Reply::BadAmount { field },
+        RequestFault::NoMemory => Reply::NoMemory,
+    }
+}

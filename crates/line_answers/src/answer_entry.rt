@@ -1,0 +1,108 @@
+//! Answering a request of one entry.
+
+ghost use Rattle.std.specs.Prelude.{◌≡◌, ◌++◌, ◌∷◌, [], IfOk};
+ghost use Rattle.farm_core.specs.Change.{IsReady, Makes, Prepares, after_change};
+ghost use Rattle.farm_lines.specs.Reply.{job_named, ok_reply, reply_text};
+ghost use Rattle.farm_types.specs.Step.{HasCondition, KeepsLimits};
+ghost use Rattle.line_answers.specs.LineAnswers.{AnswersEntry, IsRecorded, IsUnprepared};
+ghost use Rattle.line_answers.specs.Lines.{shown};
+
+use crate::reply_line::{ReplyLine, refusal_line, write_line};
+use farm_core::{Change, Farm, PrepareFault};
+use farm_lines::Reply;
+use farm_types::{Act, Answer, Entry, Text};
+use std::alloc::{AllocError, Global};
+
+/// Answers a request of one entry: records the entry, and gives the line of its reply. The line is written first, so that
+/// the farm stays as it was where memory runs out.
+pub fn answer_entry(alloc: Global, farm: &mut Farm, entry: &Entry) -> ReplyLine
+    requires condition { HasCondition farm.old entry.now.act }
+    requires limits { KeepsLimits entry.now.act }
+    ensures { AnswersEntry farm.old entry.now farm.new (shown result) }
+{
+    match farm.prepare(alloc, entry) {
+        Ok(change) => answer_change(alloc, farm, entry, change),
+        Err(fault) => fault_line(alloc, fault),
+    }
+}
+
+// Writes the reply's line, and then records the change that the entry makes.
+fn answer_change(alloc: Global, farm: &mut Farm, entry: &Entry, change: Change) -> ReplyLine
+    requires { Makes farm.old entry.now change }
+    ensures { AnswersEntry farm.old entry.now farm.new (shown result) }
+{
+    match write_ok(alloc, &entry.act, change.answer()) {
+        Ok(line) => record(alloc, farm, change, line),
+        Err(_) => without_memory(change),
+    }
+}
+
+// Records the change, and gives the line that was written for it.
+fn record(alloc: Global, farm: &mut Farm, change: Change, line: Text) -> ReplyLine
+    requires { IsReady farm.old change }
+    ensures { IsRecorded farm.old (after_change farm.old change) line farm.new (shown result) }
+{
+    match farm.record(alloc, change) {
+        Ok(()) => ReplyLine::Written(line),
+        Err(_) => ReplyLine::NoMemory,
+    }
+}
+
+// Lets a change go for which memory ran out.
+fn without_memory(_change: Change) -> ReplyLine
+    ensures { result ≡ ReplyLine.NoMemory }
+{
+    ReplyLine::NoMemory
+}
+
+/// The line of the reply where no change was prepared.
+pub fn fault_line(alloc: Global, fault: PrepareFault) -> ReplyLine
+    ensures { IsUnprepared fault (shown result) }
+{
+    match fault {
+        PrepareFault::Refused { why } => refusal_line(alloc, why),
+        PrepareFault::NoMemory => ReplyLine::NoMemory,
+    }
+}
+
+// The line of the reply to a request but a report, by what the farm answers to its entry.
+fn write_ok(alloc: Global, act: &Act, answer: Answer) -> Result<Text, AllocError>
+    ensures { IfOk result (λ line. line ≡ reply_text (ok_reply act.now answer) ++ 10 ∷ []) }
+{
+    let reply = ok_reply(alloc, act, answer)?;
+    write_line(alloc, &reply)
+}
+
+// The reply to a request but a report, by what the farm answers to its entry.
+fn ok_reply(alloc: Global, act: &Act, answer: Answer) -> Result<Reply, AllocError>
+    ensures { IfOk result (λ reply. reply ≡ ok_reply act.now answer) }
+{
+    match answer {
+        Answer::Sub {
+            booked,
+            burst,
+            size,
+        } => Ok(Reply::Sub {
+            booked,
+            burst,
+            size,
+        }),
+        Answer::Boot { boot, nonce } => Ok(Reply::Boot { boot, nonce }),
+        Answer::Submitted { frames } => Ok(Reply::Submitted {
+            frames,
+            job: job_named(alloc, act)?,
+        }),
+        Answer::Tick { down, lost } => Ok(Reply::Tick { down, lost }),
+        _ => Ok(Reply::Done),
+    }
+}
+
+// The name of the job that is submitted, and none for another act.
+fn job_named(alloc: Global, act: &Act) -> Result<Text, AllocError>
+    ensures { IfOk result (λ name. name ≡ job_named act.now) }
+{
+    match act {
+        Act::Submit(spec) => spec.name.copy(alloc),
+        _ => Ok(Text::from_string(String::new(alloc))),
+    }
+}

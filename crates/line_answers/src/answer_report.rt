@@ -1,0 +1,141 @@
+//! Answering a report.
+
+ghost use Rattle.std.specs.Prelude.{◌≡◌, ◌++◌, ◌∷◌, [], IfOk, Some};
+ghost use Rattle.farm_core.specs.Change.{IsThere, Makes, Prepares};
+ghost use Rattle.farm_types.specs.Farm.{host_named};
+ghost use Rattle.farm_lines.specs.Reply.{reply_text, report_reply};
+ghost use Rattle.farm_lines.specs.Transcript.{Mark, heard_entry};
+ghost use Rattle.line_answers.specs.LineAnswers.{AnswersReport, IsRoundAnswer};
+ghost use Rattle.line_answers.specs.Lines.{shown};
+
+use crate::answer_entry::fault_line;
+use crate::launches::{acks, kills, launches};
+use crate::reply_line::{ReplyLine, write_line};
+use dispatch_plan::round;
+use farm_core::{Change, Farm, PrepareFault};
+use farm_lines::{Reply, Report, ReportReply};
+use farm_types::{Act, Cut, Entry, HeardAct, HostNo, Items, Text};
+use std::alloc::{AllocError, Global};
+
+/// Answers a report: records it and its round, and gives the line of its reply.
+pub fn answer_report(alloc: Global, farm: &mut Farm, report: &Report, moment: u64) -> ReplyLine
+    ensures { AnswersReport farm.old report.now moment farm.new (shown result) }
+{
+    match prepare_heard(alloc, farm, report, moment) {
+        Ok(change) => answer_change(alloc, farm, report, moment, change),
+        Err(fault) => fault_line(alloc, fault),
+    }
+}
+
+// Records the change that the report makes, and then its round.
+fn answer_change(
+    alloc: Global,
+    farm: &mut Farm,
+    report: &Report,
+    moment: u64,
+    change: Change,
+) -> ReplyLine
+    requires { Makes farm.old (heard_entry report.now moment) change }
+    ensures { AnswersReport farm.old report.now moment farm.new (shown result) }
+{
+    let host = host_of(farm, report);
+    match farm.record(alloc, change) {
+        Ok(()) => line_after_round(alloc, farm, host, report, moment),
+        Err(_) => ReplyLine::NoMemory,
+    }
+}
+
+// The number of the report's host, which is there.
+fn host_of(farm: &Farm, report: &Report) -> HostNo
+    requires { IsThere farm.now (host_named farm.now report.now.host) }
+    ensures { host_named farm.now report.now.host ≡ Some result }
+{
+    match farm.host_named(report.host.as_str()) {
+        Some(host) => host,
+        None => unreachable!(),
+    }
+}
+
+// Prepares what the report says, but for what it runs.
+fn prepare_heard(
+    alloc: Global,
+    farm: &Farm,
+    report: &Report,
+    moment: u64,
+) -> Result<Change, PrepareFault>
+    ensures { Prepares farm.now (heard_entry report.now moment) result }
+{
+    let entry = entry_of(alloc, report, moment)?;
+    farm.prepare(alloc, &entry)
+}
+
+// The entry that the report makes at the moment.
+fn entry_of(alloc: Global, report: &Report, moment: u64) -> Result<Entry, AllocError>
+    ensures { IfOk result (λ entry. entry ≡ heard_entry report.now moment) }
+{
+    let host = report.host.copy(alloc)?;
+    let done = report.done.copy(alloc)?;
+    Ok(Entry {
+        moment,
+        act: Act::Heard(HeardAct {
+            host,
+            boot: report.boot,
+            seq: report.seq,
+            done,
+        }),
+    })
+}
+
+// Walks the round that follows a report, and gives the line of the report's reply.
+fn line_after_round(
+    alloc: Global,
+    farm: &mut Farm,
+    host: HostNo,
+    report: &Report,
+    moment: u64,
+) -> ReplyLine
+    ensures { (mark : Mark) × IsRoundAnswer farm.old host report.now moment mark farm.new (shown result) }
+{
+    let cut = round(alloc, farm, host, moment);
+    match report_line(alloc, farm, host, report, cut) {
+        Ok(line) => ReplyLine::Written(line),
+        Err(_) => ReplyLine::NoMemory,
+    }
+}
+
+// The line of the reply to a report over the farm as it is.
+fn report_line(
+    alloc: Global,
+    farm: &Farm,
+    host: HostNo,
+    report: &Report,
+    cut: Cut,
+) -> Result<Text, AllocError>
+    ensures { IfOk result (λ line. line ≡ reply_text (report_reply farm.now host report.now cut) ++ 10 ∷ []) }
+{
+    let reply = report_reply(alloc, farm, host, report, cut)?;
+    write_line(alloc, &reply)
+}
+
+// The reply to a report over the farm as it is.
+fn report_reply(
+    alloc: Global,
+    farm: &Farm,
+    host: HostNo,
+    report: &Report,
+    cut: Cut,
+) -> Result<Reply, AllocError>
+    ensures { IfOk result (λ reply. reply ≡ report_reply farm.now host report.now cut) }
+{
+    let acks = acks(alloc, report)?;
+    let kills = kills(alloc, farm, host, report)?;
+    let launches = launches(alloc, farm, host, report)?;
+    Ok(Reply::Report(ReportReply {
+        acks,
+        boot: report.boot,
+        cut,
+        kills,
+        launches,
+        seq: report.seq,
+    }))
+}

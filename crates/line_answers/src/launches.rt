@@ -1,0 +1,188 @@
+//! What the reply to a report orders: acknowledgements, kills and launches.
+
+ghost use Rattle.std.specs.Prelude.{◌≡◌, IfOk, OnOk};
+ghost use Rattle.std.specs.List.{list_any};
+ghost use Rattle.farm_lines.specs.Reply.{acks_of, kills_of, launches_of, launch_of, launch_for, due_in, is_due, is_listed};
+ghost use Rattle.farm_types.specs.Run.{is_same};
+ghost use Rattle.line_answers.specs.Launches.{with_launch};
+
+use command_text::{expand, frame_name};
+use farm_core::Farm;
+use farm_lines::{LAUNCHES_EACH, Launch, Report};
+use farm_types::{Attempt, DoneItem, Frame, HostNo, Items, JobRow, LayerRow, ProcRow, SlotRow};
+use std::alloc::{AllocError, Global};
+
+/// The attempts that the report says are done, in order.
+pub fn acks(alloc: Global, report: &Report) -> Result<Items<Attempt>, AllocError>
+    ensures { IfOk result (λ acks. acks ≡ acks_of report.now) }
+{
+    let mut acks = Items::new(alloc);
+    for item in report.done.as_slice() {
+        acks.push(item.attempt)?;
+    }
+    Ok(acks)
+}
+
+/// The attempts that the report says are running and that aren't live on this host and boot, in order.
+pub fn kills(
+    alloc: Global,
+    farm: &Farm,
+    host: HostNo,
+    report: &Report,
+) -> Result<Items<Attempt>, AllocError>
+    ensures { IfOk result (λ kills. kills ≡ kills_of farm.now host report.now) }
+{
+    let mut kills = Items::new(alloc);
+    for attempt in report.running.as_slice() {
+        if !farm.is_live(host, report.boot, *attempt) {
+            kills.push(*attempt)?;
+        }
+    }
+    Ok(kills)
+}
+
+/// The first live attempts on this host and boot, by slot, that the report doesn't list.
+#[tactic(auto, using(crate::proofs::LaunchLemmas::take_step))]
+pub fn launches(
+    alloc: Global,
+    farm: &Farm,
+    host: HostNo,
+    report: &Report,
+) -> Result<Items<Launch>, AllocError>
+    ensures { IfOk result (λ launches. launches ≡ launches_of farm.now host report.now) }
+{
+    let mut launches = Items::new(alloc);
+    for slot in farm.slots() {
+        add_due(alloc, &mut launches, farm, host, report, slot)?;
+    }
+    Ok(launches)
+}
+
+// Adds the launch of the slot's live attempt, where it is due and the limit isn't reached.
+fn add_due(
+    alloc: Global,
+    launches: &mut Items<Launch>,
+    farm: &Farm,
+    host: HostNo,
+    report: &Report,
+    slot: &SlotRow,
+) -> Result<(), AllocError>
+    ensures { OnOk result (launches.new ≡ with_launch launches.old (due_in farm.now host report.now slot.now)) }
+{
+    if launches.len() < LAUNCHES_EACH as usize {
+        if let Some(launch) = due(alloc, farm, host, report, slot)? {
+            launches.push(launch)?;
+        }
+    }
+    Ok(())
+}
+
+// The launch of the slot's live attempt, where it is due.
+fn due(
+    alloc: Global,
+    farm: &Farm,
+    host: HostNo,
+    report: &Report,
+    slot: &SlotRow,
+) -> Result<Option<Launch>, AllocError>
+    ensures { IfOk result (λ launch. launch ≡ due_in farm.now host report.now slot.now) }
+{
+    let Some(proc) = slot.proc else {
+        return Ok(None);
+    };
+    if is_due_on(host, report, &proc) {
+        launch_at(alloc, farm, slot, &proc)
+    } else {
+        Ok(None)
+    }
+}
+
+// Whether the live attempt is on this host and boot and the report doesn't list it.
+fn is_due_on(host: HostNo, report: &Report, proc: &ProcRow) -> bool
+    ensures { result ≡ is_due host report.now proc.now }
+{
+    let attempt = Attempt {
+        slot: proc.slot,
+        version: proc.version,
+    };
+    proc.host == host && proc.boot == report.boot && !is_listed(report, &attempt)
+}
+
+// Whether the report lists the attempt as running or as done.
+fn is_listed(report: &Report, attempt: &Attempt) -> bool
+    ensures { result ≡ is_listed report.now attempt.now }
+{
+    is_running(report.running.as_slice(), attempt) || is_done(report.done.as_slice(), attempt)
+}
+
+fn is_running(running: &[Attempt], attempt: &Attempt) -> bool
+    ensures { result ≡ list_any (is_same attempt.now) running.now }
+{
+    running.iter().any(|other| same(attempt, other))
+}
+
+fn is_done(done: &[DoneItem], attempt: &Attempt) -> bool
+    ensures { result ≡ list_any (λ item. is_same attempt.now item.attempt) done.now }
+{
+    done.iter().any(|item| same(attempt, &item.attempt))
+}
+
+fn same(one: &Attempt, other: &Attempt) -> bool
+    ensures { result ≡ is_same one.now other.now }
+{
+    one.slot == other.slot && one.version == other.version
+}
+
+// The launch of the slot's live attempt.
+fn launch_at(
+    alloc: Global,
+    farm: &Farm,
+    slot: &SlotRow,
+    proc: &ProcRow,
+) -> Result<Option<Launch>, AllocError>
+    ensures { IfOk result (λ launch. launch ≡ launch_of farm.now slot.now proc.now) }
+{
+    let Some(frame) = slot.frame else {
+        return Ok(None);
+    };
+    let Some(job) = farm.job(frame.job) else {
+        return Ok(None);
+    };
+    let Some(layer) = farm.layer(frame.job, frame.layer) else {
+        return Ok(None);
+    };
+    Ok(Some(launch_of_frame(alloc, proc, &frame, job, layer)?))
+}
+
+fn launch_of_frame(
+    alloc: Global,
+    proc: &ProcRow,
+    frame: &Frame,
+    job: &JobRow,
+    layer: &LayerRow,
+) -> Result<Launch, AllocError>
+    ensures { IfOk result (λ launch. launch ≡ launch_for proc.now frame.now job.now layer.now) }
+{
+    let command = expand(
+        alloc,
+        layer.command.as_str(),
+        job.name.as_str(),
+        layer.name.as_str(),
+        frame.number,
+    )?;
+    let name = frame_name(alloc, frame.number, layer.name.as_str())?;
+    let job = job.name.copy(alloc)?;
+    let layer = layer.name.copy(alloc)?;
+    Ok(Launch {
+        attempt: Attempt {
+            slot: proc.slot,
+            version: proc.version,
+        },
+        command,
+        cores: proc.cores,
+        frame: name,
+        job,
+        layer,
+        memory: proc.memory,
+    })
+}

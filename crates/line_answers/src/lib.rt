@@ -1,0 +1,15 @@
+//! The answer to one line: what it records in the farm, and the line of its reply.
+#![tactic(auto)]
+
+mod answer;
+mod answer_entry;
+mod answer_report;
+mod launches;
+mod laws;
+mod reply_line;
+
+pub use answer::answer_line;
+pub use laws::{
+    lines_are_answered_by_what_they_ask, sessions_are_legal, taken_reports_have_their_round,
+};
+pub use reply_line::ReplyLine;

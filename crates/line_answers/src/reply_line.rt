@@ -1,0 +1,72 @@
+//! Replies as lines, each with its newline.
+
+ghost use Rattle.std.specs.Prelude.{◌≡◌, ◌++◌, ◌∷◌, [], IfOk};
+ghost use Rattle.farm_lines.specs.declared.reply.Reply.TheVariants.{Refused};
+ghost use Rattle.farm_lines.specs.Reply.{reply_text};
+ghost use Rattle.line_answers.specs.Lines.{IsLineOf, shown};
+
+use farm_lines::Reply;
+use farm_types::{Refusal, Text};
+use report_codec::write_reply;
+use std::alloc::{AllocError, Global};
+
+const TOO_LONG: &str = "{\"code\":2,\"ok\":false,\"why\":\"too_long\"}\n";
+
+const NO_MEMORY: &str = "{\"code\":16,\"ok\":false,\"why\":\"memory\"}\n";
+
+/// The line of a reply: one that was written for it, or one of the two that take no memory.
+#[derive(Drop)]
+pub enum ReplyLine {
+    Written(Text),
+    TooLong,
+    NoMemory,
+}
+
+impl ReplyLine {
+    /// The line's bytes, its newline too.
+    #[tactic(auto, using(crate::proofs::LineLemmas::too_long_text, crate::proofs::LineLemmas::no_memory_text))]
+    pub fn bytes(&self) -> &[u8]
+        ensures { result.now ≡ shown self.now }
+    {
+        match self {
+            ReplyLine::Written(line) => line.as_str().as_bytes(),
+            ReplyLine::TooLong => TOO_LONG.as_bytes(),
+            ReplyLine::NoMemory => NO_MEMORY.as_bytes(),
+        }
+    }
+}
+
+/// The line of the reply, or that memory ran out.
+pub fn line_of(alloc: Global, reply: &Reply) -> ReplyLine
+    ensures { IsLineOf reply.now (shown result) }
+{
+    match write_line(alloc, reply) {
+        Ok(line) => ReplyLine::Written(line),
+        Err(_) => ReplyLine::NoMemory,
+    }
+}
+
+/// The line of a refusal, or that memory ran out.
+pub fn refusal_line(alloc: Global, why: Refusal) -> ReplyLine
+    ensures { IsLineOf (Refused why) (shown result) }
+{
+    line_of(alloc, &Reply::Refused(why))
+}
+
+/// The reply's text with a newline.
+pub fn write_line(alloc: Global, reply: &Reply) -> Result<Text, AllocError>
+    ensures { IfOk result (λ line. line ≡ reply_text reply.now ++ 10 ∷ []) }
+{
+    let text = write_reply(alloc, reply)?;
+    with_newline(alloc, text.as_str())
+}
+
+// The text with a newline behind it.
+fn with_newline(alloc: Global, text: &str) -> Result<Text, AllocError>
+    ensures { IfOk result (λ line. line ≡ text.now ++ 10 ∷ []) }
+{
+    let mut line = String::with_capacity(alloc, text.len())?;
+    line.push_str(text)?;
+    line.push_str("\n")?;
+    Ok(Text::from_string(line))
+}

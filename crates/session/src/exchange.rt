@@ -1,0 +1,64 @@
+//! One exchange: a line is read, answered, and its reply written.
+
+ghost use Rattle.std.specs.Prelude.{◌≡◌, ◌≤◌, ℕ, List};
+ghost use Rattle.cue_io.specs.Faults.{HasRisen};
+ghost use Rattle.cue_io.specs.Input.{Takes};
+ghost use Rattle.cue_io.specs.Output.{Adds};
+ghost use Rattle.cue_io.specs.Reader.{IsPending};
+ghost use Rattle.cue_io.specs.Readings.{Tells};
+ghost use Rattle.session.specs.Sessions.{IsStep, Sends};
+ghost use Rattle.line_answers.specs.Lines.{shown};
+ghost use Rattle.farm_lines.specs.declared.limits.TheConstants.{LINE_LIMIT};
+
+use crate::exchanged::Exchanged;
+use cue_io::{Clock, Line, LineFault, LineReader, Sink, Source, write_all};
+use farm_core::Farm;
+use line_answers::{ReplyLine, answer_line, lines_are_answered_by_what_they_ask};
+use std::alloc::Global;
+
+/// Reads one line, answers it, and writes its reply.
+pub fn exchange<S: Source, W: Sink, C: Clock>(
+    alloc: Global,
+    farm: &mut Farm,
+    reader: &mut LineReader,
+    source: &mut S,
+    sink: &mut W,
+    clock: &mut C,
+) -> Exchanged
+    requires limit { reader.old.limit ≡ LINE_LIMIT }
+    requires pending { (pending : List ℕ) × IsPending reader.old pending }
+    ensures step { (took wrote seen : List ℕ) × Takes (S.left source.old) (S.left source.new) took × Adds (W.written sink.old) (W.written sink.new) wrote
+        × Tells (C.readings clock.old) (C.readings clock.new) seen × IsStep result reader.old reader.new (S.left source.new) farm.old farm.new took wrote seen }
+    ensures read { result ≡ Exchanged.Read → HasRisen (S.faults source.old) (S.faults source.new) }
+    ensures write { result ≡ Exchanged.Write → HasRisen (W.faults sink.old) (W.faults sink.new) }
+    ensures source { S.faults source.old ≤ S.faults source.new }
+    ensures sink { W.faults sink.old ≤ W.faults sink.new }
+{
+    match reader.next(source) {
+        Ok(Line::Bytes(line)) => {
+            let moment = clock.now();
+            let reply = answer_line(alloc, farm, line, moment);
+            send(sink, &reply)
+        }
+        Ok(Line::TooLong) => {
+            let _moment = clock.now();
+            lines_are_answered_by_what_they_ask();
+            send(sink, &ReplyLine::TooLong)
+        }
+        Ok(Line::End) => Exchanged::End,
+        Err(LineFault::Read) => Exchanged::Read,
+        Err(LineFault::Spent) => Exchanged::Spent,
+    }
+}
+
+// Writes a reply.
+fn send<W: Sink>(sink: &mut W, reply: &ReplyLine) -> Exchanged
+    ensures sends { (wrote : List ℕ) × Adds (W.written sink.old) (W.written sink.new) wrote × Sends result (shown reply.now) wrote }
+    ensures cause { result ≡ Exchanged.Write → HasRisen (W.faults sink.old) (W.faults sink.new) }
+    ensures rises { W.faults sink.old ≤ W.faults sink.new }
+{
+    match write_all(sink, reply.bytes()) {
+        Ok(()) => Exchanged::Went,
+        Err(_) => Exchanged::Write,
+    }
+}

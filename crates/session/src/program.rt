@@ -1,0 +1,70 @@
+//! The program's whole work: a hint for who calls it, and then the call.
+
+ghost use Rattle.std.specs.Prelude.{◌≡◌, ◌↔◌, None, is_some};
+ghost use Rattle.cue_io.specs.Faults.{HasRisen};
+ghost use Rattle.session.specs.Hints.{HasTold, hint_of};
+ghost use Rattle.session.specs.Sessions.{Call, IsCall, streams};
+ghost use Rattle.session.specs.Words.{form_of};
+
+use crate::run::{Status, run_cuebot};
+use crate::word_forms::form;
+use cue_io::{Clock, Sink, Source, write_all};
+use farm_types::Text;
+use std::alloc::Global;
+
+const USAGE: &str =
+    "usage: cuebot demo | script STORE | load N | serve STORE PORT WORKERS CONNECTIONS\n";
+
+const WAITING: &str = "cuebot: waiting for lines, each a JSON object; end the input with Ctrl-D\n";
+
+/// Runs `cuebot` for the words after its name, as `run_cuebot` does, and before that writes a hint on `errors`: the usage for invalid words,
+/// and at a terminal what is waited for. What can't be written of the hint is passed over.
+pub fn run_program<S: Source, W: Sink, E: Sink, C: Clock>(
+    alloc: Global,
+    words: &[Text],
+    at_terminal: bool,
+    source: &mut S,
+    sink: &mut W,
+    errors: &mut E,
+    clock: &mut C,
+) -> Status
+    // Status 2 comes exactly where the words are invalid.
+    ensures usage { (result ≡ 2) ↔ (form_of words.now ≡ None) }
+
+    // What was taken, written and read of the clock, and the exchanges, as `run_cuebot` says.
+    ensures call { (call : Call) × IsCall words.now result
+        (streams (S.left source.old) (S.faults source.old) (W.written sink.old) (W.faults sink.old) (C.readings clock.old))
+        (streams (S.left source.new) (S.faults source.new) (W.written sink.new) (W.faults sink.new) (C.readings clock.new)) call }
+
+    // A failed read or write is told only where the source's or the sink's count of faults rose in this call.
+    ensures read { result ≡ 4 → HasRisen (S.faults source.old) (S.faults source.new) }
+    ensures write { result ≡ 5 → HasRisen (W.faults sink.old) (W.faults sink.new) }
+
+    // The hint was written, and nothing else was written there.
+    ensures hint { HasTold (hint_of (is_some (form_of words.now)) at_terminal) (E.written errors.old) (E.written errors.new)
+        (HasRisen (E.faults errors.old) (E.faults errors.new)) }
+{
+    tell(errors, hint_for(words, at_terminal));
+    run_cuebot(alloc, words, source, sink, clock)
+}
+
+// The hint: the usage for invalid words, and at a terminal what is waited for. It is empty where there is none.
+fn hint_for(words: &[Text], at_terminal: bool) -> &'static str
+    ensures { result.now ≡ hint_of (is_some (form_of words.now)) at_terminal }
+{
+    match form(words) {
+        None => USAGE,
+        Some(_) if at_terminal => WAITING,
+        Some(_) => "",
+    }
+}
+
+// Writes the hint, and passes over what can't be written of it.
+fn tell<E: Sink>(errors: &mut E, hint: &str)
+    ensures { HasTold hint.now (E.written errors.old) (E.written errors.new) (HasRisen (E.faults errors.old) (E.faults errors.new)) }
+{
+    match write_all(errors, hint.as_bytes()) {
+        Ok(()) => {}
+        Err(_) => {}
+    }
+}
