@@ -1,10 +1,9 @@
 //! Lines from a source.
 ghost use Rattle.std.specs.Prelude.{◌≡◌, ℕ, ◌+◌, ◌<◌, ◌≤◌, List, false, nat_eq, length, take, IfOk, IsErrOf, OnErr, MatchOption, MatchResult, [], ◌⊎◌};
-ghost use Rattle.std.specs.List.{position};
 ghost use Rattle.std.specs.Borrow.{sem};
 ghost use Rattle.std.specs.Io.BufRead.{Rests};
 ghost use Rattle.cue_io.specs.Faults.{HasRisen};
-ghost use Rattle.cue_io.specs.Lines.{has_newline, is_newline};
+ghost use Rattle.cue_io.specs.Lines.{has_newline};
 ghost use Rattle.cue_io.specs.Reader.{Held, IsAhead, Moves, WasNeeded, given_by, new_reader};
 ghost use Rattle.cue_io.specs.Steps.{IsSound, Fetches, after_last, after_line, found_at, found_last, passed_over, shown_as, IsFirstNewline};
 
@@ -12,6 +11,7 @@ use crate::limits::{BYTE_LIMIT, READ_CAPACITY};
 use crate::line::{Found, Line, LineFault};
 use crate::source::{Source, SourceFault};
 use crate::window::Window;
+use memchr::memchr;
 use std::alloc::{AllocError, Global};
 use std::marker::Model;
 
@@ -222,14 +222,8 @@ fn newline_from(bytes: &[u8], from: usize) -> Option<usize>
     ensures { MatchOption result (has_newline bytes.now ≡ false) (λ at.
         (at < length bytes.now) × IsFirstNewline bytes.now at) }
 {
-    match first_newline(&bytes[from..]) {
+    match memchr(b'\n', &bytes[from..]) {
         Some(at) => Some(from + at),
         None => None,
     }
-}
-
-fn first_newline(bytes: &[u8]) -> Option<usize>
-    ensures { result ≡ position is_newline bytes.now }
-{
-    bytes.iter().position(|b| *b == b'\n')
 }

@@ -89,6 +89,7 @@ impl Window {
         self.start = 0;
         self.end = 0;
     }
+
     /// One read from the source, of at most `most` bytes: how many came. Where it fails, nothing did.
     pub fn fill<S: Source>(&mut self, source: &mut S, most: usize) -> Result<usize, SourceFault>
         requires capacity { length self.old.held < self.old.size }
@@ -116,7 +117,8 @@ impl Window {
 }
 
 /// Where the bytes held in `start..end` start once there is capacity behind them: they are moved to the front where they
-/// reach the end of the buffer.
+/// reach the end of the buffer. Where none are held that is the front, so that lines which come one by one pass through
+/// the same few bytes of the buffer.
 fn with_capacity(buffer: &mut Vec<u8>, start: usize, end: usize) -> usize
     requires ordered { start ≤ end }
     requires within { end ≤ vec_len buffer.old }
@@ -125,6 +127,9 @@ fn with_capacity(buffer: &mut Vec<u8>, start: usize, end: usize) -> usize
     ensures capacity { end - start < vec_len buffer.old → result + (end - start) < vec_len buffer.old }
     ensures fits { result + (end - start) ≤ vec_len buffer.old }
 {
+    if start == end {
+        return 0;
+    }
     if end < buffer.len() {
         return start;
     }
