@@ -1,18 +1,1 @@
-pub mod HostCount
-pub mod DemoKept
-pub mod DemoLimits
-pub mod DistinctNumbers
-pub mod SilentHosts
-pub mod FittingChanges
-pub mod WaitingFarm
-pub mod ConsistentChanges
-pub mod KeptChanges
-pub mod FoundByName
-pub mod PlannedBoots
-pub mod PreparedChanges
-pub mod ReleasedSlot
-pub mod Subscribed
-pub mod TotalAt
-pub mod BookedTotals
-pub mod SlotChanges
-pub mod GreatestAmounts
+mod KeptChanges

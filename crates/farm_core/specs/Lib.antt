@@ -1,13 +1,1 @@
 pub mod Change
-pub mod Consistent
-pub mod DemoJob
-pub mod LostHosts
-pub mod WaitingSlots
-pub mod Inside
-pub mod EffectKinds
-pub mod Reads
-pub mod Refused
-pub mod Capacity
-pub mod Totals
-pub mod SlotChange
-pub mod Usage

@@ -1,26 +1,13 @@
-//! The farm: its books, what an entry does to them, and when a frame may be booked.
+//! The farm: what an entry does to it, and when a frame may be booked. Each farm keeps what every farm keeps.
 #![tactic(auto)]
 
-mod apply;
-mod apply_host;
-mod apply_rows;
-mod attempt;
 mod booking;
-mod change;
 mod demo;
-mod expire;
 mod farm;
-mod fault;
 mod look;
-mod prepare;
-mod prepare_host;
-mod refused;
-mod shows;
-mod usage;
-mod used;
-mod verdict;
+mod read;
+mod record;
 
-pub use change::Change;
 pub use demo::demo_farm;
 pub use farm::Farm;
-pub use fault::PrepareFault;
+pub use farm_books::{Change, PrepareFault};

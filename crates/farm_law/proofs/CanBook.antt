@@ -11,7 +11,7 @@ use Rattle.farm_types.specs.declared.slot_row.Frame.{Frame}
 use Rattle.farm_types.specs.Farm.{Farm, sub_at, job_at, layer_at, sub_of}
 use Rattle.farm_types.specs.Sums.{used_cores, used_memory, booked_in}
 use Rattle.farm_types.specs.Depends.{is_open}
-use Rattle.farm_types.specs.Booking.{is_waiting, is_ready, is_pending, in_facility, takes_frames, has_capacity, within_burst, may_record}
+use Rattle.farm_types.specs.Booking.{is_waiting, is_ready, is_pending, is_up, in_facility, takes_frames, has_capacity, within_burst, may_record}
 use Rattle.farm_types.specs.Step.{new_proc, proc_of}
 use Rattle.farm_types.proofs.Lists.{and_both, for_some_true}
 use Rattle.farm_types.specs.declared.limits.TheConstants.{LAST_VERSION}
@@ -40,6 +40,7 @@ pub record CanBook (f : Farm) (slot host : ℕ) (r : Rows) : Type 0 where
   pub memory : used_memory f host + r.layer.memory ≤ r.host.memory
   pub burst : booked_in f (sub_of r.job.show r.host.alloc) + r.layer.cores ≤ r.sub.burst
   pub facility : in_facility f r.host.alloc r.job.facility ≡ true
+  pub up : is_up r.host.state ≡ true
 
 pub can_book : (f : Farm) (slot host : ℕ) → may_record f slot host ≡ true → (r : Rows) × CanBook f slot host r
 can_book f slot host h0 =
@@ -74,6 +75,7 @@ can_book f slot host h0 =
         memory = leb-true _ _ fits.1;
         burst = leb-true _ _ sub.2;
         facility = h2.1;
+        up = (and_both (is_up host_row.0.state) _ h3.1).0;
       },
     )
 

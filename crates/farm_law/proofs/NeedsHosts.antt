@@ -10,6 +10,7 @@ use Rattle.farm_types.specs.declared.entry.Act.TheVariants.{Boot}
 use Rattle.farm_types.specs.declared.slot_row.SlotRow.{SlotRow}
 use Rattle.farm_types.specs.declared.states.FrameState.TheVariants.{Running}
 use Rattle.farm_types.specs.Farm.{Farm, empty_farm}
+use Rattle.farm_types.specs.Formed.{IsFormedBoot}
 use Rattle.farm_types.specs.Hosts.{new_host}
 use Rattle.farm_types.specs.Run.{IsSound, IsLegal, IsSafe, HasItsAttempt}
 
@@ -40,8 +41,17 @@ hostless_attempts (suc i) s at = absurd (none-some s at)
 hostless_sound : IsSound hostless
 hostless_sound = record { cores = λ n row at. absurd (none-some row at); memory = λ n row at. absurd (none-some row at); attempts = hostless_attempts }
 
+small_formed : IsFormedBoot small_boot
+small_formed =
+    record {
+      host = refl;
+      nonce_within = omega arith;
+      tags = refl;
+      limits = record { tags_within = omega arith; cores_within = (omega arith, omega arith); memory_within = (omega arith, omega arith) };
+    }
+
 boots_legal : IsLegal hostless boots
-boots_legal = (record { accepted = refl; condition = tt }, tt)
+boots_legal = (record { formed = record { moment_within = omega arith; act_formed = small_formed }; accepted = refl; condition = tt }, tt)
 
 -- the new host has 50 hundredths of a core, and 100 are used of it
 boots_unsafe : IsSafe hostless boots → ⊥

@@ -128,7 +128,8 @@ filled_attempt place version None None x free w h = waiting_attempt place versio
 filled_attempt place version None (Some p) x free w h = absurd h
 filled_attempt place version (Some frame) proc x free w h = absurd (false≢true free)
 
-free_none : (s : SlotRow) → is_free s ≡ true → is_none s.frame ≡ true
+-- a free slot has no frame
+pub free_none : (s : SlotRow) → is_free s ≡ true → is_none s.frame ≡ true
 free_none s free = (and_both (is_none s.frame) (nat_below s) free).0
   where
     nat_below : SlotRow → Bool

@@ -12,7 +12,7 @@ use Rattle.farm_types.specs.declared.entry.Entry.{Entry}
 -- ---- one entry
 
 -- the entry's moment changes no row
-moment_law : (f : Farm) (moment : ℕ) → KeepsLaw f (at_moment f moment)
+pub moment_law : (f : Farm) (moment : ℕ) → KeepsLaw f (at_moment f moment)
 moment_law f moment = law_of_same_rows f (at_moment f moment) refl refl refl refl
 
 pub step_law : (f : Farm) (e : Entry) → IsLegalStep f e → KeepsLaw f (after f e)

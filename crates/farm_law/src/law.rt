@@ -1,12 +1,14 @@
 //! The laws of the farm's runs: functions that do nothing, whose contracts are the laws.
 
-ghost use Rattle.std.specs.Prelude.{◌≡◌, ◌<◌, ℕ, List, true};
+ghost use Rattle.std.specs.Prelude.{◌≡◌, ◌<◌, ◌^◌, ℕ, List, true};
 ghost use Rattle.std.specs.List.{list_all};
 ghost use Rattle.farm_types.specs.declared.entry.Entry.{Entry};
 ghost use Rattle.farm_types.specs.declared.limits.TheConstants.{LAST_VERSION};
 ghost use Rattle.farm_types.specs.Booking.{suits, version_at};
+ghost use Rattle.farm_types.specs.Demo.{demo_farm};
 ghost use Rattle.farm_types.specs.Dispatch.{candidate_suits, plan_for};
-ghost use Rattle.farm_types.specs.Farm.{Farm};
+ghost use Rattle.farm_types.specs.Farm.{Farm, empty_farm};
+ghost use Rattle.farm_types.specs.Kept.{IsKeptFarm};
 ghost use Rattle.farm_types.specs.Run.{IsSound, HasItsHosts, IsLegal, IsSafe, run_of};
 
 /// Every legal run of entries from a sound farm with its hosts is safe: no host is ever used past its cores or
@@ -37,4 +39,12 @@ pub fn candidates_suit()
 /// one. No such run needs to begin in a sound farm.
 pub fn suits_stays()
     ensures { (f : Farm) (es : List Entry) (slot version host sub : ℕ) → IsLegal f es → suits f slot version host sub ≡ true → version_at (run_of f es) slot ≡ version → version < LAST_VERSION → suits (run_of f es) slot version host sub ≡ true }
+{}
+
+/// What every farm of the program keeps: the empty farm and the demonstration's do, and so does every legal run from a
+/// farm that does.
+pub fn legal_runs_keep_farms()
+    ensures empty { IsKeptFarm empty_farm }
+    ensures demo { (moment : ℕ) → moment < 2 ^ 64 → IsKeptFarm (demo_farm moment) }
+    ensures runs { (f : Farm) (es : List Entry) → IsKeptFarm f → IsLegal f es → IsKeptFarm (run_of f es) }
 {}

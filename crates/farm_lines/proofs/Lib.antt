@@ -1,2 +1,5 @@
 pub mod AmountLemmas
+pub mod FieldLemmas
 pub mod PointLemmas
+pub mod RequestLemmas
+pub mod SpecLemmas

@@ -1,6 +1,5 @@
 -- What a job spec says, or its first fault. The form of every field is tried first, in order; then the amounts are, in order.
-use Rattle.std.specs.Prelude.{ℕ, ◌==◌, ◌||◌, Bool, false, List, [], ◌∷◌, codes, length, nat_le, Option, None, Some, Result, Ok, Err, ⊤, if◌then◌else◌}
-use Rattle.std.specs.List.{list_all}
+use Rattle.std.specs.Prelude.{ℕ, Bool, false, List, [], ◌∷◌, codes, length, Option, None, Some, Result, Ok, Err, ⊤, if◌then◌else◌}
 use Rattle.serde_json.specs.Data.{Data, Items, no_items, item, Members}
 use Rattle.serde_json.specs.Find.{as_str}
 use Rattle.cue_json.specs.Fields.{Fault, WrongKind, ◌>>=◌, of_kind, text_at, whole_at, flag_at, list_at, others_at, has_key}
@@ -13,9 +12,8 @@ use Rattle.farm_types.specs.declared.job.LayerSpec.{LayerSpec}
 use Rattle.farm_lines.specs.declared.job_form.JobForm.{JobForm}
 use Rattle.farm_lines.specs.declared.job_form.LayerForm.{LayerForm}
 use Rattle.farm_types.specs.Jobs.{frames_in}
-use Rattle.farm_types.specs.declared.limits.TheConstants.{LEAST_CORES, LEAST_MEMORY, MOST_COMMAND, MOST_CORES, MOST_FRAMES, MOST_LAYERS, MOST_MEMORY, MOST_PRIORITY, MOST_RETRIES, MOST_TAGS}
-use Rattle.farm_lines.specs.declared.limits.TheConstants.{MOST_RANGE}
-use Rattle.farm_types.specs.Forms.{is_name_text, is_tag_text, is_between}
+use Rattle.farm_types.specs.declared.limits.TheConstants.{LEAST_CORES, LEAST_MEMORY, MOST_COMMAND, MOST_CORES, MOST_FRAMES, MOST_LAYERS, MOST_MEMORY, MOST_PRIORITY, MOST_RANGE, MOST_RETRIES, MOST_TAGS}
+use Rattle.farm_types.specs.Forms.{is_command_text, is_name_or_empty, is_tag_text, is_between}
 use Rattle.farm_lines.specs.Points.{cores_of}
 use Rattle.farm_lines.specs.Fields.{name_at, list_of}
 
@@ -26,17 +24,6 @@ pub data SpecError : Type 0 where
   Amount : List ℕ → SpecError
 
 -- ---- forms of texts
-
--- no name, or a name
-abbrev pub is_name_or_empty : List ℕ → Bool
-is_name_or_empty text = length text == 0 || is_name_text text
-
--- no byte below 32, so no line break, no tab and no other control byte
-abbrev pub is_command_byte : ℕ → Bool
-is_command_byte b = nat_le 32 b
-
-abbrev pub is_command_text : List ℕ → Bool
-is_command_text text = list_all is_command_byte text
 
 -- the text, where it is of that form
 abbrev pub of_form : (List ℕ → Bool) → List ℕ → List ℕ → Result (List ℕ) Fault

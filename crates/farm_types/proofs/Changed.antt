@@ -18,12 +18,13 @@ length-changed_by xs i change (Some x) = length-set xs i (change x)
 pub length-changed_at : {X : Type 0} (xs : List X) (i : ℕ) (change : X → X) → length (changed_at xs i change) ≡ length xs
 length-changed_at xs i change = length-changed_by xs i change (slice_get xs i)
 
-slice_get-set_same : {X : Type 0} (xs : List X) (i : ℕ) (x y : X) → slice_get xs i ≡ Some x → slice_get (slice_set xs i y) i ≡ Some y
+-- the item at a place that is set, and at another
+pub slice_get-set_same : {X : Type 0} (xs : List X) (i : ℕ) (x y : X) → slice_get xs i ≡ Some x → slice_get (slice_set xs i y) i ≡ Some y
 slice_get-set_same [] i x y at = absurd (none-some x at)
 slice_get-set_same (z ∷ zs) zero x y at = refl
 slice_get-set_same (z ∷ zs) (suc i) x y at = slice_get-set_same zs i x y at
 
-slice_get-set_other : {X : Type 0} (xs : List X) (i k : ℕ) (y : X) → k ≢ i → slice_get (slice_set xs i y) k ≡ slice_get xs k
+pub slice_get-set_other : {X : Type 0} (xs : List X) (i k : ℕ) (y : X) → k ≢ i → slice_get (slice_set xs i y) k ≡ slice_get xs k
 slice_get-set_other [] i k y apart = refl
 slice_get-set_other (z ∷ zs) zero zero y apart = absurd (apart refl)
 slice_get-set_other (z ∷ zs) zero (suc k) y apart = refl

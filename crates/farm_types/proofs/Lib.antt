@@ -4,4 +4,5 @@ pub mod ChangesInTurn
 pub mod ListSums
 pub mod Lists
 pub mod Passes
+pub mod Ranges
 pub mod Stays

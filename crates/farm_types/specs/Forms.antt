@@ -25,3 +25,14 @@ is_tag_byte b = is_letter_or_digit b || b == 95 || b == 45
 -- 1 to 31 bytes of a tag
 abbrev pub is_tag_text : List ℕ → Bool
 is_tag_text text = is_between 1 MOST_TAG (length text) && list_all is_tag_byte text
+
+-- no name, or a name
+abbrev pub is_name_or_empty : List ℕ → Bool
+is_name_or_empty text = length text == 0 || is_name_text text
+
+-- no byte below 32, so no line break, no tab and no other control byte
+abbrev pub is_command_byte : ℕ → Bool
+is_command_byte b = nat_le 32 b
+
+abbrev pub is_command_text : List ℕ → Bool
+is_command_text text = list_all is_command_byte text

@@ -4,11 +4,15 @@ pub mod Demo
 pub mod Depends
 pub mod Dispatch
 pub mod Farm
+pub mod Formed
 pub mod Forms
 pub mod Hosts
 pub mod Jobs
+pub mod Kept
 pub mod Limits
 pub mod Lost
+pub mod Ranges
+pub mod Rising
 pub mod Run
 pub mod SpecLimits
 pub mod Step

@@ -16,6 +16,7 @@ use Rattle.farm_types.specs.declared.states.FrameState.TheVariants as frame_stat
 use Rattle.farm_types.specs.Farm.{Farm, changed_at, sub_at, host_named}
 use Rattle.farm_types.specs.Sums.{used_cores, used_memory, booked_in}
 use Rattle.farm_types.specs.Depends.{is_open}
+use Rattle.farm_types.specs.Formed.{IsFormed}
 use Rattle.farm_types.specs.Hosts.{heard_row}
 use Rattle.farm_types.specs.Step.{refusal_of, HasCondition, after, at_moment, moment_of, expire, is_live, end_attempt}
 
@@ -26,8 +27,9 @@ abbrev pub run_of : Farm → List Entry → Farm
 run_of f [] = f
 run_of f (e ∷ es) = run_of (after f e) es
 
--- the farm doesn't refuse the entry, and a booking may be recorded
+-- the entry is within its forms and limits, the farm doesn't refuse it, and a booking may be recorded
 pub record IsLegalStep (f : Farm) (e : Entry) : Type 0 where
+  pub formed : IsFormed e
   pub accepted : refusal_of f e ≡ None
   pub condition : HasCondition f e.act
 

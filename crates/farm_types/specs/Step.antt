@@ -31,9 +31,7 @@ use Rattle.farm_types.specs.Verdict.{verdict_of}
 use Rattle.farm_types.specs.Booking.{may_record}
 use Rattle.farm_types.specs.Hosts.{heard_row, reopened_row, locked_row, is_unheard, silenced, is_same_life, booted}
 use Rattle.farm_types.specs.Jobs.{JobLists, with_job, job_refusal}
-use Rattle.farm_types.specs.Limits.{BootKeepsLimits, SubKeepsLimits}
 use Rattle.farm_types.specs.Lost.{lose_on}
-use Rattle.farm_types.specs.SpecLimits.{JobKeepsLimits}
 use Rattle.farm_types.specs.Subs.{with_sub}
 use Rattle.farm_types.specs.declared.limits.TheConstants.{LAST_BOOT, MOST_ALLOCS, MOST_HOSTS, MOST_SHOWS}
 
@@ -125,13 +123,6 @@ refusal_of f e = act_refusal f e.act
 abbrev pub HasCondition : Farm → Act → Type 0
 HasCondition f (act.Book slot host) = may_record f slot host ≡ true
 HasCondition f other = Unit {0}
-
--- the amounts of a subscription, a boot and a job are within their limits
-abbrev pub KeepsLimits : Act → Type 0
-KeepsLimits (act.Sub line) = SubKeepsLimits line
-KeepsLimits (act.Boot line) = BootKeepsLimits line
-KeepsLimits (act.Submit spec) = JobKeepsLimits spec
-KeepsLimits other = Unit {0}
 
 -- ---- hosts that are silent
 

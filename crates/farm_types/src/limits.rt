@@ -63,8 +63,14 @@ pub const MOST_LAYERS: u32 = 64;
 /// How many frames a job has at most.
 pub const MOST_FRAMES: u32 = 10_000;
 
+/// How many bytes a layer's range has at most, as it is written.
+pub const MOST_RANGE: u32 = 1024;
+
 /// How many bytes a layer's command has at most.
 pub const MOST_COMMAND: u32 = 4096;
+
+/// The greatest exit status and the greatest exit signal.
+pub const MOST_EXIT: u32 = 65_535;
 
 /// For so many seconds a host may be silent.
 pub const SILENT_SECONDS: u64 = 300;

@@ -37,6 +37,14 @@ impl Text {
         Text { string }
     }
 
+    /// The text as a string, with no copy.
+    pub fn into_string(self) -> String
+        ensures { string_bytes result ≡ self }
+    {
+        let Text { string } = self;
+        string
+    }
+
     /// An equal text.
     pub fn copy(&self, alloc: Global) -> Result<Text, AllocError>
         ensures { IfOk result (λ copy. copy ≡ self.now) }

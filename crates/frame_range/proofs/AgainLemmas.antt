@@ -28,7 +28,7 @@ use Rattle.frame_range.specs.declared.limits.TheConstants.{GREATEST}
 
 -- ---- numbers
 
-own : IsNumeralModel (λ ds. all_ascii_digits ds ≡ true) (value_from 0)
+pub own : IsNumeralModel (λ ds. all_ascii_digits ds ≡ true) (value_from 0)
 own = numerals_by_fold _ tells_all_ascii_digits value_from (search rules)
 
 decimal_digits : (n : ℕ) → n < 2 ^ 64 → IsDigits (decimal n)
@@ -67,7 +67,7 @@ past_no : (b : Bool) (f : RangeFault) (rest : Option RangeFault) → cond b (Som
 past_no true f rest h = absurd (cc)
 past_no false f rest h = refl
 
-in_range : (place : ℕ) (listed : List ℤ) (s : Section) → fault_of place listed s ≡ None → has_past s ≡ false
+pub in_range : (place : ℕ) (listed : List ℤ) (s : Section) → fault_of place listed s ≡ None → has_past s ≡ false
 unfolding fault_of
 in_range place listed s h = past_no (has_past s) (OutOfRange place) _ h
 
@@ -150,7 +150,7 @@ grown before now h g =
     subst IsSet (sym g.is)
     (record { faultless = (set_push before g.one (length before + 1) refl h g.faultless).faultless; some = pushed_some before g.one })
 
-bind_ok : {A B : Type 0} (r : Result A RangeFault) (f : A → Result B RangeFault) (y : B) → (r >>= f) ≡ Ok y → (x : A) × (r ≡ Ok x) × (f x ≡ Ok y)
+pub bind_ok : {A B : Type 0} (r : Result A RangeFault) (f : A → Result B RangeFault) (y : B) → (r >>= f) ≡ Ok y → (x : A) × (r ≡ Ok x) × (f x ≡ Ok y)
 bind_ok (Ok x) f y h = (x, refl, h)
 bind_ok (Err e) f y h = absurd (cc)
 

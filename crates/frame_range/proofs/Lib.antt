@@ -3,6 +3,7 @@ pub mod AgainLemmas
 pub mod DistinctLemmas
 pub mod EmptyLemmas
 pub mod GrammarLemmas
+pub mod LengthLemmas
 pub mod NumberLemmas
 pub mod OtherLemmas
 pub mod PieceLemmas

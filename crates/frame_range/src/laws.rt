@@ -1,6 +1,6 @@
 //! Laws of the definitions that the calls are proved against.
 
-ghost use Rattle.std.specs.Prelude.{◌≡◌, ◌↔◌, ℕ, ℤ, List, Some, Ok, slice_get};
+ghost use Rattle.std.specs.Prelude.{◌≡◌, ◌≤◌, ◌↔◌, ℕ, ℤ, List, Some, Ok, length, slice_get};
 ghost use Rattle.std.specs.List.{list_any};
 ghost use Rattle.frame_range.specs.declared.section.Section.{Section};
 ghost use Rattle.frame_range.specs.Grammar.{Spells};
@@ -19,6 +19,12 @@ pub fn sections_are_read_as_spelled()
 /// What a set prints as is read as the same sections again.
 pub fn printed_sets_are_read_again()
     ensures { (text : List ℕ) (sections : List Section) → set_of text ≡ Ok sections → set_of (printed sections) ≡ Ok sections }
+{}
+
+/// What a set prints as is no longer than the text that it was read from.
+#[tactic(auto, using(crate::proofs::LengthLemmas::printed_short))]
+pub fn printed_sets_are_no_longer()
+    ensures { (text : List ℕ) (sections : List Section) → set_of text ≡ Ok sections → length (printed sections) ≤ length text }
 {}
 
 /// The place of a number of a set is where it stands, and there alone.

@@ -19,8 +19,8 @@ mod text;
 pub use fault::RangeFault;
 pub use frame_set::{FrameSet, parse_set};
 pub use laws::{
-    numbers_are_those_of_the_sections, numbers_stand_at_their_places, printed_sets_are_read_again,
-    sections_are_read_as_spelled,
+    numbers_are_those_of_the_sections, numbers_stand_at_their_places, printed_sets_are_no_longer,
+    printed_sets_are_read_again, sections_are_read_as_spelled,
 };
 pub use limits::MOST_NUMBERS;
 pub use section::Section;

@@ -1,4 +1,5 @@
 pub mod Booted
 pub mod KeptHosts
 pub mod Named
+pub mod Oldest
 pub mod Walked

@@ -45,6 +45,7 @@ impl Hosts {
         let host = HostNo(self.rows.len() as u16);
         add_name(&mut self.names, name);
         self.watched.push_reserved(now);
+        self.oldest = self.oldest.min(now);
         self.rows.push_reserved(new_host(line, alloc, now));
         host
     }
@@ -58,6 +59,7 @@ impl Hosts {
         let HostSpare { line, name: _name } = reserved;
         boot_at(&mut self.rows, host.0 as usize, line, now);
         self.watched[host.0 as usize] = now;
+        self.oldest = self.oldest.min(now);
     }
 }
 

@@ -16,6 +16,7 @@ impl Hosts {
     {
         hear_at(&mut self.rows, host.0 as usize, seq, now);
         self.watched[host.0 as usize] = now;
+        self.oldest = self.oldest.min(now);
     }
 
     /// The host is down.

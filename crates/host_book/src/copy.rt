@@ -19,6 +19,7 @@ impl Hosts {
             rows: copy_rows(alloc, self.rows.as_slice())?,
             names: copy_names(&self.names)?,
             watched: copy_watched(alloc, self.watched.as_slice())?,
+            oldest: self.oldest,
         })
     }
 }

@@ -11,12 +11,14 @@ use std::marker::Model;
 
 /// The hosts, each at its number, 4,096 at most. Contracts see them as a list. Beside the rows are kept their names, so
 /// that a host is found without a walk, and what the walks over all hosts read: for each host that is up the moment
-/// when it was last heard, and the greatest number for one that is down.
+/// when it was last heard, and the greatest number for one that is down. None of these moments is before `oldest`, so that
+/// most questions for silent hosts are answered without a walk.
 #[derive(Debug, Drop)]
 pub struct Hosts {
     pub(crate) rows: Vec<HostRow>,
     pub(crate) names: IndexSet<String>,
     pub(crate) watched: Vec<u64>,
+    pub(crate) oldest: u64,
 }
 
 impl Model for Hosts {
@@ -41,6 +43,7 @@ impl Hosts {
             rows: Vec::with_capacity(alloc, MOST_HOSTS as usize)?,
             names: IndexSet::with_capacity(alloc, MOST_HOSTS as usize)?,
             watched: Vec::with_capacity(alloc, MOST_HOSTS as usize)?,
+            oldest: u64::MAX,
         })
     }
 

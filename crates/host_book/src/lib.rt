@@ -3,6 +3,7 @@
 
 mod apply;
 mod boots;
+mod bound;
 mod change;
 mod check;
 mod copy;

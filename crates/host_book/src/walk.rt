@@ -7,6 +7,7 @@ ghost use Rattle.farm_types.specs.Farm.{changed_at, for_some};
 ghost use Rattle.farm_types.specs.Hosts.{count_unheard, is_unheard, reopened_row, silenced, silenced_row};
 ghost use Rattle.host_book.specs.Inside.{is_past, watched_of};
 
+use crate::bound::least;
 use crate::change::put_down_at;
 use crate::hosts::Hosts;
 use farm_types::{HostNo, HostRow, HostState, SILENT_SECONDS};
@@ -26,6 +27,9 @@ impl Hosts {
     pub fn count_expired(&self, now: u64) -> u32
         ensures { result ≡ count_unheard now self.now }
     {
+        if !self.may_expire(now) {
+            return 0;
+        }
         count_past(self.watched.as_slice(), now) as u32
     }
 
@@ -33,7 +37,11 @@ impl Hosts {
     pub fn silence(&mut self, now: u64)
         ensures { self.new ≡ silenced now self.old }
     {
+        if !is_past(self.oldest, now) {
+            return;
+        }
         silence_all(&mut self.rows, &mut self.watched, now);
+        self.oldest = least(self.watched.as_slice());
     }
 
     /// Each host that is up counts as heard at the moment.
@@ -41,6 +49,7 @@ impl Hosts {
         ensures { self.new ≡ map (reopened_row now) self.old }
     {
         reopen_all(&mut self.rows, &mut self.watched, now);
+        self.oldest = now;
     }
 }
 
@@ -52,7 +61,7 @@ fn is_up(state: HostState) -> bool
 }
 
 // Whether more than 300 seconds have passed.
-fn is_past(heard: u64, now: u64) -> bool
+pub(crate) fn is_past(heard: u64, now: u64) -> bool
     ensures { result ≡ is_past now heard }
 {
     now.saturating_sub(heard) > SILENT_SECONDS

@@ -10,12 +10,18 @@ use Rattle.farm_types.specs.declared.slot_row.Frame.{Frame}
 use Rattle.farm_types.specs.declared.slot_row.SlotRow.{SlotRow}
 use Rattle.farm_types.specs.Jobs.{is_free, free_among, slot_with, fresh_slot, place_frames}
 use Rattle.job_book.specs.Book.{first_free}
+use Rattle.job_book.specs.Layers.{places_past, put_places}
 use Rattle.job_book.specs.Puts.{Puts, free_from}
 use Rattle.farm_types.specs.declared.limits.TheConstants.{SLOT_LIMIT}
 
 pub place_none : (slots : List SlotRow) → place_frames slots [] ≡ slots
 place_none [] = refl
 place_none (s ∷ ss) = refl
+
+-- no frames have no places
+pub put_none : (p : ℕ) (slots : List SlotRow) → put_places p slots [] ≡ []
+put_none p [] = refl
+put_none p (s ∷ ss) = refl
 
 pub free_cons : (b : Bool) (s : SlotRow) (ss : List SlotRow) → is_free s ≡ b → free_among (s ∷ ss) ≡ cond b 1 0 + free_among ss
 free_cons b s ss is = sum_by-cons (λ (r : SlotRow). cond (is_free r) 1 0) s ss ∙ ap (λ (t : Bool). cond t 1 0 + free_among ss) is
@@ -26,12 +32,14 @@ free_cons b s ss is = sum_by-cons (λ (r : SlotRow). cond (is_free r) 1 0) s ss 
 record PutHere (slots : List SlotRow) (x : Frame) (q : ℕ) (new : List SlotRow) : Type 0 where
   rest : (later : List Frame) → take (suc q) new ++ place_frames (drop (suc q) new) later ≡ place_frames slots (x ∷ later)
   left : free_among (drop (suc q) new) + 1 ≡ free_among slots
+  places : (p : ℕ) (later : List Frame) → put_places p slots (x ∷ later) ≡ (p + q) ∷ put_places (p + q + 1) (drop (suc q) new) later
 
 put_first : (b : Bool) (x : Frame) (s r : SlotRow) (rs : List SlotRow) → is_free r ≡ b → zero ≡ first_free (r ∷ rs) → r ≡ s → PutHere (r ∷ rs) x zero (slot_with x s ∷ rs)
 put_first true x s r rs free is same =
     record {
       rest = λ later. rw (free, same) refl;
       left = omega (arith, free_cons true r rs free);
+      places = λ p later. let here : p + 0 ≡ p = omega arith in rw (free, here) refl;
     }
 put_first false x s r rs free is same = absurd (omega (arith, rw free at is))
 
@@ -44,6 +52,7 @@ put_later false x r rs new q free is later =
     record {
       rest = λ frames. rw free (ap (λ ss. r ∷ ss) (there.rest frames));
       left = omega (arith, free_cons false r rs free, there.left);
+      places = λ p frames. let e : p + suc q ≡ p + 1 + q = omega arith in rw (free, e) (there.places (p + 1) frames);
     }
 
 put_here : (x : Frame) (s : SlotRow) (slots : List SlotRow) (q : ℕ) → q ≡ first_free slots → slice_get slots q ≡ Some s → PutHere slots x q (slice_set slots q (slot_with x s))
@@ -56,6 +65,7 @@ put_here x s (r ∷ rs) (suc q) is at = put_later (is_free r) x r rs (slice_set 
 record PutBehind (slots : List SlotRow) (x : Frame) (q : ℕ) : Type 0 where
   rest : (later : List Frame) → (slots ++ fresh_slot x ∷ []) ++ map fresh_slot later ≡ place_frames slots (x ∷ later)
   none : free_among slots ≡ 0
+  places : (p : ℕ) (later : List Frame) → put_places p slots (x ∷ later) ≡ (p + q) ∷ places_past (p + q + 1) later
   whole : q ≡ length slots
 
 behind_step : (b : Bool) (x : Frame) (r : SlotRow) (rs : List SlotRow) (q : ℕ) → is_free r ≡ b → q ≡ first_free (r ∷ rs) → slice_get (r ∷ rs) q ≡ None
@@ -69,12 +79,22 @@ behind_step false x r rs (suc q) free is at later =
     record {
       rest = λ frames. rw free (ap (λ ss. r ∷ ss) (there.rest frames));
       none = omega (arith, free_cons false r rs free, there.none);
+      places = λ p frames. let e : p + suc q ≡ p + 1 + q = omega arith in rw (free, e) (there.places (p + 1) frames);
       whole = omega (arith, there.whole);
     }
 
 put_behind : (x : Frame) (slots : List SlotRow) (q : ℕ) → q ≡ first_free slots → slice_get slots q ≡ None → PutBehind slots x q
-put_behind x [] q is at = record { rest = λ later. refl; none = refl; whole = is }
+put_behind x [] q is at = record { rest = λ later. refl; none = refl; whole = is; places = λ p later. let e : p + q ≡ p = omega (arith, is) in rw e refl }
 put_behind x (r ∷ rs) q is at = behind_step (is_free r) x r rs q refl is at (λ p e a. put_behind x rs p e a)
+
+-- where the frame goes, in either case
+pub goes_here : (x : Frame) (slots : List SlotRow) (p : ℕ) → put_places p slots (x ∷ []) ≡ (p + first_free slots) ∷ []
+goes_here x [] p = let e : p + 0 ≡ p = omega arith in rw e refl
+goes_here x (s ∷ ss) p = goes_by (is_free s) refl (goes_here x ss (p + 1))
+  where
+    goes_by : (b : Bool) → is_free s ≡ b → put_places (p + 1) ss (x ∷ []) ≡ (p + 1 + first_free ss) ∷ [] → put_places p (s ∷ ss) (x ∷ []) ≡ (p + first_free (s ∷ ss)) ∷ []
+    goes_by true free later = let e : p + 0 ≡ p = omega arith in rw (free, e) (ap (λ ns. p ∷ ns) (put_none (p + 1) ss))
+    goes_by false free later = let e : p + (1 + first_free ss) ≡ p + 1 + first_free ss = omega arith in rw (free, e) later
 
 -- ---- from a place on
 
@@ -105,6 +125,9 @@ module _ (front back : List SlotRow) (x : Frame) (q n : ℕ) (is : q ≡ first_f
         rest = λ later.
             rw (take_behind front new (n + q + 1) (suc q) place, drop_behind front new (n + q + 1) (suc q) place, take_behind front back n 0 start, drop_behind front back n 0 start)
             (append_assoc front (take (suc q) new) (place_frames (drop (suc q) new) later) ∙ ap (λ ss. front ++ ss) (here.rest later) ∙ sym (ap (λ ss. ss ++ place_frames back (x ∷ later)) (append-nil front)));
+        places = λ later.
+            rw (drop_behind front new (n + q + 1) (suc q) place, drop_behind front back n 0 start)
+            (here.places n later ∙ sym (ap (λ ns. ns ++ put_places (n + q + 1) (drop (suc q) new) later) (here.places n [] ∙ ap (λ ns. (n + q) ∷ ns) (put_none (n + q + 1) (drop (suc q) new)))));
         within = omega arith;
         slot_count = omega arith;
         left =
@@ -129,6 +152,9 @@ module _ (front back : List SlotRow) (x : Frame) (q n : ℕ) (is : q ≡ first_f
         rest = λ later.
             rw (take_behind front new (n + q + 1) (length new) all, drop_behind front new (n + q + 1) (length new) all, take_behind front back n 0 start, drop_behind front back n 0 start)
             (rw (take_whole new, drop_whole new) (append_assoc front new (map fresh_slot later) ∙ ap (λ ss. front ++ ss) (behind.rest later) ∙ sym (ap (λ ss. ss ++ place_frames back (x ∷ later)) (append-nil front))));
+        places = λ later.
+            rw (drop_behind front new (n + q + 1) (length new) all, drop_behind front back n 0 start)
+            (rw (drop_whole new) (behind.places n later ∙ sym (ap (λ ns. ns ++ places_past (n + q + 1) later) (behind.places n []))));
         within = omega arith;
         slot_count = omega arith;
         left =

@@ -16,7 +16,8 @@ use Rattle.farm_types.specs.Jobs.{JobLists, is_free, free_among, free_in}
 use Rattle.job_book.specs.declared.counts.Counts.{Counts}
 use Rattle.job_book.specs.Book.{is_in, count_in, counts_of, number_of, row_in_state, attempted_row}
 use Rattle.job_book.specs.Counting.{one, part, moved, CanMove}
-use Rattle.job_book.specs.Inside.{IsBook, IsRising, job_key, is_below, counts_for}
+use Rattle.farm_types.specs.Rising.{IsRising, job_key}
+use Rattle.job_book.specs.Inside.{IsBook, is_below, counts_for}
 use Rattle.farm_types.proofs.Changed.{changed_at_sum, length-changed_at}
 use Rattle.farm_types.proofs.Lists.{list_all-at}
 use Rattle.farm_types.proofs.ChangedLists.{list_all-changed_at}
@@ -99,7 +100,7 @@ module _ (slots : List SlotRow) (i : ℕ) (s : SlotRow) (x : Frame) (at : slice_
         rw is at e
 
     -- the counts of the other jobs stay
-    counts_other : (job : ℕ) → eqb x.job job ≡ false → counts_of job in_state ≡ counts_of job slots
+    pub counts_other : (job : ℕ) → eqb x.job job ≡ false → counts_of job in_state ≡ counts_of job slots
     counts_other job apart =
         same_counts (counts_of job in_state) (counts_of job slots) (λ st.
         let e = rw apart at (count_in_state job st) in
@@ -123,7 +124,7 @@ module _ (slots : List SlotRow) (i : ℕ) (s : SlotRow) (x : Frame) (at : slice_
         recounted (λ job. counts_of job slots) (λ job. counts_of job in_state) x.job (moved x.state state)
         (λ job apart. counts_other job apart) counts_here 0 jobs high rise
 
-    in_state_taken : is_free (row_in_state state version retries s) ≡ is_free s
+    pub in_state_taken : is_free (row_in_state state version retries s) ≡ is_free s
     in_state_taken = rw is refl
 
     in_state_below : (next : ℕ) → is_below next (row_in_state state version retries s) ≡ is_below next s

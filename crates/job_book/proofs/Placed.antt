@@ -20,7 +20,8 @@ use Rattle.farm_types.specs.Jobs.{frames_in}
 use Rattle.farm_types.specs.SpecLimits.{JobKeepsLimits, LayerKeepsLimits}
 use Rattle.job_book.specs.Book.{is_in, count_in, counts_of, number_of}
 use Rattle.job_book.specs.Counting.{part, new_counts}
-use Rattle.job_book.specs.Inside.{IsBook, IsRising, job_key, layer_key, has_place, is_below, counts_for}
+use Rattle.farm_types.specs.Rising.{IsRising, job_key}
+use Rattle.job_book.specs.Inside.{IsBook, layer_key, has_place, is_below, counts_for}
 use Rattle.job_book.proofs.FreeSlots.{free_cons}
 use Rattle.farm_types.proofs.Lists.{and_both}
 use Rattle.job_book.proofs.Putting.{length-frames_of}
@@ -66,7 +67,7 @@ none_is : {X : Type 0} (o : Option X) → is_none o ≡ true → o ≡ None
 none_is None h = refl
 none_is (Some x) h = absurd (false≢true h)
 
-no_frame : (s : SlotRow) → is_free s ≡ true → s.frame ≡ None
+pub no_frame : (s : SlotRow) → is_free s ≡ true → s.frame ≡ None
 no_frame s free = none_is s.frame (and_both (is_none s.frame) (nat_lt s.version LAST_VERSION) free).0
 
 module _ (test : Option Frame → Bool) where
@@ -82,7 +83,7 @@ module _ (test : Option Frame → Bool) where
       let both = and_both (test (Some x)) (list_all (λ (y : Frame). test (Some y)) xs) new in
       and_from (test (Some x)) (list_all (λ (r : SlotRow). test r.frame) (map fresh_slot xs)) both.0 (all_fresh xs both.1)
 
-  all_placed : (slots : List SlotRow) (frames : List Frame) → list_all (λ (r : SlotRow). test r.frame) slots ≡ true → list_all (λ (x : Frame). test (Some x)) frames ≡ true
+  pub all_placed : (slots : List SlotRow) (frames : List Frame) → list_all (λ (r : SlotRow). test r.frame) slots ≡ true → list_all (λ (x : Frame). test (Some x)) frames ≡ true
       → list_all (λ (r : SlotRow). test r.frame) (place_frames slots frames) ≡ true
   all_placed [] frames old new = all_fresh frames new
   all_placed (s ∷ ss) [] old new = old
@@ -91,11 +92,11 @@ module _ (test : Option Frame → Bool) where
       let is = and_both (test (Some x)) (list_all (λ (y : Frame). test (Some y)) xs) new in
       all_step (is_free s) s ss x xs refl was.0 is.0 (all_placed ss xs was.1 is.1) (all_placed ss (x ∷ xs) was.1 new)
 
-  all_from : (job layer p : ℕ) (ns : List ℤ) → ((q : ℕ) (n : ℤ) → test (Some (new_frame job layer q n)) ≡ true) → list_all (λ (x : Frame). test (Some x)) (frames_from job layer p ns) ≡ true
+  pub all_from : (job layer p : ℕ) (ns : List ℤ) → ((q : ℕ) (n : ℤ) → test (Some (new_frame job layer q n)) ≡ true) → list_all (λ (x : Frame). test (Some x)) (frames_from job layer p ns) ≡ true
   all_from job layer p [] each = refl
   all_from job layer p (n ∷ ns) each = and_from (test (Some (new_frame job layer p n))) _ (each p n) (all_from job layer (p + 1) ns each)
 
-  all_of : (job p : ℕ) (ls : List LayerSpec) → ((l q : ℕ) (n : ℤ) → test (Some (new_frame job l q n)) ≡ true) → list_all (λ (x : Frame). test (Some x)) (frames_of job p ls) ≡ true
+  pub all_of : (job p : ℕ) (ls : List LayerSpec) → ((l q : ℕ) (n : ℤ) → test (Some (new_frame job l q n)) ≡ true) → list_all (λ (x : Frame). test (Some x)) (frames_of job p ls) ≡ true
   all_of job p [] each = refl
   all_of job p (l ∷ ls) each =
       list_all-append (λ (x : Frame). test (Some x)) (frames_from job p 0 l.numbers) (frames_of job (p + 1) ls) ∙ and_from _ _ (all_from job p 0 l.numbers (each p)) (all_of job (p + 1) ls each)
@@ -140,7 +141,7 @@ sum_of weight job p (l ∷ ls) k each =
     omega (arith, sum_by-append weight (frames_from job p 0 l.numbers) (frames_of job (p + 1) ls), sum_from weight job p 0 l.numbers k each, sum_of weight job (p + 1) ls k each, all)
 
 -- the frames of a new job are counted for it alone, as waiting
-count_placed : (slots : List SlotRow) (next : ℕ) (ls : List LayerSpec) (job : ℕ) (state : FrameState)
+pub count_placed : (slots : List SlotRow) (next : ℕ) (ls : List LayerSpec) (job : ℕ) (state : FrameState)
     → count_in job state (place_frames slots (frames_of next 0 ls)) ≡ count_in job state slots + frames_in ls * cond (eqb next job && eqb 0 (number_of state)) 1 0
 count_placed slots next ls job state =
     let all = sum_placed (λ o. cond (for_some o (is_in job state)) 1 0) refl slots (frames_of next 0 ls) in
@@ -158,7 +159,7 @@ below_frame (Some x) next job state later below = frame_apart (nat_le next x.job
         let apart : eqb x.job job ≡ false = ne_eqb x.job job (λ e. absurd (omega (arith, leb-false next x.job is))) in
         rw apart refl
 
-new_job_counts_none : (slots : List SlotRow) (next job : ℕ) (state : FrameState) → next ≤ job → list_all (is_below next) slots ≡ true → count_in job state slots ≡ 0
+pub new_job_counts_none : (slots : List SlotRow) (next job : ℕ) (state : FrameState) → next ≤ job → list_all (is_below next) slots ≡ true → count_in job state slots ≡ 0
 new_job_counts_none [] next job state later below = refl
 new_job_counts_none (s ∷ ss) next job state later below =
     let both = and_both (is_below next s) (list_all (is_below next) ss) below in
@@ -166,7 +167,7 @@ new_job_counts_none (s ∷ ss) next job state later below =
 
 -- ---- keys that rise
 
-rising_within : {X : Type 0} (key : X → ℕ) (low : ℕ) (xs : List X) (high : ℕ) → IsRising key low xs high → low ≤ high
+pub rising_within : {X : Type 0} (key : X → ℕ) (low : ℕ) (xs : List X) (high : ℕ) → IsRising key low xs high → low ≤ high
 rising_within key low [] high rise = rise
 rising_within key low (x ∷ xs) high rise = omega (arith, rise.0, rising_within key (key x + 1) xs high rise.1)
 
@@ -188,7 +189,7 @@ places_rows : (job p : ℕ) (ls : List LayerSpec) → p + length ls ≤ PLACE_LI
 places_rows job p [] few = refl
 places_rows job p (l ∷ ls) few = and_from (nat_lt p PLACE_LIMIT) _ (lt-ltb p PLACE_LIMIT (omega arith)) (places_rows job (p + 1) ls (omega arith))
 
-length-layer_rows : (job p : ℕ) (ls : List LayerSpec) → length (layer_rows job p ls) ≡ length ls
+pub length-layer_rows : (job p : ℕ) (ls : List LayerSpec) → length (layer_rows job p ls) ≡ length ls
 length-layer_rows job p [] = refl
 length-layer_rows job p (l ∷ ls) = ap suc (length-layer_rows job (p + 1) ls)
 
@@ -218,6 +219,14 @@ layers_step (Some name) b spec none = absurd (some_none _ none)
 accepted_fits_step : (c : Bool) (b : JobLists) (spec : JobSpec) → list_any (is_pending_named spec.name) b.jobs ≡ c → job_refusal b spec ≡ None → room_refusal b spec ≡ None
 accepted_fits_step true b spec is none = absurd (some_none _ (rw is at none))
 accepted_fits_step false b spec is none = layers_step (repeated_name [] spec.layers) b spec (rw is at none)
+
+new_step : (c : Bool) (b : JobLists) (spec : JobSpec) → list_any (is_pending_named spec.name) b.jobs ≡ c → job_refusal b spec ≡ None → c ≡ false
+new_step true b spec is none = absurd (some_none _ (rw is at none))
+new_step false b spec is none = refl
+
+-- no pending job has its name
+pub accepted_new : (b : JobLists) (spec : JobSpec) → job_refusal b spec ≡ None → list_any (is_pending_named spec.name) b.jobs ≡ false
+accepted_new b spec none = new_step (list_any (is_pending_named spec.name) b.jobs) b spec refl none
 
 -- a slot for each frame, and a number
 pub accepted_fits : (b : JobLists) (spec : JobSpec) → job_refusal b spec ≡ None → (frames_in spec.layers ≤ free_in b.slots) × (b.next_job ≤ LAST_JOB)

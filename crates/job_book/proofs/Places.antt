@@ -5,7 +5,7 @@ use Rattle.std.proofs.lemmas.Bool.{false≢true, eqb-true, eqb-false, ne_eqb}
 use Rattle.farm_types.specs.Farm.{changed_at}
 use Rattle.farm_types.specs.declared.rows.JobRow.{JobRow}
 use Rattle.job_book.specs.declared.counts.Counts.{Counts}
-use Rattle.job_book.specs.Inside.{IsRising, job_key}
+use Rattle.farm_types.specs.Rising.{IsRising, job_key}
 use Rattle.farm_types.proofs.ChangedLists.{changed_at_suc}
 
 is_job : ℕ → JobRow → Bool

@@ -9,8 +9,9 @@ use Rattle.farm_types.specs.declared.slot_row.SlotRow.{SlotRow}
 use Rattle.farm_types.specs.Jobs.{is_free, free_among, free_in, slot_with, fresh_slot, place_frames, new_frame, frames_from, frames_of}
 use Rattle.farm_types.specs.Jobs.{frames_in}
 use Rattle.job_book.specs.Book.{first_free}
+use Rattle.job_book.specs.Layers.{put_places}
 use Rattle.job_book.specs.Puts.{Puts, free_from}
-use Rattle.job_book.proofs.FreeSlots.{set_in, push_in, slice_get_behind, place_none, free_cons}
+use Rattle.job_book.proofs.FreeSlots.{set_in, push_in, slice_get_behind, place_none, put_none, goes_here, free_cons}
 use Rattle.farm_types.specs.declared.limits.TheConstants.{SLOT_LIMIT}
 
 -- ---- one frame
@@ -51,12 +52,15 @@ module _ (slots : List SlotRow) (place found : ℕ) (x : Frame) (within : place 
 -- ---- many
 
 pub puts_none : (place : ℕ) (slots : List SlotRow) → place ≤ length slots → length slots ≤ SLOT_LIMIT → Puts [] place slots place slots
-puts_none place slots within most = record { rest = λ later. refl; within = within; slot_count = most; left = omega arith }
+puts_none place slots within most = record { rest = λ later. refl; places = λ later. ap (λ ns. ns ++ put_places place (drop place slots) later) (sym (put_none place (drop place slots))); within = within; slot_count = most; left = omega arith }
 
 pub puts_join : (xs ys : List Frame) (p q r : ℕ) (a b c : List SlotRow) → Puts xs p a q b → Puts ys q b r c → Puts (xs ++ ys) p a r c
 puts_join xs ys p q r a b c first second =
     record {
       rest = λ later. second.rest later ∙ first.rest (ys ++ later) ∙ ap (λ fs. take p a ++ place_frames (drop p a) fs) (sym (append_assoc xs ys later));
+      places = λ later.
+          ap (put_places p (drop p a)) (append_assoc xs ys later) ∙ first.places (ys ++ later) ∙ ap (λ ns. put_places p (drop p a) xs ++ ns) (second.places later)
+          ∙ sym (append_assoc (put_places p (drop p a) xs) (put_places q (drop q b) ys) (put_places r (drop r c) later)) ∙ ap (λ ns. ns ++ put_places r (drop r c) later) (sym (first.places ys));
       within = second.within;
       slot_count = second.slot_count;
       left = omega (arith, first.left, second.left, length-append xs ys);
@@ -148,3 +152,24 @@ found_within slots place found within is =
 -- a layer's frames are among those of all
 pub enough_for : (ls : List LayerSpec) (i : ℕ) (l : LayerSpec) → i < length ls → l ≡ get_or ls i l → frames_in (take i ls) + length l.numbers ≤ frames_in ls
 enough_for ls i l within is = subst (λ (k : LayerSpec). frames_in (take i ls) + length k.numbers ≤ frames_in ls) (sym is) (sum_by_more_le (λ (k : LayerSpec). length k.numbers) ls i l within)
+
+-- no frame goes into a slot before the first free one
+skip_places_step : (b : Bool) (p : ℕ) (s : SlotRow) (ss : List SlotRow) (frames : List Frame) → is_free s ≡ b
+    → ((fs : List Frame) → put_places (p + 1 + first_free ss) (drop (first_free ss) ss) fs ≡ put_places (p + 1) ss fs)
+    → put_places (p + first_free (s ∷ ss)) (drop (first_free (s ∷ ss)) (s ∷ ss)) frames ≡ put_places p (s ∷ ss) frames
+skip_places_step true p s ss frames free later = let e : p + 0 ≡ p = omega arith in rw free (ap (λ k. put_places k (s ∷ ss) frames) e)
+skip_places_step false p s ss [] free later =
+    let e : 1 + first_free ss ≡ suc (first_free ss) = omega arith in
+    rw (free, e) (put_none (p + suc (first_free ss)) (drop (first_free ss) ss))
+skip_places_step false p s ss (x ∷ xs) free later =
+    let e : 1 + first_free ss ≡ suc (first_free ss) = omega arith in
+    let k : p + suc (first_free ss) ≡ p + 1 + first_free ss = omega arith in
+    rw (free, e, k) (later (x ∷ xs))
+
+pub skip_places : (p : ℕ) (slots : List SlotRow) (frames : List Frame) → put_places (p + first_free slots) (drop (first_free slots) slots) frames ≡ put_places p slots frames
+skip_places p [] frames = let e : p + 0 ≡ p = omega arith in rw e refl
+skip_places p (s ∷ ss) frames = skip_places_step (is_free s) p s ss frames refl (λ fs. skip_places (p + 1) ss fs)
+
+-- where one frame goes
+pub put_at : (place found : ℕ) (slots : List SlotRow) (x : Frame) → found ≡ place + first_free (drop place slots) → put_places place (drop place slots) (x ∷ []) ≡ found ∷ []
+put_at place found slots x is = goes_here x (drop place slots) place ∙ ap (λ n. n ∷ []) (sym is)

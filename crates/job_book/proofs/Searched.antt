@@ -10,7 +10,8 @@ use Rattle.std.proofs.lemmas.Bool.Decides.{nat_tests}
 use Rattle.std.proofs.lemmas.Cmp.{ranked}
 use Rattle.std.proofs.lemmas.List.Sums.{position_or_len_is}
 use Rattle.farm_types.specs.declared.rows.LayerRow.{LayerRow}
-use Rattle.job_book.specs.Inside.{IsRising, layer_key, has_place}
+use Rattle.farm_types.specs.Rising.{IsRising}
+use Rattle.job_book.specs.Inside.{layer_key, has_place}
 use Rattle.farm_types.proofs.Lists.{and_both}
 use Rattle.job_book.specs.declared.place_of.TheConstants.{PLACE_LIMIT}
 
@@ -21,7 +22,7 @@ module _ {X : Type 0} (key : X → ℕ) where
   at_least low (x ∷ xs) high zero d rise within = rise.0
   at_least low (x ∷ xs) high (suc i) d rise within = omega (arith, rise.0, at_least (key x + 1) xs high i d rise.1 (omega arith))
 
-  rises : (low : ℕ) (xs : List X) (high i j : ℕ) (d : X) → IsRising key low xs high → i < j → j < length xs → key (get_or xs i d) < key (get_or xs j d)
+  pub rises : (low : ℕ) (xs : List X) (high i j : ℕ) (d : X) → IsRising key low xs high → i < j → j < length xs → key (get_or xs i d) < key (get_or xs j d)
   rises low [] high i j d rise less within = absurd (omega arith)
   rises low (x ∷ xs) high i zero d rise less within = absurd (omega arith)
   rises low (x ∷ xs) high zero (suc j) d rise less within = omega (arith, at_least (key x + 1) xs high j d rise.1 (omega arith))

@@ -1,5 +1,5 @@
 -- What the calls of the job book answer and change.
-use Rattle.std.specs.Prelude.{◌≡◌, ◌<◌, ◌≤◌, All, IsSome, ℕ, ◌==◌, ◌&&◌, ◌+◌, Bool, not, is_some, List, [], ◌∷◌, option_map, option_and_then, sum_by, Option, None, Some, find, slice_get, nat_lt, bytes_eq, Result, Ok, Err, if◌then◌else◌}
+use Rattle.std.specs.Prelude.{◌≡◌, ◌<◌, ◌≤◌, All, IsSome, ℕ, ◌==◌, ◌&&◌, Bool, not, is_some, List, [], option_map, option_and_then, sum_by, Option, None, Some, find, slice_get, nat_lt, bytes_eq, Result, Ok, Err, if◌then◌else◌}
 use Rattle.std.specs.List.{prefix_len}
 use Rattle.farm_types.specs.declared.attempt.ProcRow.{ProcRow}
 use Rattle.farm_types.specs.declared.job.JobSpec.{JobSpec}
@@ -82,15 +82,6 @@ state_in (Some s) = (option_map (λ (x : Frame). x.state) s.frame, s.version)
 
 abbrev pub state_at : JobLists → ℕ → Option FrameState × ℕ
 state_at b slot = state_in (slice_get b.slots slot)
-
--- whether the frame is that of the job, its layer and its position
-abbrev pub is_placed : ℕ → ℕ → ℕ → Frame → Bool
-is_placed job layer position x = x.job == job && x.layer == layer && x.position == position
-
--- the first slot with that frame, counted from a place
-abbrev pub slot_from : ℕ → (Frame → Bool) → List SlotRow → Option ℕ
-slot_from place test [] = None
-slot_from place test (s ∷ ss) = if for_some s.frame test then Some place else slot_from (place + 1) test ss
 
 -- ---- counts
 

@@ -1,29 +1,28 @@
 -- What the job book keeps true of its fields.
-use Rattle.std.specs.Prelude.{ℕ, ◌≡◌, ◌≤◌, ◌+◌, ◌*◌, List, [], ◌∷◌, map, length, Bool, true, not, nat_le, nat_lt}
+use Rattle.std.specs.Prelude.{ℕ, ◌≡◌, ◌≤◌, ◌+◌, ◌*◌, List, map, drop, length, Bool, true, not, nat_le, nat_lt, string_bytes}
 use Rattle.std.specs.List.{list_all}
 use Rattle.std.specs.Vec.{vec_capacity}
+use Rattle.indexmap.specs.IndexSet.{spare}
 use Rattle.farm_types.specs.declared.rows.JobRow.{JobRow}
 use Rattle.farm_types.specs.declared.rows.LayerRow.{LayerRow}
 use Rattle.farm_types.specs.declared.slot_row.SlotRow.{SlotRow}
+use Rattle.farm_types.specs.Booking.{is_pending}
 use Rattle.farm_types.specs.Farm.{for_some}
-use Rattle.farm_types.specs.Jobs.{JobLists, free_in}
+use Rattle.farm_types.specs.Jobs.{JobLists, free_among, free_in}
+use Rattle.farm_types.specs.Rising.{IsRising, job_key}
 use Rattle.job_book.specs.declared.counts.Counts.{Counts}
 use Rattle.job_book.specs.declared.jobs.Jobs.TheInside.{Inside}
 use Rattle.job_book.specs.Book.{counts_of}
+use Rattle.job_book.specs.Ready.{KeepsReady}
+use Rattle.job_book.specs.Layers.{LayerPlaces, KeepsLayers, KeepsWaiting, fresh_places, slots_of}
+use Rattle.farm_types.specs.declared.job.JobSpec.{JobSpec}
 use Rattle.farm_types.specs.declared.limits.TheConstants.{LAST_JOB, SLOT_LIMIT}
+use Rattle.job_book.specs.declared.jobs.TheConstants.{MOST_JOBS}
 use Rattle.job_book.specs.declared.place_of.TheConstants.{PLACE_LIMIT}
 
 -- the lists of the book
 abbrev pub book_of : Inside → JobLists
 book_of book = record { jobs = book.jobs.items; layers = book.layers.items; slots = book.slots.items; next_job = book.next_job }
-
--- the keys rise strictly, from `low` and below `high`
-abbrev pub IsRising : {X : Type 0} → (X → ℕ) → ℕ → List X → ℕ → Type 0
-IsRising key low [] high = low ≤ high
-IsRising key low (x ∷ xs) high = (low ≤ key x) × IsRising key (key x + 1) xs high
-
-abbrev pub job_key : JobRow → ℕ
-job_key j = j.job
 
 -- layers are in the order of their jobs, those of a job by their places
 abbrev pub layer_key : LayerRow → ℕ
@@ -52,12 +51,42 @@ pub record IsBook (b : JobLists) : Type 0 where
   pub jobs_fit : length b.jobs + free_in b.slots ≤ SLOT_LIMIT
   pub layers_fit : length b.layers + free_in b.slots ≤ SLOT_LIMIT
 
--- the kept counts and the kept number of free slots are those of the slots, and there is capacity for all that is ever placed
+abbrev pub name_of : JobRow → List ℕ
+name_of j = j.name
+
+abbrev pub has_begun : JobRow → Bool
+has_begun j = is_pending j.state
+
+-- each job is pending, and the names stand in the order of the jobs, so that the place of a name is that of its job; so many
+-- names fit
+pub record KeepsNames (names : List (List ℕ)) (fit : ℕ) (jobs : List JobRow) : Type 0 where
+  pub names_are : names ≡ map name_of jobs
+  pub pending : list_all has_begun jobs ≡ true
+  pub room : MOST_JOBS ≤ fit
+
+-- what is reserved for a job: its name once more, and its layers' lists
+pub record IsSpare (spec : JobSpec) (name : List ℕ) (index : List LayerPlaces) : Type 0 where
+  pub named : name ≡ spec.name
+  pub fresh : index ≡ map fresh_places spec.layers
+
+-- so many slots are free, and none of those below the lowest one
+pub record KeepsFree (free lowest : ℕ) (slots : List SlotRow) : Type 0 where
+  pub free_is : free ≡ free_in slots
+  pub within : lowest ≤ length slots
+  pub none_below : free_among (drop lowest slots) ≡ free_among slots
+
+-- the names, the counts and the free slots that are kept are those of the jobs and the slots, and there is capacity for all
+-- that is ever placed
 pub record KeepsBook (book : Inside) : Type 0 where
   pub lists : IsBook (book_of book)
-  pub free_is : book.free ≡ free_in book.slots.items
+  pub names : KeepsNames (map string_bytes book.names.keys) (length book.names.keys + spare book.names) book.jobs.items
+  pub free : KeepsFree book.free book.lowest book.slots.items
+  pub layers : KeepsLayers book.layers.items book.slots.items (map slots_of book.index.items)
+  pub waiting : KeepsWaiting book.slots.items book.index.items
+  pub ready : KeepsReady book.jobs.items book.slots.items book.ready.items
   pub counts_are : book.counts.items ≡ counts_for book.jobs.items book.slots.items
-  pub jobs_capacity : SLOT_LIMIT ≤ vec_capacity book.jobs
+  pub jobs_capacity : MOST_JOBS ≤ vec_capacity book.jobs
   pub layers_capacity : SLOT_LIMIT ≤ vec_capacity book.layers
   pub slots_capacity : SLOT_LIMIT ≤ vec_capacity book.slots
-  pub counts_capacity : SLOT_LIMIT ≤ vec_capacity book.counts
+  pub index_capacity : SLOT_LIMIT ≤ vec_capacity book.index
+  pub counts_capacity : MOST_JOBS ≤ vec_capacity book.counts

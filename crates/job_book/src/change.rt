@@ -2,11 +2,14 @@
 
 ghost use Rattle.std.specs.Prelude.{◌≡◌, ◌<◌, length, slice_set, true, Some};
 ghost use Rattle.std.specs.Vec.{vec_capacity};
+ghost use Rattle.farm_types.specs.Booking.{is_waiting};
 ghost use Rattle.farm_types.specs.Farm.{changed_at};
 ghost use Rattle.job_book.specs.Book.{has_frame, row_in_state, attempted_row};
 
 use crate::counting::recount;
 use crate::jobs::Jobs;
+use crate::layer_index::mark_in;
+use crate::ready::{change_ready, has_waiting};
 use farm_types::{Frame, FrameState, ProcRow, Slot, SlotRow, Version};
 
 impl Jobs {
@@ -22,8 +25,13 @@ impl Jobs {
             unreachable!()
         };
         let place = self.place_of(frame.job);
+        let layer = self.layer_place_of(frame.job, frame.layer);
         let in_state = row_in_state(&row, frame, state, version, retries);
+        let had = has_waiting(self.counts.as_slice(), place);
         recount(&mut self.counts, place, frame.state, state);
+        let has = has_waiting(self.counts.as_slice(), place);
+        change_ready(&mut self.ready, self.jobs.as_slice(), place, had, has);
+        mark_in(&mut self.index, layer, frame.position, is_waiting(state));
         set_row(&mut self.slots, slot, in_state);
     }
 
@@ -38,6 +46,13 @@ impl Jobs {
         let attempted = attempted_row(&row, proc);
         set_row(&mut self.slots, slot, attempted);
     }
+}
+
+// Whether a frame in the state waits.
+fn is_waiting(state: FrameState) -> bool
+    ensures { result ≡ is_waiting state }
+{
+    matches!(state, FrameState::Waiting)
 }
 
 // What stands in the slot is set.

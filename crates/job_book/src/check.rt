@@ -2,21 +2,19 @@
 
 ghost use Rattle.std.specs.Prelude.{◌≡◌, ◌≤◌, option_map, bytes_eq, if◌then◌else◌, IfOk, Some, None, []};
 ghost use Rattle.std.specs.List.{list_any};
-ghost use Rattle.farm_types.specs.Booking.{is_pending};
 ghost use Rattle.farm_types.specs.Jobs.{frames_in, is_pending_named, repeated_name, room_refusal};
 ghost use Rattle.farm_types.specs.SpecLimits.{JobKeepsLimits};
 ghost use Rattle.farm_types.specs.declared.limits.TheConstants.{MOST_FRAMES};
 ghost use Rattle.farm_types.specs.declared.refusal.Refusal.TheVariants as refusal;
-ghost use Rattle.job_book.specs.Book.{Checks};
+ghost use Rattle.job_book.specs.Book.{Checks, first_free};
 ghost use Rattle.job_book.specs.Refused.{Refuses};
 ghost use Rattle.job_book.specs.declared.placing.JobFault.TheVariants as fault;
 
+use crate::job_names::place_named;
 use crate::jobs::Jobs;
 use crate::placing::{JobFault, Placing};
 use crate::put::next_free;
-use farm_types::{
-    Counted, JobNo, JobRow, JobSpec, JobState, LAST_JOB, LayerSpec, Refusal, ShowNo, Slot, Text,
-};
+use farm_types::{Counted, JobNo, JobSpec, LAST_JOB, LayerSpec, Refusal, ShowNo, Slot, Text};
 use std::alloc::{AllocError, Global};
 
 impl Jobs {
@@ -26,16 +24,40 @@ impl Jobs {
         requires { JobKeepsLimits spec.now }
         ensures { Checks self.now show spec.now result }
     {
-        check_name(alloc, self.jobs.as_slice(), &spec.name)?;
+        self.check_name(alloc, &spec.name)?;
         check_layers(alloc, spec.layers.as_slice())?;
         let frames = spec.layers.count_frames() as u32;
         self.check_left(spec, frames)?;
         Ok(Placing {
             job: JobNo(self.next_job as u32),
             show,
-            first: Slot(next_free(self.slots.as_slice(), 0) as u32),
+            first: self.first_free(),
             frames,
         })
+    }
+
+    // The lowest free slot.
+    fn first_free(&self) -> Slot
+        ensures { result ≡ first_free self.now.slots }
+    {
+        Slot(next_free(self.slots.as_slice(), self.lowest as usize) as u32)
+    }
+
+    // Refuses the name of a pending job.
+    fn check_name(&self, alloc: Global, name: &Text) -> Result<(), JobFault>
+        ensures { Refuses (if list_any (is_pending_named name.now) self.now.jobs then Some (refusal.Exists name.now) else None) result }
+    {
+        if self.is_pending_named(name) {
+            return Err(existing(alloc, name)?);
+        }
+        Ok(())
+    }
+
+    // Whether a pending job has the name.
+    fn is_pending_named(&self, name: &Text) -> bool
+        ensures { result ≡ list_any (is_pending_named name.now) self.now.jobs }
+    {
+        place_named(&self.names, name.as_str()) < self.jobs.len()
     }
 
     // Refuses a job that has more frames than there are free slots, and one for which no number is left.
@@ -58,31 +80,6 @@ impl Jobs {
         }
         Ok(())
     }
-}
-
-// Refuses the name of a pending job.
-fn check_name(alloc: Global, jobs: &[JobRow], name: &Text) -> Result<(), JobFault>
-    ensures { Refuses (if list_any (is_pending_named name.now) jobs.now then Some (refusal.Exists name.now) else None) result }
-{
-    if is_pending_named(jobs, name) {
-        return Err(existing(alloc, name)?);
-    }
-    Ok(())
-}
-
-// Whether a pending job has the name.
-fn is_pending_named(jobs: &[JobRow], name: &Text) -> bool
-    ensures { result ≡ list_any (is_pending_named name.now) jobs.now }
-{
-    jobs.iter()
-        .any(|job| is_pending(job.state) && job.name.is(name.as_str()))
-}
-
-// Whether the job isn't finished.
-fn is_pending(state: JobState) -> bool
-    ensures { result ≡ is_pending state }
-{
-    matches!(state, JobState::Pending)
 }
 
 // Refuses layers of which two have one name.

@@ -2,9 +2,11 @@
 
 ghost use Rattle.std.specs.Prelude.{◌≡◌, ◌≤◌, IfOk};
 ghost use Rattle.std.specs.Vec.{vec_capacity};
-ghost use Rattle.farm_types.specs.declared.limits.TheConstants.{SLOT_LIMIT};
 
-use crate::jobs::Jobs;
+use crate::job_names::copy_names;
+use crate::jobs::{Jobs, MOST_JOBS};
+use crate::layer_frames::LayerFrames;
+use crate::ready::copy_ready;
 use farm_types::{JobRow, LayerRow, SLOT_LIMIT};
 use std::alloc::{AllocError, Global};
 
@@ -14,11 +16,15 @@ impl Jobs {
         ensures { IfOk result (λ b. b ≡ self.now) }
     {
         Ok(Jobs {
-            jobs: copies(alloc, self.jobs.as_slice())?,
-            counts: plain_copies(alloc, self.counts.as_slice())?,
-            layers: copies(alloc, self.layers.as_slice())?,
-            slots: plain_copies(alloc, self.slots.as_slice())?,
+            jobs: copies(alloc, self.jobs.as_slice(), MOST_JOBS)?,
+            names: copy_names(&self.names)?,
+            counts: plain_copies(alloc, self.counts.as_slice(), MOST_JOBS)?,
+            layers: copies(alloc, self.layers.as_slice(), SLOT_LIMIT)?,
+            index: copies(alloc, self.index.as_slice(), SLOT_LIMIT)?,
+            slots: plain_copies(alloc, self.slots.as_slice(), SLOT_LIMIT)?,
+            ready: copy_ready(alloc, self.ready.as_slice())?,
             free: self.free,
+            lowest: self.lowest,
             next_job: self.next_job,
         })
     }
@@ -68,24 +74,30 @@ impl Row for LayerRow {
     }
 }
 
-// Equal rows, with the capacity for all.
-fn copies<R: Row>(alloc: Global, rows: &[R]) -> Result<Vec<R>, AllocError>
+impl Row for LayerFrames {
+    fn copy(&self, alloc: Global) -> Result<LayerFrames, AllocError> {
+        LayerFrames::copy(self, alloc)
+    }
+}
+
+// Equal rows, with a capacity.
+fn copies<R: Row>(alloc: Global, rows: &[R], capacity: u32) -> Result<Vec<R>, AllocError>
     ensures items { IfOk result (λ copies. copies.items ≡ rows.now) }
-    ensures capacity { IfOk result (λ copies. SLOT_LIMIT ≤ vec_capacity copies) }
+    ensures capacity { IfOk result (λ copies. capacity ≤ vec_capacity copies) }
 {
-    let mut copies = Vec::with_capacity(alloc, SLOT_LIMIT as usize)?;
+    let mut copies = Vec::with_capacity(alloc, capacity as usize)?;
     for row in rows {
         copies.push(row.copy(alloc)?)?;
     }
     Ok(copies)
 }
 
-// Equal values that own no memory, with the capacity for all.
-fn plain_copies<T: Copy>(alloc: Global, values: &[T]) -> Result<Vec<T>, AllocError>
+// Equal values that own no memory, with a capacity.
+fn plain_copies<T: Copy>(alloc: Global, values: &[T], capacity: u32) -> Result<Vec<T>, AllocError>
     ensures items { IfOk result (λ copies. copies.items ≡ values.now) }
-    ensures capacity { IfOk result (λ copies. SLOT_LIMIT ≤ vec_capacity copies) }
+    ensures capacity { IfOk result (λ copies. capacity ≤ vec_capacity copies) }
 {
-    let mut copies = Vec::with_capacity(alloc, SLOT_LIMIT as usize)?;
+    let mut copies = Vec::with_capacity(alloc, capacity as usize)?;
     copies.extend_from_slice(values)?;
     Ok(copies)
 }

@@ -7,12 +7,17 @@ mod copy;
 mod counting;
 mod counts;
 mod frame_view;
+mod job_names;
 mod jobs;
+mod layer_frames;
+mod layer_index;
 mod place;
 mod place_of;
 mod placing;
 mod put;
 mod read;
+mod ready;
+mod ready_jobs;
 mod reserve;
 
 pub use counts::Counts;

@@ -9,10 +9,13 @@ ghost use Rattle.job_book.specs.Book.{placing_of};
 ghost use Rattle.job_book.specs.Counting.{new_counts};
 
 use crate::counts::Counts;
+use crate::job_names::add_name;
 use crate::jobs::Jobs;
+use crate::layer_index::add_index;
 use crate::placing::{JobSpare, Placing};
 use crate::put::put_layers;
-use farm_types::{JobNo, JobRow, JobState, LayerRow, LayerSpec};
+use crate::ready::put_ready;
+use farm_types::{JobNo, JobRow, JobSpec, JobState, LayerRow, LayerSpec};
 
 impl Jobs {
     /// Places a job that isn't refused where `check` said, with the memory that was reserved for it: its frames wait in the
@@ -24,10 +27,24 @@ impl Jobs {
         ensures book { self.new ≡ with_job self.old placing.show reserved }
         ensures job { result ≡ self.old.next_job }
     {
+        let JobSpare {
+            spec,
+            name,
+            mut index,
+        } = reserved;
         let job = placing.job;
-        let (row, layers) = taken_apart(reserved, &placing);
-        put_layers(&mut self.slots, placing.first, job, layers.as_slice());
+        let (row, layers) = taken_apart(spec, &placing);
+        self.lowest = put_layers(
+            &mut self.slots,
+            placing.first,
+            job,
+            layers.as_slice(),
+            &mut index,
+        ) as u32;
         add_layers(&mut self.layers, job, layers);
+        add_index(&mut self.index, index);
+        add_name(&mut self.names, name);
+        put_ready(&mut self.ready, &row);
         self.jobs.push_reserved(row);
         self.counts.push_reserved(all_waiting(placing.frames));
         self.free -= placing.frames;
@@ -37,12 +54,11 @@ impl Jobs {
 }
 
 // The job's row and its layers, of the texts that were reserved for it.
-fn taken_apart(reserved: JobSpare, placing: &Placing) -> (JobRow, Vec<LayerSpec>)
-    requires { placing.now.frames ≡ frames_in reserved.layers }
-    ensures row { result.0 ≡ job_row placing.now.job placing.now.show reserved }
-    ensures layers { result.1.items ≡ reserved.layers }
+fn taken_apart(spec: JobSpec, placing: &Placing) -> (JobRow, Vec<LayerSpec>)
+    requires { placing.now.frames ≡ frames_in spec.layers }
+    ensures row { result.0 ≡ job_row placing.now.job placing.now.show spec }
+    ensures layers { result.1.items ≡ spec.layers }
 {
-    let JobSpare { spec } = reserved;
     let row = JobRow {
         job: placing.job,
         name: spec.name,

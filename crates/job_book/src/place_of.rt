@@ -2,7 +2,8 @@
 
 ghost use Rattle.std.specs.Prelude.{◌≡◌, ◌==◌, ◌&&◌, ◌+◌, ◌*◌, ℕ, nat_lt};
 ghost use Rattle.std.specs.List.{position_or_len};
-ghost use Rattle.job_book.specs.Inside.{IsRising, job_key, layer_key};
+ghost use Rattle.farm_types.specs.Rising.{IsRising, job_key};
+ghost use Rattle.job_book.specs.Inside.{layer_key};
 
 use crate::jobs::Jobs;
 use farm_types::{JobNo, JobRow, LayerRow};

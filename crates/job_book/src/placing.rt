@@ -1,5 +1,6 @@
 //! Where a job is to be placed, and the memory for it.
 
+use crate::layer_frames::LayerFrames;
 use farm_types::{JobNo, JobSpec, Refusal, ShowNo, Slot};
 use std::alloc::AllocError;
 use std::fmt;
@@ -15,11 +16,13 @@ pub struct Placing {
     pub frames: u32,
 }
 
-/// The memory that a job needs, reserved before the job is placed: its texts, numbers and tags, which contracts see as its
-/// spec.
+/// The memory that a job needs, reserved before the job is placed, which contracts see as its spec: its texts, numbers and
+/// tags, once more its name, for the index of names, and the lists of its layers' slots.
 #[derive(Debug, Drop)]
 pub struct JobSpare {
     pub(crate) spec: JobSpec,
+    pub(crate) name: String,
+    pub(crate) index: Vec<LayerFrames>,
 }
 
 impl Model for JobSpare {
@@ -27,7 +30,12 @@ impl Model for JobSpare {
 
     ghost Value = { types.JobSpec };
 
+    ghost use Rattle.std.specs.Prelude.{string_bytes};
+    ghost use Rattle.job_book.specs.Inside.{IsSpare};
+
     ghost view = { λ reserved. reserved.spec };
+
+    ghost invariant = { λ reserved. IsSpare reserved.spec (string_bytes reserved.name) reserved.index.items };
 }
 
 /// Why a job can't be placed.

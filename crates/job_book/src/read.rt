@@ -1,14 +1,19 @@
 //! What is read of the book.
 
-ghost use Rattle.std.specs.Prelude.{◌≡◌, ◌==◌, ◌&&◌, ◌≤◌, length, slice_get, find, option_copied, option_map, true, All, IfNone, IfSome, Some};
+ghost use Rattle.std.specs.Prelude.{◌≡◌, ◌==◌, ◌&&◌, ◌≤◌, ◌<◌, length, slice_get, find, option_copied, option_map, true, All, IfNone, IfSome, Some};
 ghost use Rattle.farm_types.specs.Farm.{for_some};
-ghost use Rattle.farm_types.specs.declared.limits.TheConstants.{SLOT_LIMIT};
-ghost use Rattle.job_book.specs.Book.{job_named, job_after, IsLeastAbove, frame_at, frame_view, state_at, is_placed, slot_from, has_frame, has_job, counts_of};
+ghost use Rattle.farm_types.specs.Jobs.{is_placed, slot_from};
+ghost use Rattle.farm_types.specs.declared.limits.TheConstants.{MOST_SHOWS, SLOT_LIMIT};
+ghost use Rattle.job_book.specs.Book.{job_named, job_after, IsLeastAbove, frame_at, frame_view, state_at, has_frame, has_job, counts_of};
+ghost use Rattle.job_book.specs.Index.{WaitsFirst, ready_of};
 
 use crate::counts::Counts;
 use crate::frame_view::FrameView;
+use crate::job_names::place_named;
 use crate::jobs::Jobs;
-use farm_types::{Frame, FrameState, JobNo, JobRow, LayerRow, Slot, SlotRow, Version};
+use crate::layer_index::{slot_in, waiting_in};
+use crate::ready::jobs_in;
+use farm_types::{Frame, FrameState, JobNo, JobRow, LayerRow, ShowNo, Slot, SlotRow, Version};
 
 impl Jobs {
     /// The slots, each at its number, up to the last that was ever used.
@@ -53,10 +58,7 @@ impl Jobs {
     pub fn find(&self, name: &str) -> Option<JobNo>
         ensures { result ≡ job_named self.now name.now }
     {
-        match self.jobs.iter().find(|job| job.name.is(name)) {
-            None => None,
-            Some(job) => Some(job.job),
-        }
+        number_at(self.jobs.as_slice(), place_named(&self.names, name))
     }
 
     /// The frame in a slot that has one.
@@ -90,7 +92,26 @@ impl Jobs {
     pub fn slot(&self, job: JobNo, layer: u32, position: u32) -> Option<Slot>
         ensures { result ≡ slot_from 0 (is_placed job layer position) self.now.slots }
     {
-        slot_in(self.slots(), job, layer, position)
+        slot_in(
+            self.index.as_slice(),
+            self.layer_place_of(job, layer),
+            position,
+        )
+    }
+
+    /// The slot of the first waiting frame of a job's layer at a position (from 0) or later, none where there is none.
+    pub fn waiting(&self, job: JobNo, layer: u32, from: u32) -> Option<Slot>
+        ensures { WaitsFirst self.now job layer from result }
+    {
+        waiting_in(self.index.as_slice(), self.layer_place_of(job, layer), from)
+    }
+
+    /// The pending jobs of a show with a waiting frame, by priority, the highest first, then by number. A show past the last
+    /// that there can be has no list.
+    pub fn ready(&self, show: ShowNo) -> &[JobNo]
+        ensures { show < MOST_SHOWS → result.now ≡ ready_of self.now show }
+    {
+        jobs_in(self.ready.as_slice(), show.0 as usize)
     }
 
     /// How many frames of a job are in each state.
@@ -139,34 +160,4 @@ fn frame_view(version: Version, frame: &Frame) -> FrameView
         version,
         retries: frame.retries,
     }
-}
-
-// The first of the slots with the frame.
-fn slot_in(slots: &[SlotRow], job: JobNo, layer: u32, position: u32) -> Option<Slot>
-    requires { length slots.now ≤ SLOT_LIMIT }
-    ensures { result ≡ slot_from 0 (is_placed job layer position) slots.now }
-{
-    for (place, row) in slots.iter().enumerate() {
-        if is_at(row, job, layer, position) {
-            return Some(Slot(place as u32));
-        }
-    }
-    None
-}
-
-// Whether the slot has the frame.
-fn is_at(row: &SlotRow, job: JobNo, layer: u32, position: u32) -> bool
-    ensures { result ≡ for_some row.now.frame (is_placed job layer position) }
-{
-    match &row.frame {
-        None => false,
-        Some(frame) => is_placed(frame, job, layer, position),
-    }
-}
-
-// Whether the frame is that of the job, its layer and its position.
-fn is_placed(frame: &Frame, job: JobNo, layer: u32, position: u32) -> bool
-    ensures { result ≡ is_placed job layer position frame.now }
-{
-    frame.job == job && frame.layer == layer && frame.position == position
 }

@@ -3,6 +3,7 @@
 ghost use Rattle.std.specs.Prelude.{◌≡◌, IfOk};
 
 use crate::jobs::Jobs;
+use crate::layer_index::fresh_layers;
 use crate::placing::JobSpare;
 use farm_types::JobSpec;
 use std::alloc::{AllocError, Global};
@@ -14,6 +15,8 @@ impl Jobs {
         ensures reserved { IfOk result (λ reserved. reserved ≡ spec.now) }
     {
         Ok(JobSpare {
+            name: String::from_str(alloc, spec.name.as_str())?,
+            index: fresh_layers(alloc, spec.layers.as_slice())?,
             spec: spec.copy(alloc)?,
         })
     }

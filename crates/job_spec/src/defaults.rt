@@ -3,7 +3,8 @@
 ghost use Rattle.std.specs.Prelude.{[], ◌∷◌, codes, false};
 ghost use Rattle.serde_json.specs.View.{items_view, members_view};
 ghost use Rattle.cue_json.specs.Fields.{Gives, flag_at, text_at};
-ghost use Rattle.farm_lines.specs.Spec.{is_name_or_empty, no_items_at, none_of, number_at, or_default, tags_at, text_of};
+ghost use Rattle.farm_types.specs.Forms.{is_name_or_empty};
+ghost use Rattle.farm_lines.specs.Spec.{no_items_at, none_of, number_at, or_default, tags_at, text_of};
 
 use crate::{tags, words};
 use cue_json::{FieldFault, Map};

@@ -11,9 +11,10 @@ ghost use Rattle.job_spec.specs.SpecResults.{GivesSpec};
 
 use crate::amounts::{read_layer_cores, within};
 use crate::fault::SpecFault;
-use farm_lines::{LayerForm, MOST_RANGE};
+use farm_lines::LayerForm;
 use farm_types::{
-    Cores, Items, Kb, LEAST_MEMORY, LayerSpec, MOST_COMMAND, MOST_MEMORY, MOST_TAGS, Text,
+    Cores, Items, Kb, LEAST_MEMORY, LayerSpec, MOST_COMMAND, MOST_MEMORY, MOST_RANGE, MOST_TAGS,
+    Text,
 };
 use frame_range::{FrameSet, RangeFault, parse_set};
 use std::alloc::{AllocError, Global};

@@ -4,8 +4,8 @@ ghost use Rattle.std.specs.Prelude.{◌≡◌, Ok, Err, if◌then◌else◌};
 ghost use Rattle.std.specs.List.{list_all};
 ghost use Rattle.serde_json.specs.View.{members_view};
 ghost use Rattle.cue_json.specs.Fields.{Gives, WrongKind, text_at};
-ghost use Rattle.farm_types.specs.Forms.{is_tag_text};
-ghost use Rattle.farm_lines.specs.Spec.{is_command_byte, is_command_text, is_name_or_empty, text_of};
+ghost use Rattle.farm_types.specs.Forms.{is_command_byte, is_command_text, is_name_or_empty, is_tag_text};
+ghost use Rattle.farm_lines.specs.Spec.{text_of};
 
 use cue_json::{FieldFault, Map};
 use farm_types::{Text, is_name, is_tag};

@@ -1,12 +1,15 @@
 -- The entries that lines make are a legal run.
-use Rattle.std.proofs.Common.{◌≡◌, ℕ, ◌-◌, ◌&&◌, Bool, true, false, cond, List, [], ◌∷◌, ◌++◌, take, refl, sym, Option, None, Some, Result, Ok, Err, zero, suc, length}
+use Rattle.std.proofs.Common.{◌≡◌, ℕ, ◌-◌, ◌<◌, ◌^◌, ◌&&◌, Bool, true, false, cond, List, [], ◌∷◌, ◌++◌, take, refl, sym, Option, None, Some, Result, Ok, Err, zero, suc, length}
 use Rattle.std.specs.Prelude.{nat_lt}
 use Rattle.std.proofs.Common.{true≢false}
+use Rattle.std.specs.List.{All}
+use Rattle.std.proofs.lemmas.List.Elements.{All-head, All-tail}
 use Rattle.farm_types.specs.declared.dispatch.Candidate.{Candidate}
 use Rattle.farm_types.specs.declared.entry.Entry.{Entry}
 use Rattle.farm_types.specs.declared.refusal.Refusal.{Refusal}
 use Rattle.farm_lines.specs.declared.report.Report.{Report}
 use Rattle.farm_types.specs.Farm.{Farm, host_named}
+use Rattle.farm_types.specs.Formed.{IsFormed}
 use Rattle.farm_types.specs.Booking.{may_book, may_record, tags_match}
 use Rattle.farm_types.specs.Step.{HasCondition, refusal_of, after}
 use Rattle.farm_types.specs.Run.{run_of, IsLegal, IsLegalStep}
@@ -16,6 +19,7 @@ use Rattle.farm_lines.specs.declared.request.Request.TheVariants as request
 use Rattle.farm_lines.specs.Request.{RequestError, request_of}
 use Rattle.farm_lines.specs.Transcript.{Mark, Plain, Memory, CutAfter, LatePlain, LateCut, Answered, Exchange, heard_entry, entry_of, marked_answer, accepted_answer, report_answer, entry_answer, asked_answer, request_answer, unless_memory, answer_to, answer_at, farm_next, entries_in, only_reply}
 use Rattle.farm_lines.specs.declared.reply.Reply.TheVariants as reply
+use Rattle.farm_lines.proofs.RequestLemmas.{requests_formed}
 use Rattle.line_answers.proofs.AnswerLemmas.{asked_condition}
 use Rattle.farm_types.specs.declared.limits.TheConstants.{BOOKINGS_EACH}
 use Rattle.farm_lines.specs.declared.limits.TheConstants.{LINE_LIMIT}
@@ -37,64 +41,70 @@ legal_take f (suc k) [] l = tt
 legal_take f (suc k) (x ∷ xs) l = (l.0, legal_take (after f x) k xs l.1)
 
 -- a candidate that may be booked makes a legal step
-book_legal : (f : Farm) (c : Candidate) (moment : ℕ) → may_book f c.slot c.host ≡ true → IsLegalStep f (book_entry c moment)
-book_legal f c moment h = record { accepted = refl; condition = (both_of (may_record f c.slot c.host) (tags_match f c.slot c.host) h).0 }
+book_legal : (f : Farm) (c : Candidate) (moment : ℕ) → moment < 2 ^ 64 → may_book f c.slot c.host ≡ true → IsLegalStep f (book_entry c moment)
+book_legal f c moment low h = record {
+  formed = record { moment_within = low; act_formed = tt };
+  accepted = refl;
+  condition = (both_of (may_record f c.slot c.host) (tags_match f c.slot c.host) h).0;
+}
 
 -- the bookings of a round
-pub legal_round : (left : ℕ) (f : Farm) (moment : ℕ) (cs : List Candidate) → IsLegal f (round_from left f moment cs)
-legal_round left f moment [] = tt
-legal_round left f moment (c ∷ cs) =
-    by (nat_lt 0 left && may_book f c.slot c.host) refl (legal_round (left - 1) (after f (book_entry c moment)) moment cs) (legal_round left f moment cs)
+pub legal_round : (left : ℕ) (f : Farm) (moment : ℕ) (cs : List Candidate) → moment < 2 ^ 64 → IsLegal f (round_from left f moment cs)
+legal_round left f moment [] low = tt
+legal_round left f moment (c ∷ cs) low =
+    by (nat_lt 0 left && may_book f c.slot c.host) refl (legal_round (left - 1) (after f (book_entry c moment)) moment cs low) (legal_round left f moment cs low)
   where
     by : (b : Bool) → b ≡ (nat_lt 0 left && may_book f c.slot c.host) → IsLegal (after f (book_entry c moment)) (round_from (left - 1) (after f (book_entry c moment)) moment cs) → IsLegal f (round_from left f moment cs)
         → IsLegal f (cond b (book_entry c moment ∷ round_from (left - 1) (after f (book_entry c moment)) moment cs) (round_from left f moment cs))
-    by true e booked passed = (book_legal f c moment (both_of (nat_lt 0 left) (may_book f c.slot c.host) (sym e)).1, booked)
+    by true e booked passed = (book_legal f c moment low (both_of (nat_lt 0 left) (may_book f c.slot c.host) (sym e)).1, booked)
     by false e booked passed = passed
 
 -- a report that the farm accepts, and its round
-heard_legal : (f : Farm) (report : Report) (moment : ℕ) → refusal_of f (heard_entry report moment) ≡ None → (es : List Entry)
-    → IsLegal (after f (heard_entry report moment)) es → IsLegal f (heard_entry report moment ∷ es)
-heard_legal f report moment h es l = (record { accepted = h; condition = tt }, l)
+module _ (f : Farm) (report : Report) (moment : ℕ) (formed : IsFormed (heard_entry report moment)) where
+  heard_legal : refusal_of f (heard_entry report moment) ≡ None → (es : List Entry) → IsLegal (after f (heard_entry report moment)) es → IsLegal f (heard_entry report moment ∷ es)
+  heard_legal h es l = (record { formed = formed; accepted = h; condition = tt }, l)
 
-marked_legal : (f : Farm) (host : ℕ) (report : Report) (moment : ℕ) (mark : Mark) → refusal_of f (heard_entry report moment) ≡ None
-    → IsLegal f (marked_answer f host report (heard_entry report moment) (round_for (after f (heard_entry report moment)) host moment) mark).entries
-marked_legal f host report moment Plain h = heard_legal f report moment h _ (legal_round BOOKINGS_EACH (after f (heard_entry report moment)) moment (plan_for (after f (heard_entry report moment)) host))
-marked_legal f host report moment Memory h = tt
-marked_legal f host report moment (CutAfter k) h = heard_legal f report moment h _ (legal_take (after f (heard_entry report moment)) k _ (legal_round BOOKINGS_EACH (after f (heard_entry report moment)) moment (plan_for (after f (heard_entry report moment)) host)))
-marked_legal f host report moment LatePlain h = heard_legal f report moment h _ (legal_round BOOKINGS_EACH (after f (heard_entry report moment)) moment (plan_for (after f (heard_entry report moment)) host))
-marked_legal f host report moment (LateCut k) h = heard_legal f report moment h _ (legal_take (after f (heard_entry report moment)) k _ (legal_round BOOKINGS_EACH (after f (heard_entry report moment)) moment (plan_for (after f (heard_entry report moment)) host)))
+  round_legal : (host : ℕ) → IsLegal (after f (heard_entry report moment)) (round_for (after f (heard_entry report moment)) host moment)
+  round_legal host = legal_round BOOKINGS_EACH (after f (heard_entry report moment)) moment (plan_for (after f (heard_entry report moment)) host) formed.moment_within
 
-accepted_legal : (f : Farm) (report : Report) (moment : ℕ) (mark : Mark) (host : Option ℕ) → refusal_of f (heard_entry report moment) ≡ None
-    → IsLegal f (accepted_answer f report moment mark host).entries
-accepted_legal f report moment mark None h = tt
-accepted_legal f report moment mark (Some host) h = marked_legal f host report moment mark h
+  marked_legal : (host : ℕ) (mark : Mark) → refusal_of f (heard_entry report moment) ≡ None
+      → IsLegal f (marked_answer f host report (heard_entry report moment) (round_for (after f (heard_entry report moment)) host moment) mark).entries
+  marked_legal host Plain h = heard_legal h _ (round_legal host)
+  marked_legal host Memory h = tt
+  marked_legal host (CutAfter k) h = heard_legal h _ (legal_take (after f (heard_entry report moment)) k _ (round_legal host))
+  marked_legal host LatePlain h = heard_legal h _ (round_legal host)
+  marked_legal host (LateCut k) h = heard_legal h _ (legal_take (after f (heard_entry report moment)) k _ (round_legal host))
 
-report_legal : (f : Farm) (report : Report) (moment : ℕ) (mark : Mark) (why : Option Refusal) → refusal_of f (heard_entry report moment) ≡ why
-    → IsLegal f (report_answer f report moment mark why).entries
-report_legal f report moment mark (Some why) h = tt
-report_legal f report moment mark None h = accepted_legal f report moment mark (host_named f report.host) h
+  accepted_legal : (mark : Mark) (host : Option ℕ) → refusal_of f (heard_entry report moment) ≡ None → IsLegal f (accepted_answer f report moment mark host).entries
+  accepted_legal mark None h = tt
+  accepted_legal mark (Some host) h = marked_legal host mark h
+
+  report_legal : (mark : Mark) (why : Option Refusal) → refusal_of f (heard_entry report moment) ≡ why → IsLegal f (report_answer f report moment mark why).entries
+  report_legal mark (Some why) h = tt
+  report_legal mark None h = accepted_legal mark (host_named f report.host) h
 
 -- an entry that the farm accepts
-entry_legal : (f : Farm) (e : Entry) (why : Option Refusal) → refusal_of f e ≡ why → HasCondition f e.act → IsLegal f (entry_answer f e why).entries
-entry_legal f e (Some why) h condition = tt
-entry_legal f e None h condition = (record { accepted = h; condition = condition }, tt)
+entry_legal : (f : Farm) (e : Entry) (why : Option Refusal) → IsFormed e → refusal_of f e ≡ why → HasCondition f e.act → IsLegal f (entry_answer f e why).entries
+entry_legal f e (Some why) formed h condition = tt
+entry_legal f e None formed h condition = (record { formed = formed; accepted = h; condition = condition }, tt)
 
-one : (f : Farm) (moment : ℕ) (asked : Request) → IsLegal f (entry_answer f (entry_of asked moment) (refusal_of f (entry_of asked moment))).entries
-one f moment asked = entry_legal f (entry_of asked moment) (refusal_of f (entry_of asked moment)) refl (asked_condition f asked)
+one : (f : Farm) (moment : ℕ) (asked : Request) → IsFormed (entry_of asked moment) → IsLegal f (entry_answer f (entry_of asked moment) (refusal_of f (entry_of asked moment))).entries
+one f moment asked formed = entry_legal f (entry_of asked moment) (refusal_of f (entry_of asked moment)) formed refl (asked_condition f asked)
 
-asked_legal : (f : Farm) (moment : ℕ) (mark : Mark) (asked : Request) → IsLegal f (asked_answer f moment mark asked).entries
-asked_legal f moment mark (request.Report report) = report_legal f report moment mark (refusal_of f (heard_entry report moment)) refl
-asked_legal f moment mark (request.Show name) = one f moment (request.Show name)
-asked_legal f moment mark (request.Alloc facility tag) = one f moment (request.Alloc facility tag)
-asked_legal f moment mark (request.Sub line) = one f moment (request.Sub line)
-asked_legal f moment mark (request.Boot line) = one f moment (request.Boot line)
-asked_legal f moment mark (request.Lock host lock) = one f moment (request.Lock host lock)
-asked_legal f moment mark (request.Submit spec) = one f moment (request.Submit spec)
-asked_legal f moment mark request.Tick = one f moment request.Tick
+asked_legal : (f : Farm) (moment : ℕ) (mark : Mark) (asked : Request) → IsFormed (entry_of asked moment) → IsLegal f (asked_answer f moment mark asked).entries
+asked_legal f moment mark (request.Report report) formed = report_legal f report moment formed mark (refusal_of f (heard_entry report moment)) refl
+asked_legal f moment mark (request.Show name) formed = one f moment (request.Show name) formed
+asked_legal f moment mark (request.Alloc facility tag) formed = one f moment (request.Alloc facility tag) formed
+asked_legal f moment mark (request.Sub line) formed = one f moment (request.Sub line) formed
+asked_legal f moment mark (request.Boot line) formed = one f moment (request.Boot line) formed
+asked_legal f moment mark (request.Lock host lock) formed = one f moment (request.Lock host lock) formed
+asked_legal f moment mark (request.Submit spec) formed = one f moment (request.Submit spec) formed
+asked_legal f moment mark request.Tick formed = one f moment request.Tick formed
 
-request_legal : (f : Farm) (moment : ℕ) (mark : Mark) (read : Result Request RequestError) → IsLegal f (request_answer f moment mark read).entries
-request_legal f moment mark (Err error) = tt
-request_legal f moment mark (Ok asked) = asked_legal f moment mark asked
+request_legal : (f : Farm) (moment : ℕ) (mark : Mark) (read : Result Request RequestError) → ((asked : Request) → read ≡ Ok asked → IsFormed (entry_of asked moment))
+    → IsLegal f (request_answer f moment mark read).entries
+request_legal f moment mark (Err error) formed = tt
+request_legal f moment mark (Ok asked) formed = asked_legal f moment mark asked (formed asked refl)
 
 unless_legal : (f : Farm) (mark : Mark) (answered : Answered) → IsLegal f answered.entries → IsLegal f (unless_memory mark answered).entries
 unless_legal f Memory answered l = tt
@@ -104,15 +114,19 @@ unless_legal f LatePlain answered l = l
 unless_legal f (LateCut k) answered l = l
 
 -- what one line makes
-answer_legal : (f : Farm) (line : List ℕ) (moment : ℕ) (mark : Mark) → IsLegal f (answer_to f line moment mark).entries
+answer_legal : (f : Farm) (line : List ℕ) (moment : ℕ) (mark : Mark) → moment < 2 ^ 64 → IsLegal f (answer_to f line moment mark).entries
 unfolding answer_to
-answer_legal f line moment mark = by (nat_lt LINE_LIMIT (length line))
+answer_legal f line moment mark low = by (nat_lt LINE_LIMIT (length line))
   where
     by : (b : Bool) → IsLegal f (cond b (only_reply reply.TooLong) (unless_memory mark (request_answer f moment mark (request_of line)))).entries
     by true = tt
-    by false = unless_legal f mark (request_answer f moment mark (request_of line)) (request_legal f moment mark (request_of line))
+    by false =
+        unless_legal f mark (request_answer f moment mark (request_of line))
+        (request_legal f moment mark (request_of line) (λ asked is. requests_formed line asked moment low is))
 
--- what all lines make
-pub exchanges_legal : (f : Farm) (ts : List Exchange) → IsLegal f (entries_in f ts)
-exchanges_legal f [] = tt
-exchanges_legal f (t ∷ ts) = legal_append f (answer_at f t).entries (entries_in (farm_next f t) ts) (answer_legal f t.line t.moment t.mark) (exchanges_legal (farm_next f t) ts)
+-- what all lines make, each at a moment of 64 bits
+pub exchanges_legal : (f : Farm) (ts : List Exchange) → All (λ (t : Exchange). t.moment < 2 ^ 64) ts → IsLegal f (entries_in f ts)
+exchanges_legal f [] each = tt
+exchanges_legal f (t ∷ ts) each =
+    legal_append f (answer_at f t).entries (entries_in (farm_next f t) ts) (answer_legal f t.line t.moment t.mark (All-head (λ (t : Exchange). t.moment < 2 ^ 64) t ts each))
+    (exchanges_legal (farm_next f t) ts (All-tail (λ (t : Exchange). t.moment < 2 ^ 64) t ts each))

@@ -2,7 +2,8 @@
 
 ghost use Rattle.std.specs.Prelude.{◌≡◌, ◌≤◌, length};
 ghost use Rattle.farm_lines.specs.Transcript.{Mark, act_of, answer_to, asked_answer, entry_of, unless_memory};
-ghost use Rattle.farm_types.specs.Step.{HasCondition, KeepsLimits};
+ghost use Rattle.farm_types.specs.Formed.{IsFormed};
+ghost use Rattle.farm_types.specs.Step.{HasCondition};
 ghost use Rattle.report_codec.specs.Reads.{AsksWithin};
 ghost use Rattle.line_answers.specs.LineAnswers.{AnswersEntry, IsAnswer, fault_reply};
 ghost use Rattle.line_answers.specs.Lines.{IsLineOf, shown};
@@ -42,7 +43,7 @@ fn answer_request(alloc: Global, farm: &mut Farm, asked: Request, moment: u64) -
 // Answers a request of one entry, and lets the entry go.
 fn answer_taken(alloc: Global, farm: &mut Farm, entry: Entry) -> ReplyLine
     requires condition { HasCondition farm.old entry.act }
-    requires limits { KeepsLimits entry.act }
+    requires formed { IsFormed entry }
     ensures { AnswersEntry farm.old entry farm.new (shown result) }
 {
     answer_entry(alloc, farm, &entry)

@@ -1,9 +1,11 @@
 //! Answering a request of one entry.
 
 ghost use Rattle.std.specs.Prelude.{◌≡◌, ◌++◌, ◌∷◌, [], IfOk};
-ghost use Rattle.farm_core.specs.Change.{IsReady, Makes, Prepares, after_change};
+ghost use Rattle.farm_books.specs.Change.{after_change};
+ghost use Rattle.farm_core.specs.Change.{IsReady, Makes, Prepares};
 ghost use Rattle.farm_lines.specs.Reply.{job_named, ok_reply, reply_text};
-ghost use Rattle.farm_types.specs.Step.{HasCondition, KeepsLimits};
+ghost use Rattle.farm_types.specs.Formed.{IsFormed};
+ghost use Rattle.farm_types.specs.Step.{HasCondition};
 ghost use Rattle.line_answers.specs.LineAnswers.{AnswersEntry, IsRecorded, IsUnprepared};
 ghost use Rattle.line_answers.specs.Lines.{shown};
 
@@ -17,7 +19,7 @@ use std::alloc::{AllocError, Global};
 /// the farm stays as it was where memory runs out.
 pub fn answer_entry(alloc: Global, farm: &mut Farm, entry: &Entry) -> ReplyLine
     requires condition { HasCondition farm.old entry.now.act }
-    requires limits { KeepsLimits entry.now.act }
+    requires formed { IsFormed entry.now }
     ensures { AnswersEntry farm.old entry.now farm.new (shown result) }
 {
     match farm.prepare(alloc, entry) {

@@ -1,8 +1,10 @@
 //! Answering a report.
 
 ghost use Rattle.std.specs.Prelude.{◌≡◌, ◌++◌, ◌∷◌, [], IfOk, Some};
-ghost use Rattle.farm_core.specs.Change.{IsThere, Makes, Prepares};
+ghost use Rattle.farm_books.specs.Change.{IsThere};
+ghost use Rattle.farm_core.specs.Change.{Makes, Prepares};
 ghost use Rattle.farm_types.specs.Farm.{host_named};
+ghost use Rattle.farm_types.specs.Formed.{IsFormed};
 ghost use Rattle.farm_lines.specs.Reply.{reply_text, report_reply};
 ghost use Rattle.farm_lines.specs.Transcript.{Mark, heard_entry};
 ghost use Rattle.line_answers.specs.LineAnswers.{AnswersReport, IsRoundAnswer};
@@ -19,6 +21,7 @@ use std::alloc::{AllocError, Global};
 
 /// Answers a report: records it and its round, and gives the line of its reply.
 pub fn answer_report(alloc: Global, farm: &mut Farm, report: &Report, moment: u64) -> ReplyLine
+    requires { IsFormed (heard_entry report.now moment) }
     ensures { AnswersReport farm.old report.now moment farm.new (shown result) }
 {
     match prepare_heard(alloc, farm, report, moment) {
@@ -63,6 +66,7 @@ fn prepare_heard(
     report: &Report,
     moment: u64,
 ) -> Result<Change, PrepareFault>
+    requires { IsFormed (heard_entry report.now moment) }
     ensures { Prepares farm.now (heard_entry report.now moment) result }
 {
     let entry = entry_of(alloc, report, moment)?;

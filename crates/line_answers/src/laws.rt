@@ -1,16 +1,17 @@
 //! Laws of lines. The public functions here do nothing: their contracts are the laws.
 
-ghost use Rattle.std.specs.Prelude.{ℕ, List};
+ghost use Rattle.std.specs.Prelude.{◌<◌, ◌^◌, ℕ, List};
+ghost use Rattle.std.specs.List.{All};
 ghost use Rattle.farm_lines.specs.declared.report.Report.{Report};
 ghost use Rattle.farm_types.specs.Farm.{Farm};
 ghost use Rattle.farm_types.specs.Run.{IsLegal};
 ghost use Rattle.farm_lines.specs.Transcript.{Mark, Exchange, entries_in};
 ghost use Rattle.line_answers.specs.Outcomes.{WalksWhole, IsTaken, HasWholeRound, IsAnsweredFully};
 
-/// Whatever lines come, at whatever moments, and wherever memory runs out, the entries that are recorded are a legal run.
+/// Whatever lines come, at whatever moments of 64 bits, and wherever memory runs out, the entries that are recorded are a legal run.
 #[tactic(auto, using(crate::proofs::LegalLemmas::exchanges_legal))]
 pub fn sessions_are_legal()
-    ensures { (f : Farm) (exchanges : List Exchange) → IsLegal f (entries_in f exchanges) }
+    ensures { (f : Farm) (exchanges : List Exchange) → All (λ t. t.moment < 2 ^ 64) exchanges → IsLegal f (entries_in f exchanges) }
 {}
 
 /// A report that the farm takes is recorded with exactly its round of bookings, unless memory ran out before it was recorded or within

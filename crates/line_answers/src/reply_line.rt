@@ -53,20 +53,11 @@ pub fn refusal_line(alloc: Global, why: Refusal) -> ReplyLine
     line_of(alloc, &Reply::Refused(why))
 }
 
-/// The reply's text with a newline.
+/// The reply's text with a newline, which is added to the text itself.
 pub fn write_line(alloc: Global, reply: &Reply) -> Result<Text, AllocError>
     ensures { IfOk result (λ line. line ≡ reply_text reply.now ++ 10 ∷ []) }
 {
-    let text = write_reply(alloc, reply)?;
-    with_newline(alloc, text.as_str())
-}
-
-// The text with a newline behind it.
-fn with_newline(alloc: Global, text: &str) -> Result<Text, AllocError>
-    ensures { IfOk result (λ line. line ≡ text.now ++ 10 ∷ []) }
-{
-    let mut line = String::with_capacity(alloc, text.len())?;
-    line.push_str(text)?;
+    let mut line = write_reply(alloc, reply)?.into_string();
     line.push_str("\n")?;
     Ok(Text::from_string(line))
 }

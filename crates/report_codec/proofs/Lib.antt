@@ -1,2 +1,3 @@
-pub mod Floats
 pub mod Newlines
+pub mod Printed
+pub mod ReadLemmas

@@ -5,7 +5,7 @@ use Rattle.farm_lines.specs.declared.request.RequestFault.{RequestFault}
 use Rattle.farm_lines.specs.declared.request.RequestFault.TheVariants.{BadLine, BadRange, BadAmount, NoMemory}
 use Rattle.farm_lines.specs.Request.{RequestError}
 use Rattle.farm_lines.specs.Request as error
-use Rattle.farm_types.specs.Step.{KeepsLimits}
+use Rattle.farm_types.specs.Formed.{IsFormedAct}
 use Rattle.farm_lines.specs.Transcript.{act_of}
 
 -- the call's fault is the one that was to be read, unless memory ran out
@@ -20,6 +20,6 @@ abbrev pub IsRequest : Result Request RequestFault → Result Request RequestErr
 IsRequest (Ok asked) read = read ≡ Ok asked
 IsRequest (Err fault) read = Fails fault read
 
--- the entry that is made of what is asked keeps its limits
+-- what is asked makes an act within its forms and limits
 abbrev pub AsksWithin : Request → Type 0
-AsksWithin asked = KeepsLimits (act_of asked)
+AsksWithin asked = IsFormedAct (act_of asked)

@@ -1,20 +1,19 @@
 //! The line that adds an allocation.
 
-ghost use Rattle.std.specs.Prelude.{IfOk};
+ghost use Rattle.std.specs.Prelude.{◌≡◌, IfOk};
 ghost use Rattle.serde_json.specs.View.{members_view};
 ghost use Rattle.cue_json.specs.Fields.{Gives, of_kind};
 ghost use Rattle.farm_lines.specs.Request.{alloc_at, alloc_name_at, alloc_of_name, alloc_parts, asked, asks_alloc};
-ghost use Rattle.report_codec.specs.Reads.{AsksWithin, IsRequest};
+ghost use Rattle.report_codec.specs.Reads.{IsRequest};
 
 use cue_json::{FieldFault, Map};
 use farm_lines::{Request, RequestFault, split_at_point};
 use farm_types::{AllocRow, Text, is_tag};
-use std::alloc::Global;
+use std::alloc::{AllocError, Global};
 
 /// The allocation that the object adds, or its first fault.
 pub fn read_alloc(alloc: Global, object: &Map) -> Result<Request, RequestFault>
-    ensures gives { IsRequest result (asked asks_alloc (alloc_at (members_view object.now.entries))) }
-    ensures limits { IfOk result AsksWithin }
+    ensures { IsRequest result (asked asks_alloc (alloc_at (members_view object.now.entries))) }
 {
     let AllocRow { facility, tag } = allocation(alloc, object)?;
     Ok(Request::Alloc { facility, tag })
@@ -54,11 +53,18 @@ fn parts(alloc: Global, field: &str, facility: &str, tag: &str) -> Result<AllocR
     ensures { Gives (λ row. row) result (of_kind field.now (alloc_parts facility.now (Some tag.now))) }
 {
     if is_tag(facility) && is_tag(tag) {
-        Ok(AllocRow {
-            facility: Text::from_str(alloc, facility)?,
-            tag: Text::from_str(alloc, tag)?,
-        })
+        Ok(row_of(alloc, facility, tag)?)
     } else {
         Err(FieldFault::wrong_kind(alloc, field))
     }
+}
+
+// The allocation of these parts.
+fn row_of(alloc: Global, facility: &str, tag: &str) -> Result<AllocRow, AllocError>
+    ensures { IfOk result (λ row. row ≡ record { facility = facility.now; tag = tag.now }) }
+{
+    Ok(AllocRow {
+        facility: Text::from_str(alloc, facility)?,
+        tag: Text::from_str(alloc, tag)?,
+    })
 }

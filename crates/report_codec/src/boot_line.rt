@@ -1,29 +1,28 @@
 //! A host's boot, and its reply.
 
-ghost use Rattle.std.specs.Prelude.{◌≡◌, IfOk};
-ghost use Rattle.serde_json.specs.View.{members_view, view};
+ghost use Rattle.std.specs.Prelude.{◌≡◌, OnOk};
+ghost use Rattle.serde_json.specs.View.{members_view};
 ghost use Rattle.cue_json.specs.Fields.{Gives};
 ghost use Rattle.farm_lines.specs.declared.request.Request.TheVariants as request;
-ghost use Rattle.farm_types.specs.Limits.{BootKeepsLimits};
 ghost use Rattle.farm_lines.specs.Reply.{boot_data};
 ghost use Rattle.farm_lines.specs.Request.{boot_form_at, boot_line_at, boot_line_of, judged};
 ghost use Rattle.job_spec.specs.SpecResults.{GivesSpec};
-ghost use Rattle.report_codec.specs.Reads.{AsksWithin, IsRequest};
+ghost use Rattle.report_codec.specs.Reads.{IsRequest};
+ghost use Rattle.report_codec.specs.Tokens.{added, tokens_of};
 
 use crate::read_fields::{read_number, read_text};
+use crate::reply_writer::ReplyWriter;
 use cue_json::{FieldFault, Map};
 use farm_lines::{BootForm, Request, RequestFault, read_name};
 use farm_types::{
     BootLine, Cores, Kb, LEAST_CORES, LEAST_MEMORY, MOST_CORES, MOST_MEMORY, MOST_TAGS,
 };
 use job_spec::{SpecFault, read_tags, within};
-use serde_json::{Value, json};
 use std::alloc::{AllocError, Global};
 
 /// The boot that the object tells, or its first fault. All forms come before the amounts.
 pub fn read_boot(alloc: Global, object: &Map) -> Result<Request, RequestFault>
-    ensures gives { IsRequest result (judged request.Boot (boot_line_at (members_view object.now.entries))) }
-    ensures limits { IfOk result AsksWithin }
+    ensures { IsRequest result (judged request.Boot (boot_line_at (members_view object.now.entries))) }
 {
     let form = read_form(alloc, object)?;
     let line = judge(alloc, form)?;
@@ -59,8 +58,7 @@ fn read_form(alloc: Global, object: &Map) -> Result<BootForm, FieldFault>
 // The amounts in order: how many tags there are, then cores, then memory.
 #[tactic(auto, unfolding(farm_lines::specs::Request::boot_line_of))]
 fn judge(alloc: Global, form: BootForm) -> Result<BootLine, SpecFault>
-    ensures gives { GivesSpec result (boot_line_of form) }
-    ensures limits { IfOk result BootKeepsLimits }
+    ensures { GivesSpec result (boot_line_of form) }
 {
     within(
         alloc,
@@ -95,8 +93,12 @@ fn judge(alloc: Global, form: BootForm) -> Result<BootLine, SpecFault>
 
 /// The reply to it: the number of the boot, and the nonce that the host sent.
 #[tactic(auto, unfolding(farm_lines::specs::Reply::boot_data))]
-pub fn boot_value(alloc: Global, boot: u32, nonce: u64) -> Result<Value, AllocError>
-    ensures { IfOk result (λ value. view value ≡ boot_data boot nonce) }
+pub fn write_boot(out: &mut ReplyWriter, boot: u32, nonce: u64) -> Result<(), AllocError>
+    ensures { OnOk result (out.new ≡ added out.old (tokens_of (boot_data boot nonce))) }
 {
-    json!(in alloc; {"boot": boot, "nonce": nonce, "ok": true})
+    out.begin_object()?;
+    out.whole("boot", u64::from(boot))?;
+    out.whole("nonce", nonce)?;
+    out.truth("ok", true)?;
+    out.end_object()
 }

@@ -3,13 +3,14 @@
 
 mod alloc_line;
 mod boot_line;
-mod fault_value;
+mod fault_reply;
 mod item;
 mod laws;
 mod lock_line;
 mod read;
 mod read_fields;
-mod refusal_value;
+mod refusal_reply;
+mod reply_writer;
 mod report_line;
 mod show_line;
 mod sub_line;

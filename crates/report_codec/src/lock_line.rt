@@ -1,10 +1,10 @@
 //! The line that locks or opens a host.
 
-ghost use Rattle.std.specs.Prelude.{◌≡◌, IfOk};
+ghost use Rattle.std.specs.Prelude.{◌≡◌};
 ghost use Rattle.serde_json.specs.View.{members_view};
 ghost use Rattle.cue_json.specs.Fields.{Gives};
 ghost use Rattle.farm_lines.specs.Request.{asked, asks_lock, lock_at, lock_line_at, lock_of};
-ghost use Rattle.report_codec.specs.Reads.{AsksWithin, IsRequest};
+ghost use Rattle.report_codec.specs.Reads.{IsRequest};
 
 use cue_json::{FieldFault, Map};
 use farm_lines::{Request, RequestFault, read_name};
@@ -13,8 +13,7 @@ use std::alloc::Global;
 
 /// The host whose lock the object sets, or its first fault.
 pub fn read_lock(alloc: Global, object: &Map) -> Result<Request, RequestFault>
-    ensures gives { IsRequest result (asked asks_lock (lock_line_at (members_view object.now.entries))) }
-    ensures limits { IfOk result AsksWithin }
+    ensures { IsRequest result (asked asks_lock (lock_line_at (members_view object.now.entries))) }
 {
     let (host, lock) = lock_line(alloc, object)?;
     Ok(Request::Lock { host, lock })

@@ -18,7 +18,7 @@ use farm_lines::{Request, RequestFault};
 use farm_types::Text;
 use std::alloc::Global;
 
-/// What the line asks, or its first fault. The amounts of what is asked are within their limits.
+/// What the line asks, or its first fault. What is asked makes an act within its forms and limits.
 #[tactic(auto, unfolding(farm_lines::specs::Request::request_of))]
 pub fn read_request(alloc: Global, line: &[u8]) -> Result<Request, RequestFault>
     ensures gives { IsRequest result (request_of line.now) }
@@ -43,8 +43,7 @@ fn no_object(alloc: Global) -> RequestFault
 
 // The request that the object is.
 fn request(alloc: Global, object: &Map) -> Result<Request, RequestFault>
-    ensures gives { IsRequest result (request_at (members_view object.now.entries)) }
-    ensures limits { IfOk result AsksWithin }
+    ensures { IsRequest result (request_at (members_view object.now.entries)) }
 {
     let op = cue_json::text(alloc, object, "op")?;
     request_by_op(alloc, object, op)
@@ -52,8 +51,7 @@ fn request(alloc: Global, object: &Map) -> Result<Request, RequestFault>
 
 // The request that `op` names.
 fn request_by_op(alloc: Global, object: &Map, op: &str) -> Result<Request, RequestFault>
-    ensures gives { IsRequest result (by_op (members_view object.now.entries) op.now) }
-    ensures limits { IfOk result AsksWithin }
+    ensures { IsRequest result (by_op (members_view object.now.entries) op.now) }
 {
     match op {
         "boot" => read_boot(alloc, object),

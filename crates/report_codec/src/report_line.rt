@@ -1,24 +1,25 @@
 //! A host's report, and its reply.
 
-ghost use Rattle.std.specs.Prelude.{◌≡◌, IfOk};
-ghost use Rattle.serde_json.specs.View.{members_view, view};
+ghost use Rattle.std.specs.Prelude.{◌≡◌, ◌∷◌, OnOk};
+ghost use Rattle.json.specs.Token.{key};
+ghost use Rattle.serde_json.specs.View.{members_view};
 ghost use Rattle.cue_json.specs.Fields.{Gives};
 ghost use Rattle.farm_lines.specs.declared.request.Request.TheVariants as request;
 ghost use Rattle.farm_lines.specs.Reply.{attempt_data, attempts_data, cut_text, launch_data, launches_data, report_data};
 ghost use Rattle.farm_lines.specs.Request.{asked, report_at};
-ghost use Rattle.report_codec.specs.Reads.{AsksWithin, IsRequest};
+ghost use Rattle.report_codec.specs.Reads.{IsRequest};
+ghost use Rattle.report_codec.specs.Tokens.{added, tokens_of};
 
 use crate::item;
+use crate::reply_writer::ReplyWriter;
 use cue_json::{FieldFault, Map};
 use farm_lines::{Launch, Report, ReportReply, Request, RequestFault, read_name};
 use farm_types::{Attempt, Cut, LAST_BOOT};
-use serde_json::{Value, json};
 use std::alloc::{AllocError, Global};
 
 /// The report that the object is, or its first fault.
 pub fn read_report(alloc: Global, object: &Map) -> Result<Request, RequestFault>
-    ensures gives { IsRequest result (asked request.Report (report_at (members_view object.now.entries))) }
-    ensures limits { IfOk result AsksWithin }
+    ensures { IsRequest result (asked request.Report (report_at (members_view object.now.entries))) }
 {
     let report = report(alloc, object)?;
     Ok(Request::Report(report))
@@ -50,60 +51,64 @@ fn report(alloc: Global, object: &Map) -> Result<Report, FieldFault>
 
 /// The reply to a report: cores in hundredths of a core, memory in KB.
 #[tactic(auto, unfolding(farm_lines::specs::Reply::report_data))]
-pub fn report_value(alloc: Global, report: &ReportReply) -> Result<Value, AllocError>
-    ensures { IfOk result (λ value. view value ≡ report_data report.now.boot report.now.seq (cut_text report.now.cut) report.now.acks report.now.kills report.now.launches) }
+pub fn write_report(out: &mut ReplyWriter, report: &ReportReply) -> Result<(), AllocError>
+    ensures { OnOk result (out.new ≡ added out.old (tokens_of (report_data report.now.boot report.now.seq (cut_text report.now.cut) report.now.acks report.now.kills report.now.launches))) }
 {
-    let acks = attempts_value(alloc, report.acks.as_slice())?;
-    let kills = attempts_value(alloc, report.kills.as_slice())?;
-    let launches = launches_value(alloc, report.launches.as_slice())?;
-    let boot = report.boot;
-    let cut = cut_text(report.cut);
-    let seq = report.seq;
-    json!(in alloc; {"acks": acks, "boot": boot, "cut": cut, "kills": kills, "launches": launches, "ok": true, "seq": seq})
+    out.begin_object()?;
+    write_attempts(out, "acks", report.acks.as_slice())?;
+    out.whole("boot", u64::from(report.boot))?;
+    out.text("cut", cut_text(report.cut))?;
+    write_attempts(out, "kills", report.kills.as_slice())?;
+    write_launches(out, "launches", report.launches.as_slice())?;
+    out.truth("ok", true)?;
+    out.whole("seq", report.seq)?;
+    out.end_object()
 }
 
-fn attempts_value(alloc: Global, attempts: &[Attempt]) -> Result<Value, AllocError>
-    ensures { IfOk result (λ value. view value ≡ attempts_data attempts.now) }
+fn write_attempts(out: &mut ReplyWriter, name: &str, attempts: &[Attempt]) -> Result<(), AllocError>
+    ensures { OnOk result (out.new ≡ added out.old (key name.now ∷ tokens_of (attempts_data attempts.now))) }
 {
-    let mut list = Vec::new(alloc);
+    out.begin_list(name)?;
     for attempt in attempts {
-        list.push(attempt_value(alloc, *attempt)?)?;
+        write_attempt(out, *attempt)?;
     }
-    Ok(Value::Array(list))
+    out.end_list()
 }
 
-fn launches_value(alloc: Global, launches: &[Launch]) -> Result<Value, AllocError>
-    ensures { IfOk result (λ value. view value ≡ launches_data launches.now) }
+fn write_launches(out: &mut ReplyWriter, name: &str, launches: &[Launch]) -> Result<(), AllocError>
+    ensures { OnOk result (out.new ≡ added out.old (key name.now ∷ tokens_of (launches_data launches.now))) }
 {
-    let mut list = Vec::new(alloc);
+    out.begin_list(name)?;
     for launch in launches {
-        list.push(launch_value(alloc, launch)?)?;
+        write_launch(out, launch)?;
     }
-    Ok(Value::Array(list))
+    out.end_list()
 }
 
 #[tactic(auto, unfolding(farm_lines::specs::Reply::attempt_data))]
-fn attempt_value(alloc: Global, attempt: Attempt) -> Result<Value, AllocError>
-    ensures { IfOk result (λ value. view value ≡ attempt_data attempt) }
+fn write_attempt(out: &mut ReplyWriter, attempt: Attempt) -> Result<(), AllocError>
+    ensures { OnOk result (out.new ≡ added out.old (tokens_of (attempt_data attempt))) }
 {
-    let slot = attempt.slot.0;
-    let version = attempt.version.0;
-    json!(in alloc; {"slot": slot, "version": version})
+    out.begin_object()?;
+    out.slot("slot", attempt.slot)?;
+    out.version("version", attempt.version)?;
+    out.end_object()
 }
 
 #[tactic(auto, unfolding(farm_lines::specs::Reply::launch_data))]
-fn launch_value(alloc: Global, launch: &Launch) -> Result<Value, AllocError>
-    ensures { IfOk result (λ value. view value ≡ launch_data launch.now) }
+fn write_launch(out: &mut ReplyWriter, launch: &Launch) -> Result<(), AllocError>
+    ensures { OnOk result (out.new ≡ added out.old (tokens_of (launch_data launch.now))) }
 {
-    let command = launch.command.as_str();
-    let cores = launch.cores.0;
-    let frame = launch.frame.as_str();
-    let job = launch.job.as_str();
-    let layer = launch.layer.as_str();
-    let memory = launch.memory.0;
-    let slot = launch.attempt.slot.0;
-    let version = launch.attempt.version.0;
-    json!(in alloc; {"command": command, "cores": cores, "frame": frame, "job": job, "layer": layer, "memory": memory, "slot": slot, "version": version})
+    out.begin_object()?;
+    out.text("command", launch.command.as_str())?;
+    out.cores("cores", launch.cores)?;
+    out.text("frame", launch.frame.as_str())?;
+    out.text("job", launch.job.as_str())?;
+    out.text("layer", launch.layer.as_str())?;
+    out.memory("memory", launch.memory)?;
+    out.slot("slot", launch.attempt.slot)?;
+    out.version("version", launch.attempt.version)?;
+    out.end_object()
 }
 
 // The word of a reply for what ended its round.

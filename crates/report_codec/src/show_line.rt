@@ -1,11 +1,10 @@
 //! The line that adds a show.
 
-ghost use Rattle.std.specs.Prelude.{IfOk};
 ghost use Rattle.serde_json.specs.View.{members_view};
 ghost use Rattle.cue_json.specs.Fields.{Gives};
 ghost use Rattle.farm_lines.specs.declared.request.Request.TheVariants as request;
 ghost use Rattle.farm_lines.specs.Request.{asked, show_at};
-ghost use Rattle.report_codec.specs.Reads.{AsksWithin, IsRequest};
+ghost use Rattle.report_codec.specs.Reads.{IsRequest};
 
 use cue_json::{FieldFault, Map};
 use farm_lines::{Request, RequestFault, read_name};
@@ -14,8 +13,7 @@ use std::alloc::Global;
 
 /// The show that the object adds, or its first fault.
 pub fn read_show(alloc: Global, object: &Map) -> Result<Request, RequestFault>
-    ensures gives { IsRequest result (asked request.Show (show_at (members_view object.now.entries))) }
-    ensures limits { IfOk result AsksWithin }
+    ensures { IsRequest result (asked request.Show (show_at (members_view object.now.entries))) }
 {
     let name = show(alloc, object)?;
     Ok(Request::Show { name })

@@ -1,27 +1,26 @@
 //! The line that sets a subscription, and its reply.
 
-ghost use Rattle.std.specs.Prelude.{◌≡◌, IfOk};
-ghost use Rattle.serde_json.specs.View.{members_view, view};
+ghost use Rattle.std.specs.Prelude.{◌≡◌, OnOk};
+ghost use Rattle.serde_json.specs.View.{members_view};
 ghost use Rattle.cue_json.specs.Fields.{Gives};
 ghost use Rattle.farm_lines.specs.declared.request.Request.TheVariants as request;
-ghost use Rattle.farm_types.specs.Limits.{SubKeepsLimits};
 ghost use Rattle.farm_lines.specs.Reply.{sub_data};
 ghost use Rattle.farm_lines.specs.Request.{judged, sub_form_at, sub_line_at, sub_line_of};
 ghost use Rattle.job_spec.specs.SpecResults.{GivesSpec};
-ghost use Rattle.report_codec.specs.Reads.{AsksWithin, IsRequest};
+ghost use Rattle.report_codec.specs.Reads.{IsRequest};
+ghost use Rattle.report_codec.specs.Tokens.{added, tokens_of};
 
 use crate::read_fields::{read_number, read_text};
+use crate::reply_writer::ReplyWriter;
 use cue_json::{FieldFault, Map};
 use farm_lines::{Request, RequestFault, SubForm, read_name};
 use farm_types::{Cores, MOST_BURST, SubLine};
 use job_spec::{SpecFault, within};
-use serde_json::{Value, json};
 use std::alloc::{AllocError, Global};
 
 /// The subscription that the object sets, or its first fault. All forms come before the amounts.
 pub fn read_sub(alloc: Global, object: &Map) -> Result<Request, RequestFault>
-    ensures gives { IsRequest result (judged request.Sub (sub_line_at (members_view object.now.entries))) }
-    ensures limits { IfOk result AsksWithin }
+    ensures { IsRequest result (judged request.Sub (sub_line_at (members_view object.now.entries))) }
 {
     let form = read_form(alloc, object)?;
     let line = judge(alloc, form)?;
@@ -49,8 +48,7 @@ fn read_form(alloc: Global, object: &Map) -> Result<SubForm, FieldFault>
 // The amounts in order: size, then burst.
 #[tactic(auto, unfolding(farm_lines::specs::Request::sub_line_of))]
 fn judge(alloc: Global, form: SubForm) -> Result<SubLine, SpecFault>
-    ensures gives { GivesSpec result (sub_line_of form) }
-    ensures limits { IfOk result SubKeepsLimits }
+    ensures { GivesSpec result (sub_line_of form) }
 {
     within(
         alloc,
@@ -76,16 +74,18 @@ fn judge(alloc: Global, form: SubForm) -> Result<SubLine, SpecFault>
 
 /// The reply to it: the subscription's amounts, in hundredths of a core.
 #[tactic(auto, unfolding(farm_lines::specs::Reply::sub_data))]
-pub fn sub_value(
-    alloc: Global,
+pub fn write_sub(
+    out: &mut ReplyWriter,
     booked: Cores,
     burst: Cores,
     size: Cores,
-) -> Result<Value, AllocError>
-    ensures { IfOk result (λ value. view value ≡ sub_data booked burst size) }
+) -> Result<(), AllocError>
+    ensures { OnOk result (out.new ≡ added out.old (tokens_of (sub_data booked burst size))) }
 {
-    let booked = booked.0;
-    let burst = burst.0;
-    let size = size.0;
-    json!(in alloc; {"booked": booked, "burst": burst, "ok": true, "size": size})
+    out.begin_object()?;
+    out.cores("booked", booked)?;
+    out.cores("burst", burst)?;
+    out.truth("ok", true)?;
+    out.cores("size", size)?;
+    out.end_object()
 }

@@ -1,5 +1,5 @@
 -- One exchange, by what the reader gave and how much of the reply was written.
-use Rattle.std.proofs.Common.{◌≡◌, ℕ, ◌<◌, ◌≤◌, true, false, List, [], ◌∷◌, ◌++◌, length, take, drop, refl, sym, ◌∙◌, subst, Option, Result, Ok, arith, append-nil, length-drop, take-append-drop}
+use Rattle.std.proofs.Common.{◌≡◌, ℕ, ◌<◌, ◌≤◌, ◌^◌, true, false, List, [], ◌∷◌, ◌++◌, length, take, drop, refl, sym, ◌∙◌, subst, Option, Result, Ok, arith, append-nil, length-drop, take-append-drop}
 use Rattle.cue_io.specs.declared.line.Line.{Line}
 use Rattle.cue_io.specs.declared.line.LineFault.{LineFault}
 use Rattle.cue_io.specs.Input.{IsAtEnd}
@@ -26,24 +26,24 @@ answers_long f moment text law e line long =
 
 -- what was given is answered, and the reply's text sent
 exchange_answered : (result : Exchanged) (answer : Result Given LineFault) (given : Given) (before after : Farm) (moment : ℕ) (mark : Mark) (text wrote : List ℕ)
-    → answer ≡ Ok given → Answers given before moment mark after text → Sends result text wrote → Exchanges result answer before after wrote (moment ∷ [])
-exchange_answered exchanged.Went answer given before after moment mark text wrote is answers sent =
-    (given, is, record { moment = moment; mark = mark; reply = text; read = refl; answers = answers; written = append-nil wrote ∙ sent })
-exchange_answered exchanged.Write answer given before after moment mark text wrote is answers sent =
-    (given, sent.0, is, sent.1, record { moment = moment; mark = mark; reply = text; read = refl; answers = answers; written = sent.2 })
-exchange_answered exchanged.End answer given before after moment mark text wrote is answers sent = absurd sent
-exchange_answered exchanged.Read answer given before after moment mark text wrote is answers sent = absurd sent
-exchange_answered exchanged.Spent answer given before after moment mark text wrote is answers sent = absurd sent
+    → moment < 2 ^ 64 → answer ≡ Ok given → Answers given before moment mark after text → Sends result text wrote → Exchanges result answer before after wrote (moment ∷ [])
+exchange_answered exchanged.Went answer given before after moment mark text wrote low is answers sent =
+    (given, is, record { moment = moment; mark = mark; reply = text; moment_within = low; read = refl; answers = answers; written = append-nil wrote ∙ sent })
+exchange_answered exchanged.Write answer given before after moment mark text wrote low is answers sent =
+    (given, sent.0, is, sent.1, record { moment = moment; mark = mark; reply = text; moment_within = low; read = refl; answers = answers; written = sent.2 })
+exchange_answered exchanged.End answer given before after moment mark text wrote low is answers sent = absurd sent
+exchange_answered exchanged.Read answer given before after moment mark text wrote low is answers sent = absurd sent
+exchange_answered exchanged.Spent answer given before after moment mark text wrote low is answers sent = absurd sent
 
 pub step_answered : (result : Exchanged) (returned : Result Line LineFault) (given : Given) (old new : Held) (left : Option (List ℕ)) (before after : Farm)
-    (took : List ℕ) (moment : ℕ) (text wrote : List ℕ) → given_by returned ≡ Ok given → Goes old took (given_by returned) new
+    (took : List ℕ) (moment : ℕ) (text wrote : List ℕ) → moment < 2 ^ 64 → given_by returned ≡ Ok given → Goes old took (given_by returned) new
     → (old.ended ≡ false → new.ended ≡ true → IsAtEnd left) → (mark : Mark) × Answers given before moment mark after text → Sends result text wrote
     → IsStep result old new left before after took wrote (moment ∷ [])
-step_answered result returned given old new left before after took moment text wrote is goes end answers sent = record {
+step_answered result returned given old new left before after took moment text wrote low is goes end answers sent = record {
   answer = given_by returned;
   goes = goes;
   at_end = end;
-  exchanges = exchange_answered result (given_by returned) given before after moment answers.0 text wrote is answers.1 sent;
+  exchanges = exchange_answered result (given_by returned) given before after moment answers.0 text wrote low is answers.1 sent;
 }
 
 -- a line that is given whole is within the limit

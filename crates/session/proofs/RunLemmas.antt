@@ -1,6 +1,7 @@
 -- What a call of the program did, by how it ended.
-use Rattle.std.proofs.Common.{◌≡◌, ◌↔◌, ◌<◌, ℕ, List, [], ◌∷◌, length, inl, inr, refl, sym, ◌∙◌, subst, Option, None, Some, true≢false, ap, arith}
+use Rattle.std.proofs.Common.{◌≡◌, ◌↔◌, ◌<◌, ◌^◌, ℕ, List, [], ◌∷◌, length, inl, inr, refl, sym, ◌∙◌, subst, Option, None, Some, true≢false, ap, arith}
 use Rattle.std.specs.Prelude.{is_some, option_map}
+use Rattle.std.specs.List.{All}
 use Rattle.cue_io.specs.Faults.{HasRisen}
 use Rattle.cue_io.specs.Input.{Takes-none}
 use Rattle.cue_io.specs.Output.{Adds-none}
@@ -75,6 +76,21 @@ complete_session exchanged.Read status first call left ReadFails WriteFails is e
 complete_session exchanged.Write status first call left ReadFails WriteFails is ends read write unread unwritten few = absurd (unwritten (write refl))
 complete_session exchanged.Spent status first call left ReadFails WriteFails is ends read write unread unwritten few = absurd (omega (arith, ends.lines.1, few))
 
+-- a failed read and a failed write, by their status
+pub told_read : (ended : Exchanged) (status : ℕ) → status ≡ status_of ended → status ≡ 4 → ended ≡ exchanged.Read
+told_read exchanged.Went status is four = absurd (omega (arith, is, four))
+told_read exchanged.End status is four = absurd (omega (arith, is, four))
+told_read exchanged.Read status is four = refl
+told_read exchanged.Write status is four = absurd (omega (arith, is, four))
+told_read exchanged.Spent status is four = absurd (omega (arith, is, four))
+
+pub told_write : (ended : Exchanged) (status : ℕ) → status ≡ status_of ended → status ≡ 5 → ended ≡ exchanged.Write
+told_write exchanged.Went status is five = absurd (omega (arith, is, five))
+told_write exchanged.End status is five = absurd (omega (arith, is, five))
+told_write exchanged.Read status is five = absurd (omega (arith, is, five))
+told_write exchanged.Write status is five = refl
+told_write exchanged.Spent status is five = absurd (omega (arith, is, five))
+
 -- with the reading at the opening
 abbrev pub opened_call : ℕ → Call → Call
 opened_call opened call = record { taken = call.taken; written = call.written; readings = opened ∷ call.readings; exchanges = call.exchanges }
@@ -82,7 +98,7 @@ opened_call opened call = record { taken = call.taken; written = call.written; r
 -- a session over a farm that was opened
 pub called_session : (words : List (List ℕ)) (form : WordForm) (status : ℕ) (ended : Exchanged) (opened : ℕ) (farm : Farm) (call : Call) (before after : Streams) (mid : Option (List ℕ))
     → form_of words ≡ Some form → status ≡ status_of ended → farm ≡ opened_farm form opened
-    → ((f : Farm) (exchanges : List Exchange) → IsLegal f (entries_in f exchanges))
+    → ((f : Farm) (exchanges : List Exchange) → All (λ (t : Exchange). t.moment < 2 ^ 64) exchanges → IsLegal f (entries_in f exchanges))
     → ((f : Farm) (es : List Entry) → IsSound f → HasItsHosts f → IsLegal f es → IsSafe f es)
     → Tells before.readings mid (opened ∷ [])
     → HasMoved (streams before.left before.read_faults before.written before.write_faults mid) after call
@@ -92,7 +108,7 @@ pub called_session : (words : List (List ℕ)) (form : WordForm) (status : ℕ) 
 called_session words form status ended opened farm call before after mid formed is opens legal_law safe_law reads moved ends read write =
     let first : Farm = opened_farm form opened in
     let over : Ends ended first call after.left = subst (λ (f : Farm). Ends ended f call after.left) opens ends in
-    let legal : IsLegal first (entries_in first call.exchanges) = legal_law first call.exchanges in
+    let legal : IsLegal first (entries_in first call.exchanges) = legal_law first call.exchanges over.within in
     record {
       moved = record {
         taken = moved.taken;

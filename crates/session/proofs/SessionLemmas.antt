@@ -1,6 +1,7 @@
 -- Exchange by exchange, a session is the transcript of its lines.
-use Rattle.std.proofs.Common.{◌≡◌, ◌<◌, ◌+◌, ℕ, Bool, true, false, List, [], ◌∷◌, ◌++◌, refl, sym, ap, ◌∙◌, subst, Option, Result, Ok, Err, append_assoc, append-nil, length, length-append}
+use Rattle.std.proofs.Common.{◌≡◌, ◌<◌, ◌^◌, ◌+◌, ℕ, Bool, true, false, List, [], ◌∷◌, ◌++◌, refl, sym, ap, ◌∙◌, subst, Option, Result, Ok, Err, append_assoc, append-nil, length, length-append}
 use Rattle.std.proofs.lemmas.List.{map-append}
+use Rattle.std.proofs.lemmas.List.Elements.{All-push}
 use Rattle.cue_io.specs.declared.line.LineFault.{LineFault}
 use Rattle.cue_io.specs.declared.line.LineFault.TheVariants as line_fault
 use Rattle.cue_io.specs.History.{HasGiven, HasGiven-next, Continues, IsCut}
@@ -39,14 +40,15 @@ moments_in-append ts t = map-append (λ u. u.moment) ts (t ∷ [])
 
 -- the farm, the text and the reading of one exchange more
 answered_more : (first : Farm) (exchanges : List Exchange) (farm : Farm) (wrote seen : List ℕ) (t : Exchange) (after : Farm) (reply : List ℕ)
-    → HasAnswered first exchanges farm wrote seen → IsAnswer farm (answer_at farm t) after reply
+    → HasAnswered first exchanges farm wrote seen → t.moment < 2 ^ 64 → IsAnswer farm (answer_at farm t) after reply
     → HasAnswered first (exchanges ++ t ∷ []) after (wrote ++ reply) (seen ++ t.moment ∷ [])
-answered_more first exchanges farm wrote seen t after reply answered answer = record {
+answered_more first exchanges farm wrote seen t after reply answered low answer = record {
   farm_is = answer.farm ∙ ap (λ g. farm_next g t) answered.farm_is ∙ sym (farm_after-append first exchanges t);
   replies = ap (λ bytes. bytes ++ reply) answered.replies
       ∙ ap (λ bytes. transcript first exchanges ++ bytes) (answer.text ∙ ap (λ g. reply_text (answer_at g t).reply ++ 10 ∷ []) answered.farm_is)
       ∙ sym (transcript-append first exchanges t);
   moments = ap (λ moments. moments ++ t.moment ∷ []) answered.moments ∙ sym (moments_in-append exchanges t);
+  within = All-push (λ (t : Exchange). t.moment < 2 ^ 64) exchanges t answered.within low;
 }
 
 -- the line that was given, and its answer
@@ -67,7 +69,7 @@ served_more first call farm after reader new left left' taken' given w u s serve
     let found = line_of_exchange given taken' (lines_in call.exchanges) new left' farm after exchange.moment exchange.mark exchange.reply continues exchange.answers in
     let t : Exchange = record { line = found.0; moment = exchange.moment; mark = exchange.mark } in
     let answered : HasAnswered first (call.exchanges ++ t ∷ []) after (call.written ++ exchange.reply) (call.readings ++ exchange.moment ∷ [])
-    = answered_more first call.exchanges farm call.written call.readings t after exchange.reply served.answered found.2 in (
+    = answered_more first call.exchanges farm call.written call.readings t after exchange.reply served.answered exchange.moment_within found.2 in (
       t,
       record {
         answered = subst (λ (bytes : List ℕ). HasAnswered first (call.exchanges ++ t ∷ []) after (call.written ++ bytes) (call.readings ++ s)) (sym exchange.written)
@@ -143,15 +145,15 @@ module _ (first : Farm) (call : Call) (farm after : Farm) (reader new : Held) (l
   served_ended exchanged.End ends step =
       let at = stands (Ok AtEnd) exchanged.End step step.exchanges.0 in
       let same = quiet step.exchanges.1.none_written step.exchanges.1.none_read in
-      (call.exchanges, record { lines = (record { cut = at.0; none_left = at.1 }, unspent exchanged.End step step.exchanges.0); replies = same.0; moments = same.1 })
+      (call.exchanges, record { lines = (record { cut = at.0; none_left = at.1 }, unspent exchanged.End step step.exchanges.0); replies = same.0; moments = same.1; within = served.answered.within })
   served_ended exchanged.Read ends step =
       let at = stands (Err line_fault.Read) exchanged.Read step step.exchanges.0 in
       let same = quiet step.exchanges.1.none_written step.exchanges.1.none_read in
-      (call.exchanges, record { lines = (at.0, at.1); replies = same.0; moments = same.1 })
+      (call.exchanges, record { lines = (at.0, at.1); replies = same.0; moments = same.1; within = served.answered.within })
   served_ended exchanged.Spent ends step =
       let at = stands (Err line_fault.Spent) exchanged.Spent step step.exchanges.0 in
       let same = quiet step.exchanges.1.none_written step.exchanges.1.none_read in
-      (call.exchanges, record { lines = (at.0, at.1); replies = same.0; moments = same.1 })
+      (call.exchanges, record { lines = (at.0, at.1); replies = same.0; moments = same.1; within = served.answered.within })
   served_ended exchanged.Write ends step =
       let given = step.exchanges.0 in
       let unwritten = step.exchanges.1 in
@@ -170,5 +172,6 @@ module _ (first : Farm) (call : Call) (farm after : Farm) (reader new : Held) (l
             written = ap (λ bytes. bytes ++ w) served.answered.replies;
           };
           moments = more.1.answered.moments;
+          within = more.1.answered.within;
         },
       )

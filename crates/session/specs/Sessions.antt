@@ -1,5 +1,6 @@
 -- What a whole call does: what it took, wrote and read of the clock, the exchanges that it made, and how it ended.
-use Rattle.std.specs.Prelude.{◌≡◌, ◌↔◌, ◌<◌, ◌++◌, ◌∷◌, [], ◌⊎◌, ℕ, List, true, false, length, is_some, Option, Some, Result, Ok, Err}
+use Rattle.std.specs.Prelude.{◌≡◌, ◌↔◌, ◌<◌, ◌^◌, ◌++◌, ◌∷◌, [], ◌⊎◌, ℕ, List, true, false, length, is_some, Option, Some, Result, Ok, Err}
+use Rattle.std.specs.List.{All}
 use Rattle.cue_io.specs.declared.line.LineFault.{LineFault}
 use Rattle.cue_io.specs.declared.line.LineFault.TheVariants as line_fault
 use Rattle.cue_io.specs.Faults.{HasRisen}
@@ -28,11 +29,12 @@ Answers (Whole line) old moment mark new text = IsAnswer old (answer_to old line
 Answers Long old moment mark new text = (line : List ℕ) → LINE_LIMIT < length line → IsAnswer old (answer_to old line moment mark) new text
 Answers AtEnd old moment mark new text = ⊥
 
--- a line was answered, with the clock's reading and the mark; of the reply's text this was written, and this wasn't
+-- a line was answered, with the clock's reading, a number of 64 bits, and the mark; of the reply's text this was written, and this wasn't
 pub record IsExchange (given : Given) (old new : Farm) (wrote unwritten seen : List ℕ) : Type 0 where
   pub moment : ℕ
   pub mark : Mark
   pub reply : List ℕ
+  pub moment_within : moment < 2 ^ 64
   pub read : seen ≡ moment ∷ []
   pub answers : Answers given old moment mark new reply
   pub written : wrote ++ unwritten ≡ reply
@@ -96,11 +98,12 @@ pub record HasMoved (before after : Streams) (call : Call) : Type 0 where
 
 -- ---- a whole session
 
--- these exchanges were made: the farm is the one after them, and the bytes written are their transcript
+-- these exchanges were made, each at a moment of 64 bits: the farm is the one after them, and the bytes written are their transcript
 pub record HasAnswered (first : Farm) (exchanges : List Exchange) (farm : Farm) (wrote seen : List ℕ) : Type 0 where
   pub farm_is : farm ≡ farm_after first exchanges
   pub replies : wrote ≡ transcript first exchanges
   pub moments : seen ≡ moments_in exchanges
+  pub within : All (λ (t : Exchange). t.moment < 2 ^ 64) exchanges
 
 -- these exchanges were made, and their lines are those that the reader gave of the bytes taken
 pub record HasServed (first : Farm) (call : Call) (farm : Farm) (reader : Held) (left : Option (List ℕ)) : Type 0 where
@@ -146,6 +149,7 @@ pub record Ends (ended : Exchanged) (first : Farm) (call : Call) (left : Option 
   pub lines : HasLines ended call.taken (lines_in call.exchanges) left
   pub replies : HasReplies ended first call.exchanges call.written
   pub moments : call.readings ≡ moments_in call.exchanges
+  pub within : All (λ (t : Exchange). t.moment < 2 ^ 64) call.exchanges
 
 -- ---- the call
 

@@ -2,7 +2,8 @@
 
 ghost use Rattle.std.specs.Prelude.{◌≡◌, IfOk, OnOk};
 ghost use Rattle.farm_types.specs.Farm.{empty_farm};
-ghost use Rattle.farm_types.specs.Step.{HasCondition, KeepsLimits, after};
+ghost use Rattle.farm_types.specs.Formed.{IsFormed};
+ghost use Rattle.farm_types.specs.Step.{HasCondition, after};
 ghost use Rattle.session.specs.Words.{opened_entry, opened_farm, word_form};
 
 use crate::words::Form;
@@ -43,7 +44,7 @@ fn record_opening(alloc: Global, farm: &mut Farm, moment: u64) -> Result<(), All
 // Records an entry. No farm refuses its opening, so that a fault is that memory ran out.
 fn record(alloc: Global, farm: &mut Farm, entry: &Entry) -> Result<(), AllocError>
     requires condition { HasCondition farm.old entry.now.act }
-    requires limits { KeepsLimits entry.now.act }
+    requires formed { IsFormed entry.now }
     ensures { OnOk result (farm.new ≡ after farm.old entry.now) }
 {
     match farm.prepare(alloc, entry) {

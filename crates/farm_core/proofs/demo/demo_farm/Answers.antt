@@ -1,13 +1,9 @@
-use Rattle.std.proofs.Common.{refl}
-use Rattle.farm_core.specs.DemoJob.{demo_ledger}
-use Rattle.farm_core.proofs.DemoKept.{demo_kept}
+use Rattle.std.proofs.Common.{◌<◌, ◌^◌, sym, subst, arith}
+use Rattle.farm_types.specs.Kept.{IsKeptFarm}
+use Rattle.farm_law.proofs.KeptFirst.{kept_demo}
 use Rattle.farm_core.proofs.demo.demo_farm.Goals as goal
 
 pub invariant_of-result : goal.invariant_of-result
-unfolding demo_ledger
 invariant_of-result c =
-    rw (c.in_ok-shows_of.ensures, c.in_ok-allocs_of.ensures, c.in_ok-subs_of.ensures, c.in_ok-hosts_of.ensures, c.in_ok-jobs_of.ensures, c.in_ok-usage_of.ensures) (demo_kept c.args.moment)
-
-pub returns : goal.returns
-unfolding demo_ledger
-returns c = rw (c.in_ok-shows_of.ensures, c.in_ok-allocs_of.ensures, c.in_ok-subs_of.ensures, c.in_ok-hosts_of.ensures, c.in_ok-jobs_of.ensures) refl
+    let within : c.args.moment < 2 ^ 64 = omega arith in
+    subst IsKeptFarm (sym c.in_ok-books.ensures) (kept_demo c.args.moment within)

@@ -1,7 +1,16 @@
 -- A report, and any other request.
+use Rattle.std.proofs.Common.{sym, subst, arith}
+use Rattle.farm_types.specs.Formed.{IsFormed}
+use Rattle.report_codec.specs.Reads.{AsksWithin}
 use Rattle.line_answers.specs.Lines.{shown}
 use Rattle.line_answers.proofs.AnswerLemmas.{answered_entry, answered_report}
 use Rattle.line_answers.proofs.answer.answer_request.Goals as goal
+
+pub answer_report-requires : goal.answer_report-requires
+answer_report-requires c = record { moment_within = omega (arith, c.ranges.moment); act_formed = subst AsksWithin c.in-Report.is c.requires }
+
+pub answer_taken-requires-clause-formed : goal.answer_taken-requires-clause-formed
+answer_taken-requires-clause-formed c = subst IsFormed (sym c.entry_of.ensures) (record { moment_within = omega (arith, c.ranges.moment); act_formed = c.requires })
 
 pub returns-in-Report : goal.returns-in-Report
 returns-in-Report c =

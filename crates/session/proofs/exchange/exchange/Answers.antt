@@ -1,5 +1,5 @@
 -- A line that is within the limit or too long is answered.
-use Rattle.std.proofs.Common.{◌≡◌, ◌≤◌, ℕ, List, [], ◌∷◌, ◌++◌, length, Ok, ap, ◌∙◌, refl, subst}
+use Rattle.std.proofs.Common.{◌≡◌, ◌≤◌, ℕ, List, [], ◌∷◌, ◌++◌, length, Ok, ap, ◌∙◌, refl, subst, arith}
 use Rattle.cue_io.specs.Reader.{Whole, Long, given_by}
 use Rattle.farm_lines.specs.declared.reply.Reply.TheVariants as reply
 use Rattle.farm_lines.specs.Reply.{reply_text}
@@ -27,7 +27,7 @@ returns-in-Ok-Bytes-clause-step g c =
       sent.1,
       c.now-moment.ensures,
       step_answered c.send.result c.next.result (Whole c.in-Ok-Bytes.line.now) c.args.reader.now c.next.follows.lender-at-none (g.S.Source.left c.next.new.source)
-          c.args.farm.now c.answer_line-reply.new.farm moves.took c.now-moment.result (shown c.answer_line-reply.result) sent.0 is moves.goes moves.end
+          c.args.farm.now c.answer_line-reply.new.farm moves.took c.now-moment.result (shown c.answer_line-reply.result) sent.0 (omega arith) is moves.goes moves.end
           c.answer_line-reply.ensures sent.2,
     )
 
@@ -44,6 +44,6 @@ returns-in-Ok-TooLong-clause-step g c =
       sent.1,
       c.now-moment-in-Ok-TooLong.ensures,
       step_answered c.send-in-Ok-TooLong.result c.next.result Long c.args.reader.now c.next.follows.lender-at-none (g.S.Source.left c.next.new.source)
-          c.args.farm.now c.args.farm.now moves.took c.now-moment-in-Ok-TooLong.result text sent.0 is moves.goes moves.end
+          c.args.farm.now c.args.farm.now moves.took c.now-moment-in-Ok-TooLong.result text sent.0 (omega arith) is moves.goes moves.end
           (Plain, answers_long c.args.farm.now c.now-moment-in-Ok-TooLong.result text (λ line. c.lines_are_answered_by_what_they_ask.ensures c.args.farm.now line c.now-moment-in-Ok-TooLong.result) refl) sent.2,
     )

@@ -4,7 +4,7 @@ use Rattle.std.specs.Prelude.{option_map}
 use Rattle.cue_io.specs.Readings.{Tells-none}
 use Rattle.session.specs.Sessions.{Streams, streams}
 use Rattle.session.specs.Words.{form_of, word_form}
-use Rattle.session.proofs.RunLemmas.{called_for_memory, called_for_usage, called_session, idle, no_form, opened_call}
+use Rattle.session.proofs.RunLemmas.{called_for_memory, called_for_usage, called_session, idle, no_form, opened_call, told_read, told_write}
 use Rattle.session.proofs.run.run_cuebot.Goals as goal
 
 pub returns-in_default-clause-call : goal.returns-in_default-clause-call
@@ -38,3 +38,9 @@ returns-clause-call g c =
           (sym c.form.ensures ∙ ap (option_map word_form) c.in-Some.is) c.status.ensures c.in-Ok-open_farm.ensures c.sessions_are_legal.ensures c.legal_runs_are_safe.ensures
           c.now-moment.ensures session.1 session.2 c.serve.ensures.read c.serve.ensures.write,
     )
+
+pub returns-clause-read : goal.returns-clause-read
+returns-clause-read g c = λ four. c.serve.ensures.read (told_read c.serve.result c.status.result c.status.ensures four)
+
+pub returns-clause-write : goal.returns-clause-write
+returns-clause-write g c = λ five. c.serve.ensures.write (told_write c.serve.result c.status.result c.status.ensures five)

@@ -1,11 +1,13 @@
 -- Before the first exchange, after one more, and at the last.
-use Rattle.std.proofs.Common.{[], ◌++◌, refl, sym, subst, arith}
+use Rattle.std.proofs.Common.{[], ◌++◌, ◌<◌, ◌^◌, refl, sym, subst, arith}
+use Rattle.std.proofs.lemmas.List.Elements.{All-nil}
 use Rattle.cue_io.specs.Faults.{HasRisen-earlier}
 use Rattle.cue_io.specs.History.{HasGiven, HasGiven-new}
 use Rattle.cue_io.specs.Input.{Takes-none}
 use Rattle.cue_io.specs.Output.{Adds-none}
 use Rattle.cue_io.specs.Reader.{Held}
 use Rattle.cue_io.specs.Readings.{Tells-none}
+use Rattle.farm_lines.specs.Transcript.{Exchange}
 use Rattle.session.specs.Sessions.{Call, Streams, streams}
 use Rattle.session.proofs.SessionLemmas.{moved_more, served_went, served_ended}
 use Rattle.session.proofs.serve.serve.Goals as goal
@@ -22,7 +24,7 @@ exchanges-init g c =
           readings = Tells-none (g.C.Clock.readings c.args.clock.now);
         };
         served = record {
-          answered = record { farm_is = refl; replies = refl; moments = refl };
+          answered = record { farm_is = refl; replies = refl; moments = refl; within = All-nil (λ (t : Exchange). t.moment < 2 ^ 64) };
           given = subst (λ (reader : Held). HasGiven LINE_LIMIT [] [] reader left) (sym c.requires) (HasGiven-new LINE_LIMIT left);
         };
         source = omega arith;

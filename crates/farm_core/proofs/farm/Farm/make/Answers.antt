@@ -1,13 +1,7 @@
-use Rattle.std.proofs.Common.{refl}
-use Rattle.sub_ledger.specs.Ledger.{no_subs}
-use Rattle.farm_core.proofs.DemoKept.{empty_kept}
+use Rattle.std.proofs.Common.{sym, subst}
+use Rattle.farm_types.specs.Kept.{IsKeptFarm}
+use Rattle.farm_law.proofs.KeptFirst.{kept_empty}
 use Rattle.farm_core.proofs.farm.Farm.make.Goals as goal
 
 pub invariant_of-result : goal.invariant_of-result
-unfolding no_subs
-invariant_of-result c =
-    rw (c.in_ok-make.ensures, c.in_ok-make-2.ensures, c.in_ok-make-3.ensures, c.in_ok-make-4.ensures, c.in_ok-make-5.ensures, c.in_ok-make-6.ensures) empty_kept
-
-pub returns : goal.returns
-unfolding no_subs
-returns c = rw (c.in_ok-make.ensures, c.in_ok-make-2.ensures, c.in_ok-make-3.ensures, c.in_ok-make-4.ensures, c.in_ok-make-5.ensures) refl
+invariant_of-result c = subst IsKeptFarm (sym c.in_ok-books.ensures) kept_empty

@@ -13,4 +13,4 @@ invariant_of-self c =
     let new = c.lock_at.ensures.items in
     let names = ap (map name_of) new ∙ map-changed_at_kept name_of change (λ row. refl) rows i in
     let watched = c.self.invariant.watched_are ∙ sym (ap (map watched_of) new ∙ map-changed_at_kept watched_of change (λ row. refl) rows i) in
-    kept_hosts c.self.inside _ c.self.invariant refl names watched c.lock_at.ensures.capacity refl
+    kept_hosts c.self.inside _ c.self.invariant refl names watched c.self.invariant.since_oldest c.lock_at.ensures.capacity refl

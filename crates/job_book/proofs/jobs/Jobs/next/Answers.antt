@@ -4,7 +4,7 @@ use Rattle.std.proofs.lemmas.List.Folds.{find_at}
 use Rattle.farm_types.specs.declared.rows.JobRow.{JobRow}
 use Rattle.farm_types.specs.Jobs.{JobLists}
 use Rattle.job_book.specs.Book.{IsLeastAbove}
-use Rattle.job_book.specs.Inside.{IsRising, job_key}
+use Rattle.farm_types.specs.Rising.{IsRising, job_key}
 use Rattle.job_book.proofs.NextJob.{number_above, next_is}
 use Rattle.job_book.proofs.jobs.Jobs.next.Goals as goal
 

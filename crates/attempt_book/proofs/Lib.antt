@@ -1,0 +1,6 @@
+pub mod Firsts
+pub mod KeptSums
+pub mod KeptWays
+pub mod KnownAttempts
+pub mod Marks
+pub mod TotalAt

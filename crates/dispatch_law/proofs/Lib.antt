@@ -1,0 +1,11 @@
+pub mod ByIndexLaw
+pub mod Distinct
+pub mod Found
+pub mod InJob
+pub mod InLayer
+pub mod InShow
+pub mod Keys
+pub mod RankFacts
+pub mod RankOrder
+pub mod Strict
+pub mod Subs

@@ -1,0 +1,191 @@
+//! The books, and the calls that read one of their rows.
+
+ghost use Rattle.std.specs.Prelude.{◌≡◌, ◌≤◌, length, slice_get, option_copied, All, IfOk, IfSome, IfNone};
+ghost use Rattle.job_book.specs.Book.{IsLeastAbove};
+ghost use Rattle.farm_types.specs.Farm.{empty_farm, job_at, layer_at, sub_at, sub_of};
+ghost use Rattle.farm_types.specs.Step.{lists_of};
+ghost use Rattle.farm_types.specs.Sums.{booked_in, total_at};
+ghost use Rattle.farm_books.specs.Reads.{job_after};
+ghost use Rattle.farm_types.specs.Run.{live_at};
+ghost use Rattle.std.specs.Prelude.{ℕ};
+ghost use Rattle.farm_types.specs.declared.limits.TheConstants.{SLOT_LIMIT};
+
+use crate::shows::Shows;
+use crate::usage::Usage;
+use alloc_tags::Allocs;
+use farm_types::{
+    AllocNo, AllocRow, HostNo, HostRow, JobNo, JobRow, LayerRow, MOST_ALLOCS, ProcRow, SUB_NUMBERS,
+    ShowNo, ShowRow, Slot, SlotRow, SubNo, SubRow,
+};
+use host_book::Hosts;
+use job_book::Jobs;
+use std::alloc::{AllocError, Global};
+use std::marker::Model;
+use sub_ledger::Subs;
+
+/// The farm's books, and its counters, which contracts see as the farm. Beside them is kept what live attempts use of each host. Of an entry it
+/// is known only what each book asks: that the farm keeps what every farm keeps is the law of the layer above.
+#[derive(Debug, Drop)]
+pub struct Books {
+    pub(crate) shows: Shows,
+    pub(crate) allocs: Allocs,
+    pub(crate) subs: Subs,
+    pub(crate) hosts: Hosts,
+    pub(crate) jobs: Jobs,
+    pub(crate) usage: Usage,
+    pub(crate) next_depend: u64,
+    pub(crate) next_finish: u64,
+    pub(crate) moment: u64,
+    pub(crate) recorded: bool,
+}
+
+impl Model for Books {
+    ghost use Rattle.farm_types.specs.Farm as types;
+
+    ghost Value = { types.Farm };
+
+    ghost use Rattle.farm_books.specs.Inside.{farm_of, KeepsFarm};
+
+    ghost view = { farm_of };
+
+    ghost invariant = { KeepsFarm };
+}
+
+impl Books {
+    /// The books of no rows. They take their memory.
+    pub fn make(alloc: Global) -> Result<Books, AllocError>
+        ensures { IfOk result (λ f. f ≡ empty_farm) }
+    {
+        Ok(Books {
+            shows: Shows::make(alloc)?,
+            allocs: Allocs::make(alloc)?,
+            subs: Subs::make(alloc)?,
+            hosts: Hosts::make(alloc)?,
+            jobs: Jobs::make(alloc)?,
+            usage: Usage::make(alloc)?,
+            next_depend: 1,
+            next_finish: 1,
+            moment: 0,
+            recorded: false,
+        })
+    }
+
+    /// The moment (seconds) that the farm is at.
+    pub fn moment(&self) -> u64
+        ensures { result ≡ self.now.moment }
+    {
+        self.moment
+    }
+
+    /// The slots, each at its number, up to the last that was ever used.
+    pub fn slots(&self) -> &[SlotRow]
+        ensures value { result.now ≡ self.now.slots }
+        ensures count { length result.now ≤ SLOT_LIMIT }
+    {
+        self.jobs.slots()
+    }
+
+    /// The jobs, their layers and the slots.
+    pub fn jobs(&self) -> &Jobs
+        ensures { result.now ≡ lists_of self.now }
+    {
+        &self.jobs
+    }
+
+    /// The subscriptions, and what is booked of each.
+    pub fn subs(&self) -> &Subs
+        ensures rows { result.now.subs ≡ self.now.subs }
+        ensures booked { (sub : ℕ) → total_at result.now.booked sub ≡ booked_in self.now sub }
+    {
+        &self.subs
+    }
+
+    /// The show of that number.
+    pub fn show(&self, show: ShowNo) -> Option<&ShowRow>
+        ensures { option_copied result ≡ slice_get self.now.shows show }
+    {
+        self.shows.row(show)
+    }
+
+    /// The allocation of that number.
+    pub fn allocation(&self, alloc: AllocNo) -> Option<&AllocRow>
+        ensures { option_copied result ≡ slice_get self.now.allocs alloc }
+    {
+        self.allocs.row(alloc)
+    }
+
+    /// The host of that number.
+    pub fn host(&self, host: HostNo) -> Option<&HostRow>
+        ensures { option_copied result ≡ slice_get self.now.hosts host }
+    {
+        self.hosts.row(host)
+    }
+
+    /// The subscription of that number.
+    pub fn sub(&self, sub: SubNo) -> Option<SubRow>
+        ensures { result ≡ sub_at self.now sub }
+    {
+        self.subs.row(sub)
+    }
+
+    /// The subscription of a show to an allocation.
+    pub fn sub_of(&self, show: ShowNo, alloc: AllocNo) -> Option<SubRow>
+        ensures value { result ≡ sub_at self.now (sub_of show alloc) }
+        ensures number { IfSome result (λ s. s.sub ≡ sub_of show alloc) }
+    {
+        let number = sub_number(show, alloc);
+        let subs = &self.subs;
+        if number < SUB_NUMBERS {
+            subs.row(SubNo(number as u16))
+        } else {
+            None
+        }
+    }
+
+    /// The job of that number.
+    pub fn job(&self, job: JobNo) -> Option<&JobRow>
+        ensures { option_copied result ≡ job_at self.now job }
+    {
+        self.jobs.job(job)
+    }
+
+    /// The job with the least number above this one.
+    pub fn next_job(&self, after: u32) -> Option<JobNo>
+        ensures value { result ≡ job_after self.now after }
+        ensures least { IfSome result (IsLeastAbove self.now.jobs after) }
+        ensures none { IfNone result (All (λ j. j.job ≤ after) self.now.jobs) }
+    {
+        self.jobs.next(after)
+    }
+
+    /// The layer at that place (from 0) of a job.
+    pub fn layer(&self, job: JobNo, place: u32) -> Option<&LayerRow>
+        ensures { option_copied result ≡ layer_at self.now job place }
+    {
+        self.jobs.layer(job, place)
+    }
+
+    // What stands in a slot, none past the last that was ever used.
+    pub(crate) fn slot(&self, slot: Slot) -> Option<SlotRow>
+        ensures { result ≡ slice_get self.now.slots slot }
+    {
+        self.jobs.row(slot)
+    }
+
+    /// The live attempt of a slot.
+    pub fn live(&self, slot: Slot) -> Option<ProcRow>
+        ensures { result ≡ live_at self.now slot }
+    {
+        match self.slot(slot) {
+            None => None,
+            Some(row) => row.proc,
+        }
+    }
+}
+
+// The number of a show's subscription to an allocation.
+pub(crate) fn sub_number(show: ShowNo, alloc: AllocNo) -> u32
+    ensures { result ≡ sub_of show alloc }
+{
+    MOST_ALLOCS * u32::from(show.0) + u32::from(alloc.0)
+}

@@ -1,0 +1,116 @@
+//! The calls that read one of the farm's rows.
+
+ghost use Rattle.std.specs.Prelude.{◌≡◌, ◌≤◌, ℕ, length, slice_get, option_copied, All, IfSome, IfNone};
+ghost use Rattle.job_book.specs.Book.{IsLeastAbove};
+ghost use Rattle.farm_types.specs.Farm.{job_at, layer_at, sub_at, sub_of};
+ghost use Rattle.farm_types.specs.Run.{live_at};
+ghost use Rattle.farm_types.specs.Step.{lists_of};
+ghost use Rattle.farm_types.specs.Sums.{booked_in, total_at};
+ghost use Rattle.farm_types.specs.declared.limits.TheConstants.{SLOT_LIMIT};
+ghost use Rattle.farm_books.specs.Reads.{job_after};
+
+use crate::farm::Farm;
+use farm_types::{
+    AllocNo, AllocRow, HostNo, HostRow, JobNo, JobRow, LayerRow, ProcRow, ShowNo, ShowRow, Slot,
+    SlotRow, SubNo, SubRow,
+};
+use job_book::Jobs;
+use sub_ledger::Subs;
+
+impl Farm {
+    /// The moment (seconds) that the farm is at.
+    pub fn moment(&self) -> u64
+        ensures { result ≡ self.now.moment }
+    {
+        self.books.moment()
+    }
+
+    /// The slots, each at its number, up to the last that was ever used.
+    pub fn slots(&self) -> &[SlotRow]
+        ensures value { result.now ≡ self.now.slots }
+        ensures count { length result.now ≤ SLOT_LIMIT }
+    {
+        self.books.slots()
+    }
+
+    /// The jobs, their layers and the slots.
+    pub fn jobs(&self) -> &Jobs
+        ensures { result.now ≡ lists_of self.now }
+    {
+        self.books.jobs()
+    }
+
+    /// The subscriptions, and what is booked of each.
+    pub fn subs(&self) -> &Subs
+        ensures rows { result.now.subs ≡ self.now.subs }
+        ensures booked { (sub : ℕ) → total_at result.now.booked sub ≡ booked_in self.now sub }
+    {
+        self.books.subs()
+    }
+
+    /// The show of that number.
+    pub fn show(&self, show: ShowNo) -> Option<&ShowRow>
+        ensures { option_copied result ≡ slice_get self.now.shows show }
+    {
+        self.books.show(show)
+    }
+
+    /// The allocation of that number.
+    pub fn allocation(&self, alloc: AllocNo) -> Option<&AllocRow>
+        ensures { option_copied result ≡ slice_get self.now.allocs alloc }
+    {
+        self.books.allocation(alloc)
+    }
+
+    /// The host of that number.
+    pub fn host(&self, host: HostNo) -> Option<&HostRow>
+        ensures { option_copied result ≡ slice_get self.now.hosts host }
+    {
+        self.books.host(host)
+    }
+
+    /// The subscription of that number.
+    pub fn sub(&self, sub: SubNo) -> Option<SubRow>
+        ensures { result ≡ sub_at self.now sub }
+    {
+        self.books.sub(sub)
+    }
+
+    /// The subscription of a show to an allocation.
+    pub fn sub_of(&self, show: ShowNo, alloc: AllocNo) -> Option<SubRow>
+        ensures value { result ≡ sub_at self.now (sub_of show alloc) }
+        ensures number { IfSome result (λ s. s.sub ≡ sub_of show alloc) }
+    {
+        self.books.sub_of(show, alloc)
+    }
+
+    /// The job of that number.
+    pub fn job(&self, job: JobNo) -> Option<&JobRow>
+        ensures { option_copied result ≡ job_at self.now job }
+    {
+        self.books.job(job)
+    }
+
+    /// The job with the least number above this one.
+    pub fn next_job(&self, after: u32) -> Option<JobNo>
+        ensures value { result ≡ job_after self.now after }
+        ensures least { IfSome result (IsLeastAbove self.now.jobs after) }
+        ensures none { IfNone result (All (λ j. j.job ≤ after) self.now.jobs) }
+    {
+        self.books.next_job(after)
+    }
+
+    /// The layer at that place (from 0) of a job.
+    pub fn layer(&self, job: JobNo, place: u32) -> Option<&LayerRow>
+        ensures { option_copied result ≡ layer_at self.now job place }
+    {
+        self.books.layer(job, place)
+    }
+
+    /// The live attempt of a slot.
+    pub fn live(&self, slot: Slot) -> Option<ProcRow>
+        ensures { result ≡ live_at self.now slot }
+    {
+        self.books.live(slot)
+    }
+}

@@ -1,0 +1,43 @@
+-- Lists related item by item: what carries over from one to the other.
+use Rattle.std.proofs.Common.{◌≡◌, ℕ, suc, zero, Bool, true, List, [], ◌∷◌, map, Some, refl, sym, subst, arith}
+use Rattle.std.specs.List.{AllZip, list_all, slice_get, sum_by}
+use Rattle.std.specs.Cmp.Derive.{both_true}
+use Rattle.std.proofs.lemmas.List.Sums.{sum_by-cons}
+use Rattle.farm_types.specs.Farm.{changed_at}
+use Rattle.farm_types.proofs.ChangedLists.{changed_at_suc}
+use Rattle.farm_types.proofs.Lists.{and_both}
+
+module _ {X : Type 0} (R : X → X → Type 0) where
+  -- a list and itself
+  pub zip_same : ((x : X) → R x x) → (xs : List X) → AllZip R xs xs
+  zip_same self [] = tt
+  zip_same self (x ∷ xs) = (self x, zip_same self xs)
+
+  -- a change of each item
+  pub zip_map : (change : X → X) → ((x : X) → R x (change x)) → (xs : List X) → AllZip R xs (map change xs)
+  zip_map change each [] = tt
+  zip_map change each (x ∷ xs) = (each x, zip_map change each xs)
+
+  -- a change of the item at a place
+  pub zip_changed_at : ((x : X) → R x x) → (change : X → X) (xs : List X) (i : ℕ) → ((x : X) → slice_get xs i ≡ Some x → R x (change x)) → AllZip R xs (changed_at xs i change)
+  zip_changed_at self change [] i here = tt
+  zip_changed_at self change (x ∷ xs) zero here = (here x refl, zip_same self xs)
+  zip_changed_at self change (x ∷ xs) (suc i) here =
+      subst (AllZip R (x ∷ xs)) (sym (changed_at_suc x xs i change)) (self x, zip_changed_at self change xs i here)
+
+  -- a test that related items pass alike
+  pub zip_all : (test : X → Bool) → ((x y : X) → R x y → test x ≡ true → test y ≡ true) → (xs ys : List X) → AllZip R xs ys → list_all test xs ≡ true → list_all test ys ≡ true
+  zip_all test each [] [] zip all = refl
+  zip_all test each [] (y ∷ ys) zip all = absurd zip
+  zip_all test each (x ∷ xs) [] zip all = absurd zip
+  zip_all test each (x ∷ xs) (y ∷ ys) zip all =
+      let both = and_both (test x) (list_all test xs) all in
+      both_true (each x y zip.0 both.0) (zip_all test each xs ys zip.1 both.1)
+
+  -- a weight that related items have alike
+  pub zip_sum : (weight : X → ℕ) → ((x y : X) → R x y → weight y ≡ weight x) → (xs ys : List X) → AllZip R xs ys → sum_by weight ys ≡ sum_by weight xs
+  zip_sum weight each [] [] zip = refl
+  zip_sum weight each [] (y ∷ ys) zip = absurd zip
+  zip_sum weight each (x ∷ xs) [] zip = absurd zip
+  zip_sum weight each (x ∷ xs) (y ∷ ys) zip =
+      omega (arith, sum_by-cons weight x xs, sum_by-cons weight y ys, each x y zip.0, zip_sum weight each xs ys zip.1)

@@ -1,0 +1,235 @@
+-- What every farm of the program keeps: each legal run from the empty farm, or from a farm that keeps it, does.
+use Rattle.std.specs.Prelude.{ℕ, ◌≡◌, ◌≤◌, ◌<◌, ◌==◌, ◌&&◌, ◌||◌, ◌+◌, ◌*◌, ◌^◌, ◌/◌, ◌%◌, Bool, true, false, not, List, [], ◌∷◌, length, map, filter, sum_by, find, is_some, slice_get, nat_le, nat_lt, bytes_eq, Option, None, Some}
+use Rattle.std.specs.List.{IsDistinct, list_all}
+use Rattle.std.specs.Ordering.{int_eq}
+use Rattle.farm_types.specs.declared.attempt.ProcRow.{ProcRow}
+use Rattle.farm_types.specs.declared.rows.AllocRow.{AllocRow}
+use Rattle.farm_types.specs.declared.rows.HostRow.{HostRow}
+use Rattle.farm_types.specs.declared.rows.JobRow.{JobRow}
+use Rattle.farm_types.specs.declared.rows.LayerRow.{LayerRow}
+use Rattle.farm_types.specs.declared.rows.ShowRow.{ShowRow}
+use Rattle.farm_types.specs.declared.rows.SubRow.{SubRow}
+use Rattle.farm_types.specs.declared.slot_row.Frame.{Frame}
+use Rattle.farm_types.specs.declared.slot_row.SlotRow.{SlotRow}
+use Rattle.farm_types.specs.declared.states.FrameState.{FrameState}
+use Rattle.farm_types.specs.declared.states.FrameState.TheVariants as frame_state
+use Rattle.farm_types.specs.Booking.{is_pending, is_up}
+use Rattle.farm_types.specs.Farm.{Farm, for_some, alloc_name, sub_of}
+use Rattle.farm_types.specs.Forms.{is_between, is_command_text, is_name_or_empty, is_name_text, is_tag_text}
+use Rattle.farm_types.specs.Jobs.{JobLists, is_placed, slot_from}
+use Rattle.farm_types.specs.Ranges.{is_range_text, range_numbers}
+use Rattle.farm_types.specs.Rising.{IsRising, job_key, layer_key, sub_key}
+use Rattle.farm_types.specs.Run.{IsSound}
+use Rattle.farm_types.specs.Step.{lists_of}
+use Rattle.farm_types.specs.declared.limits.TheConstants.{LAST_BOOT, LAST_JOB, LAST_VERSION, LEAST_CORES, LEAST_MEMORY, MOST_ALLOCS, MOST_BURST, MOST_COMMAND, MOST_CORES, MOST_FRAMES, MOST_HOSTS, MOST_LAYERS, MOST_MEMORY, MOST_PRIORITY, MOST_RETRIES, MOST_SHOWS, MOST_TAGS, SLOT_LIMIT, SUB_NUMBERS}
+
+-- no name stands twice
+abbrev pub AllDiffer : {X : Type 0} → (X → List ℕ) → List X → Type 0
+AllDiffer name xs = IsDistinct bytes_eq (map name xs)
+
+-- ---- shows and allocations
+
+abbrev pub show_label : ShowRow → List ℕ
+show_label row = row.name
+
+abbrev pub is_formed_show : ShowRow → Bool
+is_formed_show row = is_name_text row.name
+
+pub record KeepsShows (shows : List ShowRow) : Type 0 where
+  pub count : length shows ≤ MOST_SHOWS
+  pub differ : AllDiffer show_label shows
+  pub formed : list_all is_formed_show shows ≡ true
+
+abbrev pub alloc_label : AllocRow → List ℕ
+alloc_label row = alloc_name row.facility row.tag
+
+abbrev pub is_formed_alloc : AllocRow → Bool
+is_formed_alloc row = is_tag_text row.facility && is_tag_text row.tag
+
+pub record KeepsAllocs (allocs : List AllocRow) : Type 0 where
+  pub count : length allocs ≤ MOST_ALLOCS
+  pub differ : AllDiffer alloc_label allocs
+  pub formed : list_all is_formed_alloc allocs ≡ true
+
+-- ---- subscriptions
+
+-- the subscription's show and allocation are among so many, and its size and burst are within the greatest
+abbrev pub is_kept_sub : ℕ → ℕ → SubRow → Bool
+is_kept_sub shows allocs s = nat_lt (s.sub / MOST_ALLOCS) shows && (nat_lt (s.sub % MOST_ALLOCS) allocs && (nat_le s.size MOST_BURST && nat_le s.burst MOST_BURST))
+
+-- subscriptions of so many shows and allocations, in the order of their numbers
+pub record KeepsSubs (subs : List SubRow) (shows allocs : ℕ) : Type 0 where
+  pub rise : IsRising sub_key 0 subs SUB_NUMBERS
+  pub each : list_all (is_kept_sub shows allocs) subs ≡ true
+
+-- ---- hosts
+
+abbrev pub host_label : HostRow → List ℕ
+host_label row = row.name
+
+-- at most so many tags, each of its form
+abbrev pub are_tags : ℕ → List (List ℕ) → Bool
+are_tags least tags = is_between least MOST_TAGS (length tags) && list_all is_tag_text tags
+
+abbrev pub is_formed_host : HostRow → Bool
+is_formed_host row =
+    is_name_text row.name && (are_tags 0 row.tags && (is_between LEAST_CORES MOST_CORES row.cores && (is_between LEAST_MEMORY MOST_MEMORY row.memory
+    && (is_between 1 LAST_BOOT row.boot && (nat_lt row.nonce (2 ^ 64) && nat_lt row.seq (2 ^ 64))))))
+
+-- hosts of so many allocations, each heard at the moment or before it
+pub record KeepsHosts (hosts : List HostRow) (allocs moment : ℕ) : Type 0 where
+  pub count : length hosts ≤ MOST_HOSTS
+  pub differ : AllDiffer host_label hosts
+  pub formed : list_all is_formed_host hosts ≡ true
+  pub allocated : list_all (λ (row : HostRow). nat_lt row.alloc allocs) hosts ≡ true
+  pub heard : list_all (λ (row : HostRow). nat_le row.heard moment) hosts ≡ true
+
+-- ---- jobs, layers and frames
+
+abbrev pub job_label : JobRow → List ℕ
+job_label j = j.name
+
+abbrev pub is_pending_job : JobRow → Bool
+is_pending_job j = is_pending j.state
+
+-- a job of so many shows, within its forms and limits
+abbrev pub is_formed_job : ℕ → JobRow → Bool
+is_formed_job shows j =
+    is_name_text j.name && (nat_lt j.show shows && (is_tag_text j.facility && (is_name_or_empty j.shot && (is_name_or_empty j.user
+    && (is_between 1 MOST_PRIORITY j.priority && (nat_le j.max_retries MOST_RETRIES && is_between 1 MOST_FRAMES j.frames))))))
+
+abbrev pub is_formed_layer : LayerRow → Bool
+is_formed_layer l =
+    is_name_text l.name && (nat_lt l.place MOST_LAYERS && (is_range_text l.range && (is_between 1 MOST_COMMAND (length l.command) && (is_command_text l.command
+    && (is_between LEAST_CORES MOST_CORES l.cores && (is_between LEAST_MEMORY MOST_MEMORY l.memory && are_tags 1 l.tags))))))
+
+-- the layers of a job, in order
+abbrev pub layers_of : List LayerRow → ℕ → List LayerRow
+layers_of layers job = filter (λ (l : LayerRow). l.job == job) layers
+
+abbrev pub layer_label : LayerRow → List ℕ
+layer_label l = l.name
+
+-- how many frames the layers' ranges say
+abbrev pub frames_said : List LayerRow → ℕ
+frames_said layers = sum_by (λ (l : LayerRow). length (range_numbers l.range)) layers
+
+-- the layers are those at the places from this one on
+abbrev pub AreAtPlaces : ℕ → List LayerRow → Type 0
+AreAtPlaces place [] = Unit {0}
+AreAtPlaces place (l ∷ ls) = (l.place ≡ place) × AreAtPlaces (place + 1) ls
+
+-- a pending job has its layers, of names that differ, and as many frames as their ranges say
+pub record HasItsLayers (layers : List LayerRow) (j : JobRow) : Type 0 where
+  pub places : AreAtPlaces 0 (layers_of layers j.job)
+  pub differ : AllDiffer layer_label (layers_of layers j.job)
+  pub frames : frames_said (layers_of layers j.job) ≡ j.frames
+
+-- the job of that number is there and pending
+abbrev pub is_of_pending : List JobRow → ℕ → Bool
+is_of_pending jobs job = for_some (find (λ j. j.job == job) jobs) is_pending_job
+
+-- the layer at that place of a job
+abbrev pub layer_in : List LayerRow → ℕ → ℕ → Option LayerRow
+layer_in layers job place = find (λ l. l.job == job && l.place == place) layers
+
+abbrev pub is_setup : FrameState → Bool
+is_setup frame_state.Setup = true
+is_setup other = false
+
+-- the frame has the number at its position in its layer's range, its retries are within the most, and no booking of it is half done
+abbrev pub is_kept_frame : List LayerRow → Frame → Bool
+is_kept_frame layers x =
+    for_some (layer_in layers x.job x.layer) (λ l. for_some (slice_get (range_numbers l.range) x.position) (λ number. int_eq number x.number))
+    && (nat_le x.retries MOST_RETRIES && not (is_setup x.state))
+
+-- what a test says of a thing, and true where there is none
+abbrev pub for_any : {X : Type 0} → Option X → (X → Bool) → Bool
+for_any None test = true
+for_any (Some x) test = test x
+
+abbrev pub is_kept_slot : List LayerRow → SlotRow → Bool
+is_kept_slot layers s = nat_le s.version LAST_VERSION && for_any s.frame (is_kept_frame layers)
+
+-- two frames at one position of one layer
+abbrev pub is_same_place : Frame → Frame → Bool
+is_same_place x y = is_placed x.job x.layer x.position y
+
+-- each frame stands in one slot
+abbrev pub EachOnce : List SlotRow → Type 0
+EachOnce slots =
+    (i k : ℕ) (s t : SlotRow) (x y : Frame) → slice_get slots i ≡ Some s → s.frame ≡ Some x → slice_get slots k ≡ Some t → t.frame ≡ Some y → is_same_place x y ≡ true → i ≡ k
+
+-- each number of each layer's range has its frame
+abbrev pub EachThere : List LayerRow → List SlotRow → Type 0
+EachThere layers slots =
+    (n : ℕ) (l : LayerRow) → slice_get layers n ≡ Some l → (position : ℕ) → position < length (range_numbers l.range) → is_some (slot_from 0 (is_placed l.job l.place position) slots) ≡ true
+
+-- the slot was used: it has a frame or a version
+abbrev pub is_used : SlotRow → Bool
+is_used s = is_some s.frame || nat_lt 0 s.version
+
+-- the list is empty, or its last slot was used
+abbrev pub EndsUsed : List SlotRow → Type 0
+EndsUsed [] = Unit {0}
+EndsUsed (s ∷ []) = is_used s ≡ true
+EndsUsed (s ∷ (t ∷ ts)) = EndsUsed (t ∷ ts)
+
+-- the jobs of so many shows with their layers and frames; `finish` is the next finishing number
+pub record KeepsJobs (b : JobLists) (shows finish : ℕ) : Type 0 where
+  pub next_within : b.next_job ≤ LAST_JOB + 1
+  pub finish_within : finish + length (filter is_pending_job b.jobs) ≤ b.next_job
+  pub jobs_rise : IsRising job_key 1 b.jobs b.next_job
+  pub jobs_formed : list_all (is_formed_job shows) b.jobs ≡ true
+  pub jobs_differ : AllDiffer job_label (filter is_pending_job b.jobs)
+  pub jobs_layered : (n : ℕ) (j : JobRow) → slice_get b.jobs n ≡ Some j → is_pending_job j ≡ true → HasItsLayers b.layers j
+  pub layers_rise : IsRising layer_key 0 b.layers (MOST_LAYERS * b.next_job)
+  pub layers_formed : list_all is_formed_layer b.layers ≡ true
+  pub layers_owned : list_all (λ (l : LayerRow). is_of_pending b.jobs l.job) b.layers ≡ true
+  pub slot_count : length b.slots ≤ SLOT_LIMIT
+  pub slots_kept : list_all (is_kept_slot b.layers) b.slots ≡ true
+  pub frames_once : EachOnce b.slots
+  pub frames_there : EachThere b.layers b.slots
+  pub ends_used : EndsUsed b.slots
+
+-- ---- live attempts
+
+-- the attempt's host is there and up, in that boot
+abbrev pub is_on_host : List HostRow → ProcRow → Bool
+is_on_host hosts p = for_some (slice_get hosts p.host) (λ row. is_up row.state && row.boot == p.boot)
+
+-- it has its layer's amounts
+abbrev pub has_amounts : List LayerRow → Frame → ProcRow → Bool
+has_amounts layers x p = for_some (layer_in layers x.job x.layer) (λ l. p.cores == l.cores && p.memory == l.memory)
+
+-- its subscription is that of its job's show and its host's allocation
+abbrev pub has_sub : List JobRow → List HostRow → Frame → ProcRow → Bool
+has_sub jobs hosts x p = for_some (find (λ j. j.job == x.job) jobs) (λ j. for_some (slice_get hosts p.host) (λ row. p.sub == sub_of j.show row.alloc))
+
+-- its subscription is there
+abbrev pub is_subscribed : List SubRow → ProcRow → Bool
+is_subscribed subs p = is_some (find (λ s. s.sub == p.sub) subs)
+
+-- what a test says of the slot's frame and live attempt, and true where it hasn't both
+abbrev pub for_both : SlotRow → (Frame → ProcRow → Bool) → Bool
+for_both s test = for_any s.frame (λ x. for_any s.proc (test x))
+
+pub record KeepsAttempts (f : Farm) : Type 0 where
+  pub hosted : list_all (λ (s : SlotRow). for_any s.proc (is_on_host f.hosts)) f.slots ≡ true
+  pub measured : list_all (λ (s : SlotRow). for_both s (has_amounts f.layers)) f.slots ≡ true
+  pub billed : list_all (λ (s : SlotRow). for_both s (has_sub f.jobs f.hosts)) f.slots ≡ true
+  pub subscribed : list_all (λ (s : SlotRow). for_any s.proc (is_subscribed f.subs)) f.slots ≡ true
+  pub since : list_all (λ (s : SlotRow). for_any s.proc (λ (p : ProcRow). nat_le p.since f.moment)) f.slots ≡ true
+
+-- ---- the farm
+
+-- A group of facts for each kind of row. Where an act leaves the rows that a group speaks of as they are, it keeps the group.
+pub record IsKeptFarm (f : Farm) : Type 0 where
+  pub moment_within : f.moment < 2 ^ 64
+  pub shows : KeepsShows f.shows
+  pub allocs : KeepsAllocs f.allocs
+  pub subs : KeepsSubs f.subs (length f.shows) (length f.allocs)
+  pub hosts : KeepsHosts f.hosts (length f.allocs) f.moment
+  pub jobs : KeepsJobs (lists_of f) (length f.shows) f.next_finish
+  pub attempts : KeepsAttempts f
+  pub sound : IsSound f

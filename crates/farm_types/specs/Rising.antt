@@ -1,0 +1,21 @@
+-- Lists whose keys rise.
+use Rattle.std.specs.Prelude.{ℕ, ◌≤◌, ◌+◌, ◌*◌, List, [], ◌∷◌}
+use Rattle.farm_types.specs.declared.rows.JobRow.{JobRow}
+use Rattle.farm_types.specs.declared.rows.LayerRow.{LayerRow}
+use Rattle.farm_types.specs.declared.rows.SubRow.{SubRow}
+use Rattle.farm_types.specs.declared.limits.TheConstants.{MOST_LAYERS}
+
+-- the keys rise strictly, from `low` and below `high`
+abbrev pub IsRising : {X : Type 0} → (X → ℕ) → ℕ → List X → ℕ → Type 0
+IsRising key low [] high = low ≤ high
+IsRising key low (x ∷ xs) high = (low ≤ key x) × IsRising key (key x + 1) xs high
+
+abbrev pub sub_key : SubRow → ℕ
+sub_key s = s.sub
+
+abbrev pub job_key : JobRow → ℕ
+job_key j = j.job
+
+-- layers are in the order of their jobs, those of a job by their places, which are below the most that a job has
+abbrev pub layer_key : LayerRow → ℕ
+layer_key l = MOST_LAYERS * l.job + l.place

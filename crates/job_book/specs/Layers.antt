@@ -1,0 +1,70 @@
+-- Where the frames of the layers stand, and which of them wait.
+use Rattle.std.specs.Prelude.{ℕ, ◌≡◌, ◌==◌, ◌&&◌, ◌+◌, Bool, true, List, [], ◌∷◌, map, length, replicate, Option, Some, option_and_then, slice_get, slice_set, if◌then◌else◌}
+use Rattle.std.specs.List.{position_or_len}
+use Rattle.farm_types.specs.declared.job.LayerSpec.{LayerSpec}
+use Rattle.farm_types.specs.declared.rows.LayerRow.{LayerRow}
+use Rattle.farm_types.specs.declared.slot_row.Frame.{Frame}
+use Rattle.farm_types.specs.declared.slot_row.SlotRow.{SlotRow}
+use Rattle.farm_types.specs.Jobs.{is_free, is_placed, slot_from}
+use Rattle.job_book.specs.Index.{waits_in}
+use Rattle.place_set.specs.Places.{first_from}
+
+-- a layer's slots in range order, and for each of them whether its frame waits
+pub record LayerPlaces : Type 0 where
+  pub slots : List ℕ
+  pub waiting : List Bool
+
+abbrev pub slots_of : LayerPlaces → List ℕ
+slots_of x = x.slots
+
+abbrev pub marks_of : LayerPlaces → List Bool
+marks_of x = x.waiting
+
+abbrev pub count_of : LayerPlaces → ℕ
+count_of x = length x.slots
+
+-- of a layer whose frames have no slots yet, and all wait
+abbrev pub fresh_places : LayerSpec → LayerPlaces
+fresh_places l = record { slots = replicate (length l.numbers) 0; waiting = replicate (length l.numbers) true }
+
+-- with the mark at a position set
+abbrev pub marked : ℕ → Bool → LayerPlaces → LayerPlaces
+marked position waits x = record x { waiting = slice_set x.waiting position waits }
+
+-- the slot of the first marked position at one or after it
+abbrev pub first_marked : ℕ → LayerPlaces → Option ℕ
+first_marked from x = option_and_then (slice_get x.slots) (first_from x.waiting from)
+
+-- ---- layers
+
+-- the place among all layers of the one at a place of a job
+abbrev pub layer_position : ℕ → ℕ → List LayerRow → ℕ
+layer_position job layer layers = position_or_len (λ (l : LayerRow). l.job == job && l.place == layer) layers
+
+-- the slot at a position of the layer at that place among all
+abbrev pub place_in : List (List ℕ) → ℕ → ℕ → Option ℕ
+place_in places place position = option_and_then (λ (ns : List ℕ). slice_get ns position) (slice_get places place)
+
+-- each layer has its slots in range order: the frame at a position stands first in the slot there, and nowhere where there is none;
+-- and each slot with a frame is the first with it
+pub record KeepsLayers (layers : List LayerRow) (slots : List SlotRow) (places : List (List ℕ)) : Type 0 where
+  pub as_many : length places ≡ length layers
+  pub found : (job layer position : ℕ) → slot_from 0 (is_placed job layer position) slots ≡ place_in places (layer_position job layer layers) position
+  pub first : (slot : ℕ) (row : SlotRow) (x : Frame) → slice_get slots slot ≡ Some row → row.frame ≡ Some x → slot_from 0 (is_placed x.job x.layer x.position) slots ≡ Some slot
+
+-- those positions of each layer are marked whose frames wait
+pub record KeepsWaiting (slots : List SlotRow) (index : List LayerPlaces) : Type 0 where
+  pub marks : (place : ℕ) (x : LayerPlaces) → slice_get index place ≡ Some x → x.waiting ≡ map (waits_in slots) x.slots
+
+-- ---- placing
+
+-- the places past the last slot that was ever used
+abbrev pub places_past : ℕ → List Frame → List ℕ
+places_past place [] = []
+places_past place (x ∷ xs) = place ∷ places_past (place + 1) xs
+
+-- where the frames go in order, each into the lowest free slot, counted from a place
+abbrev pub put_places : ℕ → List SlotRow → List Frame → List ℕ
+put_places place [] frames = places_past place frames
+put_places place (s ∷ ss) [] = []
+put_places place (s ∷ ss) (x ∷ xs) = if is_free s then place ∷ put_places (place + 1) ss xs else put_places (place + 1) ss (x ∷ xs)

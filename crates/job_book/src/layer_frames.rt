@@ -1,0 +1,78 @@
+//! Where the frames of a layer stand, and which of them wait.
+
+ghost use Rattle.std.specs.Prelude.{◌≡◌, ◌<◌, length, replicate, slice_get, slice_set, true, IfOk};
+ghost use Rattle.job_book.specs.Layers.{first_marked, marked};
+
+use farm_types::Slot;
+use place_set::PlaceSet;
+use std::alloc::{AllocError, Global};
+use std::marker::Model;
+
+/// The slots of a layer's frames, in range order, and the positions of those that wait.
+#[derive(Debug, Drop)]
+pub(crate) struct LayerFrames {
+    slots: Vec<Slot>,
+    waiting: PlaceSet,
+}
+
+impl Model for LayerFrames {
+    ghost use Rattle.job_book.specs.Layers as types;
+
+    ghost Value = { types.LayerPlaces };
+
+    ghost view = { λ frames. record { slots = frames.slots.items; waiting = frames.waiting } };
+}
+
+impl LayerFrames {
+    /// So many frames, which all wait, with no slots yet.
+    pub(crate) fn make(alloc: Global, count: usize) -> Result<LayerFrames, AllocError>
+        ensures { IfOk result (λ frames. frames ≡ record { slots = replicate count 0; waiting = replicate count true }) }
+    {
+        Ok(LayerFrames {
+            slots: vec![in alloc; Slot(0); count]?,
+            waiting: PlaceSet::full(alloc, count)?,
+        })
+    }
+
+    /// The frame at the position stands in that slot.
+    pub(crate) fn set(&mut self, position: usize, slot: Slot)
+        requires { position < length self.old.slots }
+        ensures { self.new ≡ record self.old { slots = slice_set self.old.slots position slot } }
+    {
+        self.slots[position] = slot;
+    }
+
+    /// The slot of the frame at the position.
+    pub(crate) fn at(&self, position: u32) -> Option<Slot>
+        ensures { result ≡ slice_get self.now.slots position }
+    {
+        self.slots.get(position as usize).copied()
+    }
+
+    /// Whether the frame at the position waits is noted.
+    pub(crate) fn mark(&mut self, position: u32, waits: bool)
+        ensures { self.new ≡ marked position waits self.old }
+    {
+        self.waiting.put(position as usize, waits);
+    }
+
+    /// The slot of the first waiting frame at the position or later.
+    pub(crate) fn first_waiting(&self, from: u32) -> Option<Slot>
+        ensures { result ≡ first_marked from self.now }
+    {
+        let Some(position) = self.waiting.first_from(from as usize) else {
+            return None;
+        };
+        self.slots.get(position).copied()
+    }
+
+    /// An equal layer.
+    pub(crate) fn copy(&self, alloc: Global) -> Result<LayerFrames, AllocError>
+        ensures { IfOk result (λ copy. copy ≡ self.now) }
+    {
+        Ok(LayerFrames {
+            slots: Vec::from_slice(alloc, self.slots.as_slice())?,
+            waiting: self.waiting.copy(alloc)?,
+        })
+    }
+}

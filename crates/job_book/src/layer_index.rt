@@ -1,0 +1,65 @@
+//! The index of layers: where the frames of each stand.
+
+ghost use Rattle.std.specs.Prelude.{◌≡◌, ◌≤◌, ◌+◌, ◌++◌, length, map, slice_get, option_and_then, IfOk};
+ghost use Rattle.std.specs.Vec.{vec_capacity};
+ghost use Rattle.farm_types.specs.Farm.{changed_at};
+ghost use Rattle.job_book.specs.Layers.{first_marked, fresh_places, marked, place_in, slots_of};
+
+use crate::layer_frames::LayerFrames;
+use farm_types::{LayerSpec, Slot};
+use std::alloc::{AllocError, Global};
+
+/// The slot at a position of the layer at that place.
+pub(crate) fn slot_in(index: &[LayerFrames], place: usize, position: u32) -> Option<Slot>
+    ensures { result ≡ place_in (map slots_of index.now) place position }
+{
+    match index.get(place) {
+        None => None,
+        Some(frames) => frames.at(position),
+    }
+}
+
+/// The slot of the first waiting frame of the layer at that place, at the position or later.
+pub(crate) fn waiting_in(index: &[LayerFrames], place: usize, from: u32) -> Option<Slot>
+    ensures { result ≡ option_and_then (first_marked from) (slice_get index.now place) }
+{
+    match index.get(place) {
+        None => None,
+        Some(frames) => frames.first_waiting(from),
+    }
+}
+
+/// Whether the frame at a position of the layer at that place waits is noted.
+pub(crate) fn mark_in(index: &mut Vec<LayerFrames>, place: usize, position: u32, waits: bool)
+    ensures items { index.new.items ≡ changed_at index.old.items place (marked position waits) }
+    ensures capacity { vec_capacity index.new ≡ vec_capacity index.old }
+{
+    if place < index.len() {
+        index[place].mark(position, waits);
+    }
+}
+
+/// The layers of a job whose frames have no slots yet, and all wait.
+pub(crate) fn fresh_layers(
+    alloc: Global,
+    layers: &[LayerSpec],
+) -> Result<Vec<LayerFrames>, AllocError>
+    ensures { IfOk result (λ index. index.items ≡ map fresh_places layers.now) }
+{
+    let mut index = Vec::new(alloc);
+    for layer in layers {
+        index.push(LayerFrames::make(alloc, layer.numbers.len())?)?;
+    }
+    Ok(index)
+}
+
+/// The layers of one more job, behind the others.
+pub(crate) fn add_index(index: &mut Vec<LayerFrames>, more: Vec<LayerFrames>)
+    requires { length index.old.items + length more.items ≤ vec_capacity index.old }
+    ensures items { index.new.items ≡ index.old.items ++ more.items }
+    ensures capacity { vec_capacity index.new ≡ vec_capacity index.old }
+{
+    for layer in more {
+        index.push_reserved(layer);
+    }
+}

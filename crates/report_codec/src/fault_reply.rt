@@ -1,0 +1,110 @@
+//! The replies to malformed lines, and where memory ran out,.
+
+ghost use Rattle.std.specs.Prelude.{◌≡◌, OnOk};
+ghost use Rattle.farm_lines.specs.Reply.{bad_amount, bad_line, bad_range, fault_word, no_memory, section_of, too_long};
+ghost use Rattle.report_codec.specs.Tokens.{added, tokens_of};
+
+use crate::reply_writer::ReplyWriter;
+use frame_range::RangeFault;
+use std::alloc::AllocError;
+
+/// A line or a field that isn't of its form: `field` is the innermost key, empty for the whole line.
+#[tactic(auto, unfolding(farm_lines::specs::Reply::bad_line))]
+pub fn write_bad_line(out: &mut ReplyWriter, field: &str) -> Result<(), AllocError>
+    ensures { OnOk result (out.new ≡ added out.old (tokens_of (bad_line field.now))) }
+{
+    out.begin_object()?;
+    out.whole("code", 1)?;
+    out.text("field", field)?;
+    out.truth("ok", false)?;
+    out.text("why", "bad_line")?;
+    out.end_object()
+}
+
+/// A line that is too long.
+#[tactic(auto, unfolding(farm_lines::specs::Reply::too_long))]
+pub fn write_too_long(out: &mut ReplyWriter) -> Result<(), AllocError>
+    ensures { OnOk result (out.new ≡ added out.old (tokens_of too_long)) }
+{
+    out.begin_object()?;
+    out.whole("code", 2)?;
+    out.truth("ok", false)?;
+    out.text("why", "too_long")?;
+    out.end_object()
+}
+
+/// A layer's range that has a fault.
+#[tactic(auto, unfolding(farm_lines::specs::Reply::bad_range))]
+pub fn write_bad_range(
+    out: &mut ReplyWriter,
+    layer: &str,
+    fault: RangeFault,
+) -> Result<(), AllocError>
+    ensures { OnOk result (out.new ≡ added out.old (tokens_of (bad_range layer.now fault))) }
+{
+    let word = word_of(fault);
+    let section = section_of(fault);
+    out.begin_object()?;
+    out.whole("code", 7)?;
+    out.text("fault", word)?;
+    out.text("layer", layer)?;
+    out.truth("ok", false)?;
+    out.whole("section", section)?;
+    out.text("why", "bad_range")?;
+    out.end_object()
+}
+
+/// An amount outside its limits.
+#[tactic(auto, unfolding(farm_lines::specs::Reply::bad_amount))]
+pub fn write_bad_amount(out: &mut ReplyWriter, field: &str) -> Result<(), AllocError>
+    ensures { OnOk result (out.new ≡ added out.old (tokens_of (bad_amount field.now))) }
+{
+    out.begin_object()?;
+    out.whole("code", 8)?;
+    out.text("field", field)?;
+    out.truth("ok", false)?;
+    out.text("why", "bad_amount")?;
+    out.end_object()
+}
+
+/// Out of memory.
+#[tactic(auto, unfolding(farm_lines::specs::Reply::no_memory))]
+pub fn write_no_memory(out: &mut ReplyWriter) -> Result<(), AllocError>
+    ensures { OnOk result (out.new ≡ added out.old (tokens_of no_memory)) }
+{
+    out.begin_object()?;
+    out.whole("code", 16)?;
+    out.truth("ok", false)?;
+    out.text("why", "memory")?;
+    out.end_object()
+}
+
+// The word for the fault: none where memory ran out, which is no fault of a range.
+fn word_of(fault: RangeFault) -> &'static str
+    ensures { result.now ≡ fault_word fault }
+{
+    match fault {
+        RangeFault::Syntax { .. } => "syntax",
+        RangeFault::OutOfRange { .. } => "out_of_range",
+        RangeFault::ZeroStep { .. } => "zero_step",
+        RangeFault::WrongWay { .. } => "wrong_way",
+        RangeFault::Empty { .. } => "empty",
+        RangeFault::TooMany { .. } => "too_many",
+        RangeFault::NoMemory => "",
+    }
+}
+
+// The section that has the fault, from 1.
+fn section_of(fault: RangeFault) -> u64
+    ensures { result ≡ section_of fault }
+{
+    match fault {
+        RangeFault::Syntax { section } => section as u64,
+        RangeFault::OutOfRange { section } => section as u64,
+        RangeFault::ZeroStep { section } => section as u64,
+        RangeFault::WrongWay { section } => section as u64,
+        RangeFault::Empty { section } => section as u64,
+        RangeFault::TooMany { section } => section as u64,
+        RangeFault::NoMemory => 0,
+    }
+}

@@ -1,0 +1,111 @@
+//! The farm's refusals.
+
+ghost use Rattle.std.specs.Prelude.{◌≡◌, OnOk};
+ghost use Rattle.farm_types.specs.declared.refusal.Refusal.TheVariants.{Unknown, Exists, WrongBoot, Stale, FarmFull, Full};
+ghost use Rattle.farm_lines.specs.Reply.{counted_word, refusal_data};
+ghost use Rattle.report_codec.specs.Tokens.{added, tokens_of};
+
+use crate::reply_writer::ReplyWriter;
+use farm_types::{Counted, Refusal};
+use std::alloc::AllocError;
+
+/// The refusal with its code and what it shows.
+pub fn write_refusal(out: &mut ReplyWriter, why: &Refusal) -> Result<(), AllocError>
+    ensures { OnOk result (out.new ≡ added out.old (tokens_of (refusal_data why.now))) }
+{
+    match why {
+        Refusal::Unknown { name } => write_unknown(out, name.as_str()),
+        Refusal::Exists { name } => write_exists(out, name.as_str()),
+        Refusal::WrongBoot { boot } => write_wrong_boot(out, *boot),
+        Refusal::Stale { last } => write_stale(out, *last),
+        Refusal::FarmFull { free } => write_farm_full(out, *free),
+        Refusal::Full { limit, what } => write_full(out, *limit, *what),
+    }
+}
+
+#[tactic(auto, unfolding(farm_lines::specs::Reply::refusal_data))]
+fn write_unknown(out: &mut ReplyWriter, name: &str) -> Result<(), AllocError>
+    ensures { OnOk result (out.new ≡ added out.old (tokens_of (refusal_data (Unknown name.now)))) }
+{
+    out.begin_object()?;
+    out.whole("code", 3)?;
+    out.text("name", name)?;
+    out.truth("ok", false)?;
+    out.text("why", "unknown")?;
+    out.end_object()
+}
+
+#[tactic(auto, unfolding(farm_lines::specs::Reply::refusal_data))]
+fn write_exists(out: &mut ReplyWriter, name: &str) -> Result<(), AllocError>
+    ensures { OnOk result (out.new ≡ added out.old (tokens_of (refusal_data (Exists name.now)))) }
+{
+    out.begin_object()?;
+    out.whole("code", 4)?;
+    out.text("name", name)?;
+    out.truth("ok", false)?;
+    out.text("why", "exists")?;
+    out.end_object()
+}
+
+#[tactic(auto, unfolding(farm_lines::specs::Reply::refusal_data))]
+fn write_wrong_boot(out: &mut ReplyWriter, boot: u32) -> Result<(), AllocError>
+    ensures { OnOk result (out.new ≡ added out.old (tokens_of (refusal_data (WrongBoot boot)))) }
+{
+    out.begin_object()?;
+    out.whole("boot", u64::from(boot))?;
+    out.whole("code", 5)?;
+    out.truth("ok", false)?;
+    out.text("why", "wrong_boot")?;
+    out.end_object()
+}
+
+#[tactic(auto, unfolding(farm_lines::specs::Reply::refusal_data))]
+fn write_stale(out: &mut ReplyWriter, last: u64) -> Result<(), AllocError>
+    ensures { OnOk result (out.new ≡ added out.old (tokens_of (refusal_data (Stale last)))) }
+{
+    out.begin_object()?;
+    out.whole("code", 6)?;
+    out.whole("last", last)?;
+    out.truth("ok", false)?;
+    out.text("why", "stale")?;
+    out.end_object()
+}
+
+#[tactic(auto, unfolding(farm_lines::specs::Reply::refusal_data))]
+fn write_farm_full(out: &mut ReplyWriter, free: u32) -> Result<(), AllocError>
+    ensures { OnOk result (out.new ≡ added out.old (tokens_of (refusal_data (FarmFull free)))) }
+{
+    out.begin_object()?;
+    out.whole("code", 9)?;
+    out.whole("free", u64::from(free))?;
+    out.truth("ok", false)?;
+    out.text("why", "farm_full")?;
+    out.end_object()
+}
+
+#[tactic(auto, unfolding(farm_lines::specs::Reply::refusal_data))]
+fn write_full(out: &mut ReplyWriter, limit: u64, what: Counted) -> Result<(), AllocError>
+    ensures { OnOk result (out.new ≡ added out.old (tokens_of (refusal_data (Full limit what)))) }
+{
+    let what = counted_word(what);
+    out.begin_object()?;
+    out.whole("code", 18)?;
+    out.whole("limit", limit)?;
+    out.truth("ok", false)?;
+    out.text("what", what)?;
+    out.text("why", "full")?;
+    out.end_object()
+}
+
+// The word of a reply for what is counted.
+fn counted_word(what: Counted) -> &'static str
+    ensures { result.now ≡ counted_word what }
+{
+    match what {
+        Counted::Shows => "shows",
+        Counted::Allocs => "allocs",
+        Counted::Hosts => "hosts",
+        Counted::Boots => "boots",
+        Counted::Jobs => "jobs",
+    }
+}
