@@ -1,5 +1,10 @@
-pub mod Offers
-pub mod Ordered
-pub mod Past
-pub mod RankOrder
-pub mod Ranks
+mod Booked
+mod JobSteps
+mod Offered
+mod Ordered
+mod Plans
+mod Ranks
+mod Steps
+mod SubList
+mod Views
+mod Waiting

@@ -20,7 +20,7 @@ use Rattle.farm_types.specs.Booking.{may_book, may_record, tags_match, within_bu
 use Rattle.farm_types.specs.Dispatch.{rank_cmp, rank_at, rank_in, with_found, ranks_from, insert_rank, sorted_ranks, order_for}
 use Rattle.dispatch_plan.specs.Order.{bookable_from, bookable, StandsBefore, AreInOrder, IsDispatchOrder}
 use Rattle.farm_types.proofs.Lists.{and_both, for_some_true}
-use Rattle.dispatch_plan.proofs.RankOrder.{rank_total}
+use Rattle.dispatch_law.proofs.RankOrder.{rank_total}
 use Rattle.dispatch_plan.proofs.Ranks.{is_above, insert_is}
 
 -- ---- two ranks

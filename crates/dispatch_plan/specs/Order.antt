@@ -1,11 +1,10 @@
 -- What the dispatch order of a host is: each frame that may be booked there, once, and none before one that comes before it.
-use Rattle.std.specs.Prelude.{ℕ, ◌≡◌, ◌==◌, ◌+◌, ◌-◌, ◌&&◌, Bool, List, [], ◌∷◌, length, map, false, slice_get, if◌then◌else◌}
+use Rattle.std.specs.Prelude.{ℕ, ◌≡◌, ◌+◌, List, [], ◌∷◌, map, false, if◌then◌else◌}
 use Rattle.std.specs.Ordering.{is_gt}
 use Rattle.std.specs.List.Sorted.{IsPermutation}
 use Rattle.farm_types.specs.declared.dispatch.Rank.{Rank}
 use Rattle.farm_types.specs.declared.slot_row.SlotRow.{SlotRow}
-use Rattle.farm_types.specs.declared.limits.TheConstants.{CANDIDATES_EACH}
-use Rattle.farm_types.specs.Farm.{Farm, for_some}
+use Rattle.farm_types.specs.Farm.{Farm}
 use Rattle.farm_types.specs.Booking.{may_book}
 use Rattle.farm_types.specs.Dispatch.{rank_cmp, ranks_from, sorted_ranks, order_for}
 
@@ -26,10 +25,6 @@ StandsBefore f x (y ∷ ys) = is_gt (rank_cmp f x y) ≡ false
 abbrev pub AreInOrder : Farm → List Rank → Type 0
 AreInOrder f [] = Unit {0}
 AreInOrder f (x ∷ xs) = StandsBefore f x xs × AreInOrder f xs
-
--- as many ranks are kept as may be, and the rank is greater than the last of them
-abbrev pub is_past : Farm → Rank → List Rank → Bool
-is_past f x ys = for_some (slice_get ys (CANDIDATES_EACH - 1)) (λ last. length ys == CANDIDATES_EACH && is_gt (rank_cmp f x last))
 
 -- The order for a host lists each slot whose frame may be booked there exactly once. It is that of ranks of which none is greater than
 -- the next.

@@ -2,9 +2,10 @@
 #![tactic(auto)]
 
 mod law;
+mod offers;
 mod planning;
-mod rank;
 mod rounds;
+mod subs;
 
 pub use law::dispatch_lists_each_once;
 pub use planning::plan;

@@ -1,5 +1,5 @@
 use Rattle.std.proofs.Common.{sym, ◌∙◌}
-use Rattle.dispatch_plan.proofs.Offers.{offered_booked}
+use Rattle.dispatch_plan.proofs.Booked.{offered_booked}
 use Rattle.dispatch_plan.proofs.rounds.offer.Goals as goal
 
 pub returns-then-may_book : goal.returns-then-may_book
