@@ -1,7 +1,7 @@
 -- The way along a host's own attempts stays that of the attempts when one begins, when one ends, and when slots are added.
 use Rattle.std.proofs.Common.{◌≡◌, ◌≢◌, ℕ, zero, suc, ◌+◌, ◌-◌, ◌<◌, ◌≤◌, min, Bool, true, false, cond, eqb, get_or, List, [], ◌∷◌, ◌++◌, length, replicate, Option, Some, None, refl, sym, ap, subst, ◌∙◌, inl, inr, arith}
 use Rattle.std.specs.List.{slice_get, slice_set}
-use Rattle.std.specs.Prelude.{IsSomeAnd}
+use Rattle.std.specs.Prelude.{option_and_then}
 use Rattle.std.proofs.Math.ListN.{length-set}
 use Rattle.std.proofs.Math.Nat.{eq-zero-or-pos}
 use Rattle.std.proofs.lemmas.Bool.{cases_lt, eq-eqb, ne_eqb}
@@ -12,7 +12,7 @@ use Rattle.farm_types.specs.declared.limits.TheConstants.{MOST_HOSTS, SLOT_LIMIT
 use Rattle.farm_types.specs.Sums.{total_at, total_in}
 use Rattle.farm_types.proofs.Changed.{places, slice_get-set_other, slice_get-set_same}
 use Rattle.farm_types.proofs.Lists.{slice_get_below}
-use Rattle.attempt_book.specs.Book.{first_on, flat, live_in}
+use Rattle.attempt_book.specs.Book.{first_on, flat, next_on}
 use Rattle.attempt_book.specs.Inside.{KeepsWays}
 use Rattle.attempt_book.specs.Way.{IsJoin, first_to, mark_of, mark_on, next_to, slot_in, slot_of, way_at}
 use Rattle.attempt_book.proofs.Firsts.{first_in-more, first_in-none, is_on}
@@ -98,19 +98,12 @@ module _ (procs : List (Option ProcRow)) (first next : List ℕ) (kept : KeepsWa
       ]
 
   -- at each live attempt stands the next one on its host
-  next-slot : (i : ℕ) (p : ProcRow) → slice_get procs i ≡ Some (Some p) → slot_in (slice_get next i) ≡ first_on procs p.host (i + 1)
+  pub next-slot : (i : ℕ) (p : ProcRow) → slice_get procs i ≡ Some (Some p) → slot_in (slice_get next i) ≡ next_on procs i
   next-slot i p at =
       let here : i < length procs = slice_get_within procs i (Some p) at in
       let x = slice_get_below next i (omega (arith, kept.next_counted)) in
       ap slot_in x.1 ∙ ap slot_of (sym (ap total_in x.1) ∙ kept.next_kept i p at) ∙ slot_of-mark_on procs p.host count (i + 1) (omega arith)
-
-  after_by : (i host : ℕ) (o : Option (Option ProcRow)) → slice_get procs i ≡ o → IsSomeAnd (flat o) (λ p. p.host ≡ host) → slot_in (slice_get next i) ≡ first_on procs host (i + 1)
-  after_by i host None at on = absurd on
-  after_by i host (Some None) at on = absurd on
-  after_by i host (Some (Some p)) at on = next-slot i p at ∙ ap (λ h. first_on procs h (i + 1)) on
-
-  pub after-slot : (i host : ℕ) → IsSomeAnd (live_in procs i) (λ p. p.host ≡ host) → slot_in (slice_get next i) ≡ first_on procs host (i + 1)
-  after-slot i host on = after_by i host (slice_get procs i) refl on
+      ∙ sym (ap (λ (o : Option (Option ProcRow)). option_and_then (λ (q : ProcRow). first_on procs q.host (i + 1)) (flat o)) at)
 
   -- where the way goes from a join
   pub way_at-mark : (host slot from : ℕ) → host < MOST_HOSTS → IsJoin procs host slot from → way_at first next host from ≡ mark_on procs host from

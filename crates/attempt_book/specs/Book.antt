@@ -1,5 +1,5 @@
 -- What the book of attempts holds and answers.
-use Rattle.std.specs.Prelude.{ℕ, ◌≡◌, ◌==◌, ◌+◌, ◌<◌, List, [], ◌∷◌, sum_by, drop, find, Option, None, Some, slice_get, if◌then◌else◌}
+use Rattle.std.specs.Prelude.{ℕ, ◌≡◌, ◌==◌, ◌+◌, ◌<◌, List, [], ◌∷◌, sum_by, drop, find, Option, None, Some, option_and_then, slice_get, if◌then◌else◌}
 use Rattle.farm_types.specs.declared.attempt.ProcRow.{ProcRow}
 use Rattle.farm_types.specs.declared.rows.SubRow.{SubRow}
 use Rattle.farm_types.specs.Farm.{for_some}
@@ -44,6 +44,10 @@ first_in host place (o ∷ os) = if for_some o (λ (p : ProcRow). p.host == host
 -- the first slot with a live attempt on the host, at a slot or after it
 abbrev pub first_on : List (Option ProcRow) → ℕ → ℕ → Option ℕ
 first_on procs host from = first_in host from (drop from procs)
+
+-- the next slot with a live attempt on the host of this slot's attempt
+abbrev pub next_on : List (Option ProcRow) → ℕ → Option ℕ
+next_on procs slot = option_and_then (λ (p : ProcRow). first_on procs p.host (slot + 1)) (live_in procs slot)
 
 -- ---- conditions
 

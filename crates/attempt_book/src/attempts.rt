@@ -1,6 +1,7 @@
 //! The book.
 
-ghost use Rattle.std.specs.Prelude.{◌≡◌, ◌≤◌, ◌<◌, ◌+◌, ◌++◌, ℕ, length, replicate, None, IfOk, slice_get};
+ghost use Rattle.std.specs.Prelude.{◌≡◌, ◌≤◌, ◌<◌, ◌+◌, ◌^◌, ◌++◌, ℕ, length, nat_lt, replicate, true, None, IfOk, slice_get};
+ghost use Rattle.std.specs.List.{list_all};
 ghost use Rattle.std.specs.Vec.{vec_capacity};
 ghost use Rattle.farm_types.specs.Subs.{with_sub};
 ghost use Rattle.farm_types.specs.Sums.{total_at};
@@ -69,10 +70,11 @@ impl Attempts {
         self.subs.set(sub, size, burst);
     }
 
-    /// The subscriptions, and what is booked of each.
+    /// The subscriptions, whose numbers are below the most, and what is booked of each.
     pub fn subs(&self) -> &Subs
         ensures rows { result.now.subs ≡ self.now.subs }
         ensures booked { (sub : ℕ) → total_at result.now.booked sub ≡ cores_booked self.now.procs sub }
+        ensures numbers { list_all (λ s. nat_lt s.sub SUB_NUMBERS) self.now.subs ≡ true }
     {
         &self.subs
     }
@@ -101,7 +103,8 @@ impl Attempts {
 
     /// The memory (KB) that live attempts use on a host.
     pub fn memory(&self, host: HostNo) -> u128
-        ensures { result ≡ memory_used self.now.procs host }
+        ensures value { result ≡ memory_used self.now.procs host }
+        ensures within { result < 2 ^ 127 }
     {
         memory_at(self.memory.as_slice(), host)
     }

@@ -1,10 +1,10 @@
 //! A host's own attempts, one after the other.
 
-ghost use Rattle.std.specs.Prelude.{◌≡◌, ◌+◌, IsSomeAnd, slice_get};
-ghost use Rattle.attempt_book.specs.Book.{first_on, live_in};
+ghost use Rattle.std.specs.Prelude.{◌≡◌, slice_get};
+ghost use Rattle.attempt_book.specs.Book.{first_on, next_on};
 ghost use Rattle.attempt_book.specs.Way.{slot_in};
 
-use crate::attempts::Attempts;
+use crate::attempts::{Attempts, live_at};
 use farm_types::{HostNo, SLOT_LIMIT, Slot};
 
 impl Attempts {
@@ -15,12 +15,14 @@ impl Attempts {
         slot_at(self.first.as_slice(), usize::from(host.0))
     }
 
-    /// The next slot with a live attempt on the host, after a slot that has one there.
-    pub fn after(&self, host: HostNo, slot: Slot) -> Option<Slot>
-        requires { IsSomeAnd (live_in self.now.procs slot) (λ p. p.host ≡ host) }
-        ensures { result ≡ first_on self.now.procs host (slot + 1) }
+    /// The next slot with a live attempt on the host of this slot's attempt, none where this one has no attempt.
+    pub fn next(&self, slot: Slot) -> Option<Slot>
+        ensures { result ≡ next_on self.now.procs slot }
     {
-        slot_at(self.next.as_slice(), slot.0 as usize)
+        match live_at(self.procs.as_slice(), slot) {
+            None => None,
+            Some(_) => slot_at(self.next.as_slice(), slot.0 as usize),
+        }
     }
 }
 

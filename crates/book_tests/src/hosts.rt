@@ -1,7 +1,7 @@
 //! The book of hosts.
 
-use farm_types::{AllocNo, BootLine, Cores, HostNo, HostState, Items, Kb, Text};
-use host_book::Hosts;
+use farm_types::{AllocNo, BootLine, Cores, HostNo, HostState, Items, Kb, LockState, Text};
+use host_book::{HostLife, Hosts};
 use std::alloc::{AllocError, Global};
 use std::test::Fail;
 
@@ -32,7 +32,15 @@ fn a_copy_finds_a_host_that_went_down(rt: HostRuntime) -> Result<(), Fail> {
     let line = boot_of(rt.alloc())?;
     let mut book = book_with(rt.alloc(), &line)?;
     assert_eq!(rt; book.count(), 1);
-    book.apply_down(HostNo(0));
+    book.set_life(
+        HostNo(0),
+        HostLife {
+            state: HostState::Down,
+            heard: 5,
+            seq: 0,
+            lock: LockState::Unlocked,
+        },
+    );
     let copy = book.copy(rt.alloc())?;
     assert_eq!(rt; copy.find("node1"), Some(HostNo(0)));
     let Some(row) = copy.row(HostNo(0)) else {

@@ -17,7 +17,7 @@ fn book_with(alloc: Global, spec: &str) -> Result<Jobs, Fail> {
     let spec = read_spec(alloc, &object)?;
     let placing = book.check(alloc, &spec, ShowNo(0))?;
     let reserved = book.reserve(alloc, &spec)?;
-    book.place(reserved, placing);
+    book.place(spec, reserved, placing);
     Ok(book)
 }
 

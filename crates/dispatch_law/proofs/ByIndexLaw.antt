@@ -1,8 +1,8 @@
 -- The order of dispatch is that of the index.
-use Rattle.std.proofs.Common.{◌≡◌, ℕ, zero, suc, ◌+◌, ◌*◌, ◌/◌, ◌%◌, ◌<◌, ◌≤◌, ◌⊎◌, inl, inr, Bool, true, false, cond, List, [], ◌∷◌, length, Option, Some, None, refl, sym, ap, subst, ◌∙◌, arith, eqb, find, ◌&&◌}
+use Rattle.std.proofs.Common.{◌≡◌, ℕ, suc, ◌+◌, ◌%◌, ◌<◌, Bool, true, cond, List, [], ◌∷◌, length, Option, Some, None, refl, sym, ap, subst, ◌∙◌, arith, eqb, ◌&&◌}
 use Rattle.std.specs.Cmp.Derive.{both_true}
 use Rattle.std.specs.Cmp.Lexicographic.{slice_cmp}
-use Rattle.std.specs.List.{slice_get, sum_by, list_all, flat_map}
+use Rattle.std.specs.List.{slice_get}
 use Rattle.std.specs.Ordering.{int_eq}
 use Rattle.std.specs.Prelude.{nat_lt, nat_le, not}
 use Rattle.std.specs.declared.cmp.Ordering.{Ordering}
@@ -21,11 +21,11 @@ use Rattle.farm_types.specs.declared.slot_row.SlotRow.{SlotRow}
 use Rattle.farm_types.specs.declared.states.FrameState.{FrameState}
 use Rattle.farm_types.specs.declared.states.FrameState.TheVariants as frame_state
 use Rattle.farm_types.specs.declared.limits.TheConstants.{MOST_ALLOCS, LAST_VERSION, MOST_RETRIES}
-use Rattle.farm_types.specs.Booking.{is_pending, is_waiting}
+use Rattle.farm_types.specs.Booking.{is_waiting}
 use Rattle.farm_types.specs.Dispatch.{by_ratio, show_name, rank_cmp, rank_of, ranks_from, with_found, insert_rank, sorted_ranks}
-use Rattle.farm_types.specs.Farm.{Farm, for_some, job_at, layer_at, sub_at, sub_of}
-use Rattle.farm_types.specs.Jobs.{is_placed, slot_from}
-use Rattle.farm_types.specs.Kept.{IsKeptFarm, layers_of, is_kept_slot, is_kept_frame, for_any, layer_in, is_setup, is_same_place}
+use Rattle.farm_types.specs.Farm.{Farm, for_some, layer_at, sub_at, sub_of}
+use Rattle.farm_types.specs.Jobs.{is_placed}
+use Rattle.farm_types.specs.Kept.{IsKeptFarm, layers_of, is_kept_slot, is_kept_frame, for_any, layer_in, is_setup}
 use Rattle.farm_types.specs.Ranges.{range_numbers}
 use Rattle.farm_types.specs.Step.{lists_of}
 use Rattle.farm_types.specs.Sums.{booked_in}
@@ -34,14 +34,14 @@ use Rattle.farm_types.proofs.Passes.{for_some-there}
 use Rattle.farm_law.proofs.KeptJobsCounts.{at_stands, weight_within}
 use Rattle.job_book.specs.Book.{count_in, is_in, number_of}
 use Rattle.job_book.specs.Index.{is_ready, slot_of}
-use Rattle.dispatch_law.specs.ByIndex.{show_of, subs_to, sub_cmp, sorted_subs, rank_at_position, ranks_in_layer, ranks_in_job, ranks_in_show, ranks_by_index}
+use Rattle.dispatch_law.specs.ByIndex.{show_of, subs_to, sub_cmp, sorted_subs, ranks_in_layer, ranks_in_job, ranks_in_show, ranks_by_index}
 use Rattle.dispatch_law.proofs.Found.{find_has, filter_has, stands, there}
-use Rattle.dispatch_law.proofs.InLayer.{at_rank, have_rank_at, ranks_at_have, IsRankAt}
+use Rattle.dispatch_law.proofs.InLayer.{at_rank, have_rank_at}
 use Rattle.dispatch_law.proofs.InShow.{show_strict, in_show, show_has}
-use Rattle.dispatch_law.proofs.Keys.{HasKeys, keys_of, subs_less}
-use Rattle.dispatch_law.proofs.RankFacts.{IsRanked, ranked, IsRankFrom, ranks_have, have_rank}
+use Rattle.dispatch_law.proofs.Keys.{HasKeys, subs_less}
+use Rattle.dispatch_law.proofs.RankFacts.{IsRanked, ranked, ranks_have, have_rank}
 use Rattle.dispatch_law.proofs.RankOrder.{rank_total}
-use Rattle.dispatch_law.proofs.Strict.{Has, has_none, has_first, has_later, IsStrict, AllBefore, AreApart, insert_by, sorted_by, sorted_has, has_sorted, sorted_strict, strict_same, flat_strict, flat_from, flat_has}
+use Rattle.dispatch_law.proofs.Strict.{Has, IsStrict, AreApart, insert_by, sorted_by, sorted_has, has_sorted, sorted_strict, strict_same, flat_strict, flat_from, flat_has}
 use Rattle.dispatch_law.proofs.Subs.{sub_found, sub_to, to_sub, subs_strict}
 
 -- ---- the sorted ranks

@@ -1,5 +1,5 @@
 -- The ranks of a job: those of its layers, in the order of their places.
-use Rattle.std.proofs.Common.{◌≡◌, ℕ, zero, suc, ◌+◌, ◌<◌, ◌≤◌, true, List, [], ◌∷◌, refl, sym, ap, subst, ◌∙◌, arith, filter, eqb, length}
+use Rattle.std.proofs.Common.{◌≡◌, ℕ, ◌+◌, ◌<◌, ◌≤◌, List, [], ◌∷◌, sym, ap, ◌∙◌, arith, eqb, length}
 use Rattle.std.specs.declared.cmp.Ordering.{Ordering}
 use Rattle.std.specs.declared.cmp.Ordering.TheVariants.{Less}
 use Rattle.std.specs.Ordering.{nat_cmp}
@@ -15,8 +15,8 @@ use Rattle.dispatch_law.specs.ByIndex.{ranks_in_layer, ranks_in_job}
 use Rattle.dispatch_law.proofs.Found.{has_filter}
 use Rattle.dispatch_law.proofs.InLayer.{IsOfPlace, IsRankAt, of_place, ranks_at_have, ranks_at_strict}
 use Rattle.dispatch_law.proofs.Keys.{one_job, layers_less, less_is}
-use Rattle.dispatch_law.proofs.Strict.{Has, has_none, has_split, has_first, has_later, IsStrict, flat_strict, flat_from}
-use Rattle.std.proofs.Common.{◌⊎◌, inl, inr}
+use Rattle.dispatch_law.proofs.Strict.{Has, has_none, has_split, IsStrict, flat_strict, flat_from}
+use Rattle.std.proofs.Common.{inl, inr}
 
 abbrev pub place_cmp : LayerRow → LayerRow → Ordering
 place_cmp l m = nat_cmp l.place m.place

@@ -1,7 +1,6 @@
 -- The ranks of a layer: at rising positions, each of a frame that stands there.
-use Rattle.std.proofs.Common.{◌≡◌, ℕ, zero, suc, ◌+◌, ◌<◌, ◌≤◌, ◌-◌, ◌⊎◌, inl, inr, true, List, [], ◌∷◌, Option, Some, None, refl, sym, ap, subst, ◌∙◌, arith, option_and_then}
+use Rattle.std.proofs.Common.{◌≡◌, ℕ, zero, suc, ◌+◌, ◌<◌, ◌≤◌, ◌-◌, ◌⊎◌, inl, inr, true, Option, Some, None, refl, sym, ap, subst, ◌∙◌, arith, option_and_then}
 use Rattle.std.specs.List.{slice_get}
-use Rattle.std.specs.declared.cmp.Ordering.TheVariants.{Less}
 use Rattle.std.proofs.lemmas.Option.{same_Some}
 use Rattle.farm_types.specs.declared.dispatch.Rank.{Rank}
 use Rattle.farm_types.specs.declared.slot_row.Frame.{Frame}
@@ -10,12 +9,11 @@ use Rattle.farm_types.specs.Dispatch.{rank_of, rank_cmp, with_found}
 use Rattle.farm_types.specs.Farm.{Farm, for_some}
 use Rattle.farm_types.specs.Jobs.{is_placed}
 use Rattle.farm_types.specs.Step.{lists_of}
-use Rattle.farm_types.proofs.Lists.{for_some_true}
 use Rattle.job_book.specs.Index.{slot_of}
 use Rattle.dispatch_law.specs.ByIndex.{rank_in_slot, rank_at_position, ranks_at}
-use Rattle.dispatch_law.proofs.Found.{stands, placed_at, IsAt}
+use Rattle.dispatch_law.proofs.Found.{stands, placed_at}
 use Rattle.dispatch_law.proofs.Keys.{HasKeys, keys_of, one_job, positions_less}
-use Rattle.dispatch_law.proofs.RankFacts.{IsRanked, ranked, found_split, found_has, found_later}
+use Rattle.dispatch_law.proofs.RankFacts.{ranked, found_split, found_has, found_later}
 use Rattle.dispatch_law.proofs.Strict.{Has, has_none, IsStrict}
 
 -- ---- one position

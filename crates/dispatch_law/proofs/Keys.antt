@@ -1,7 +1,6 @@
 -- What decides where a frame stands in the order: the rows that its rank is read of.
-use Rattle.std.proofs.Common.{◌≡◌, ℕ, ◌+◌, ◌<◌, List, Option, Some, None, refl, sym, ap, subst, ◌∙◌, arith}
+use Rattle.std.proofs.Common.{◌≡◌, ℕ, ◌<◌, Some, refl, sym, ap, subst, ◌∙◌, arith}
 use Rattle.std.specs.Cmp.Lexicographic.{slice_cmp}
-use Rattle.std.specs.Cmp.{IsTotalOrder}
 use Rattle.std.specs.List.{slice_get}
 use Rattle.std.specs.declared.cmp.Ordering.{Ordering}
 use Rattle.std.specs.declared.cmp.Ordering.TheVariants.{Less, Equal, Greater}
@@ -14,10 +13,9 @@ use Rattle.farm_types.specs.declared.rows.HostRow.{HostRow}
 use Rattle.farm_types.specs.declared.rows.JobRow.{JobRow}
 use Rattle.farm_types.specs.declared.rows.SubRow.{SubRow}
 use Rattle.farm_types.specs.declared.slot_row.SlotRow.{SlotRow}
-use Rattle.farm_types.specs.Dispatch.{by_ratio, rank_cmp, show_name, rank_at}
+use Rattle.farm_types.specs.Dispatch.{by_ratio, rank_cmp, show_name}
 use Rattle.farm_types.specs.Farm.{Farm, sub_at, job_at, sub_of}
 use Rattle.farm_types.specs.Sums.{booked_in}
-use Rattle.dispatch_law.specs.ByIndex.{job_cmp, show_of, sub_cmp}
 use Rattle.dispatch_law.proofs.RankFacts.{IsRanked}
 use Rattle.dispatch_law.proofs.RankOrder.{ratio_total}
 

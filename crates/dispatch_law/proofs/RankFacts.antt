@@ -1,7 +1,6 @@
 -- What the rank of a frame that may be booked says of the farm.
 use Rattle.std.proofs.Common.{◌≡◌, ℕ, suc, zero, ◌+◌, ◌&&◌, ◌⊎◌, inl, inr, Bool, true, false, cond, List, [], ◌∷◌, Option, Some, None, refl, sym, ap, subst, ◌∙◌, arith}
 use Rattle.std.specs.List.{slice_get}
-use Rattle.std.proofs.lemmas.Bool.{false≢true}
 use Rattle.std.proofs.lemmas.Option.{same_Some}
 use Rattle.farm_types.specs.declared.dispatch.Rank.{Rank}
 use Rattle.farm_types.specs.declared.rows.HostRow.{HostRow}
@@ -11,7 +10,7 @@ use Rattle.farm_types.specs.declared.rows.SubRow.{SubRow}
 use Rattle.farm_types.specs.declared.slot_row.Frame.{Frame}
 use Rattle.farm_types.specs.declared.slot_row.SlotRow.{SlotRow}
 use Rattle.std.specs.Prelude.{nat_lt, not}
-use Rattle.farm_types.specs.Booking.{may_book, may_record, may_place, tags_match, is_ready, is_waiting, is_pending, in_facility, takes_frames, has_capacity, within_burst}
+use Rattle.farm_types.specs.Booking.{may_book, may_record, may_place, share_tag, tags_match, tags_of, is_ready, is_waiting, is_pending, in_facility, takes_frames, has_capacity, within_burst}
 use Rattle.farm_types.specs.Depends.{is_open}
 use Rattle.farm_types.specs.declared.limits.TheConstants.{LAST_VERSION}
 use Rattle.farm_types.specs.Dispatch.{rank_at, rank_in, rank_of, with_found, ranks_from}
@@ -33,7 +32,12 @@ pub record IsRanked (f : Farm) (host slot : ℕ) (s : SlotRow) (r : Rank) : Type
   pub sub_is : sub_at f (sub_of job.show row.alloc) ≡ Some sub
   pub waits : is_waiting frame.state ≡ true
   pub pending : is_pending job.state ≡ true
+  pub resumed : not job.paused ≡ true
+  pub in_place : in_facility f row.alloc job.facility ≡ true
+  pub takes : takes_frames row ≡ true
   pub capable : has_capacity f host row layer ≡ true
+  pub burst : within_burst f (sub_of job.show row.alloc) layer ≡ true
+  pub tagged : for_some (slice_get f.allocs row.alloc) (λ allocation. share_tag layer.tags (tags_of row allocation)) ≡ true
   pub rank_is : r ≡ rank_at f slot host s frame job row sub
 
 rank_of_rows : (f : Farm) (host slot : ℕ) (s : SlotRow) (frame : Frame) (job : JobRow) (row : HostRow) (sub : SubRow) → s.frame ≡ Some frame → job_at f frame.job ≡ Some job → slice_get f.hosts host ≡ Some row
@@ -69,11 +73,38 @@ placed_capacity : (f : Farm) (slot host version : ℕ) (frame : Frame) (job : Jo
 placed_capacity f slot host version frame job layer row h =
     fifth_of (is_ready version frame job) (is_open f slot) (in_facility f row.alloc job.facility) (takes_frames row) (has_capacity f host row layer) (within_burst f (sub_of job.show row.alloc) layer) h
 
+third_of : (a b c d e g : Bool) → (a && b && c && d && e && g) ≡ true → c ≡ true
+third_of a b c d e g h = (and_both (a && b) c (and_both (a && b && c) d (and_both (a && b && c && d) e (and_both (a && b && c && d && e) g h).0).0).0).1
+
+fourth_of : (a b c d e g : Bool) → (a && b && c && d && e && g) ≡ true → d ≡ true
+fourth_of a b c d e g h = (and_both (a && b && c) d (and_both (a && b && c && d) e (and_both (a && b && c && d && e) g h).0).0).1
+
+placed_facility : (f : Farm) (slot host version : ℕ) (frame : Frame) (job : JobRow) (layer : LayerRow) (row : HostRow) → may_place f slot host version frame job layer row ≡ true → in_facility f row.alloc job.facility ≡ true
+placed_facility f slot host version frame job layer row h =
+    third_of (is_ready version frame job) (is_open f slot) (in_facility f row.alloc job.facility) (takes_frames row) (has_capacity f host row layer) (within_burst f (sub_of job.show row.alloc) layer) h
+
+placed_takes : (f : Farm) (slot host version : ℕ) (frame : Frame) (job : JobRow) (layer : LayerRow) (row : HostRow) → may_place f slot host version frame job layer row ≡ true → takes_frames row ≡ true
+placed_takes f slot host version frame job layer row h =
+    fourth_of (is_ready version frame job) (is_open f slot) (in_facility f row.alloc job.facility) (takes_frames row) (has_capacity f host row layer) (within_burst f (sub_of job.show row.alloc) layer) h
+
+ready_resumed : (version : ℕ) (frame : Frame) (job : JobRow) → is_ready version frame job ≡ true → not job.paused ≡ true
+ready_resumed version frame job h = (and_both (is_waiting frame.state && nat_lt version LAST_VERSION && is_pending job.state) (not job.paused) h).1
+
 ready_waits : (version : ℕ) (frame : Frame) (job : JobRow) → is_ready version frame job ≡ true → is_waiting frame.state ≡ true
 ready_waits version frame job h = waiting_of (is_waiting frame.state) (nat_lt version LAST_VERSION) (is_pending job.state) (not job.paused) h
 
 ready_pending : (version : ℕ) (frame : Frame) (job : JobRow) → is_ready version frame job ≡ true → is_pending job.state ≡ true
 ready_pending version frame job h = pending_of (is_waiting frame.state) (nat_lt version LAST_VERSION) (is_pending job.state) (not job.paused) h
+
+-- what is there passes the test
+at_some : {X : Type 0} (o : Option X) (test : X → Bool) (x : X) → o ≡ Some x → for_some o test ≡ true → test x ≡ true
+at_some {X = X} o test x e h = subst (λ (p : Option X). for_some p test ≡ true) e h
+
+-- the tags of the rows match
+tagged_by : (f : Farm) (slot host : ℕ) (s : SlotRow) (frame : Frame) (layer : LayerRow) (row : HostRow) → slice_get f.slots slot ≡ Some s → s.frame ≡ Some frame → layer_at f frame.job frame.layer ≡ Some layer
+    → slice_get f.hosts host ≡ Some row → tags_match f slot host ≡ true → for_some (slice_get f.allocs row.alloc) (λ allocation. share_tag layer.tags (tags_of row allocation)) ≡ true
+tagged_by f slot host s frame layer row at framed layered hosted h =
+    at_some (slice_get f.hosts host) _ row hosted (at_some (layer_at f frame.job frame.layer) _ layer layered (at_some s.frame _ frame framed (at_some (slice_get f.slots slot) _ s at h)))
 
 ranked_by : (f : Farm) (host slot : ℕ) (s : SlotRow) (r : Rank) (b : Bool) → may_book f slot host ≡ b → slice_get f.slots slot ≡ Some s → cond b (rank_in f host slot s) None ≡ Some r → IsRanked f host slot s r
 ranked_by f host slot s r false may at e = cc
@@ -102,7 +133,12 @@ ranked_by f host slot s r true may at e =
       sub_is = sub.1;
       waits = ready_waits there.0.version frame.0 job.0 ready;
       pending = ready_pending there.0.version frame.0 job.0 ready;
+      resumed = ready_resumed there.0.version frame.0 job.0 ready;
+      in_place = placed_facility f slot host there.0.version frame.0 job.0 layer.0 row.0 row.2;
+      takes = placed_takes f slot host there.0.version frame.0 job.0 layer.0 row.0 row.2;
       capable = placed_capacity f slot host there.0.version frame.0 job.0 layer.0 row.0 row.2;
+      burst = burst;
+      tagged = tagged_by f slot host there.0 frame.0 layer.0 row.0 there.1 frame.1 layer.1 row.1 (and_both (may_record f slot host) (tags_match f slot host) may).1;
       rank_is = same_Some r (rank_at f slot host s frame.0 job.0 row.0 sub.0) (sym e ∙ rank_of_rows f host slot s frame.0 job.0 row.0 sub.0 framed job.1 row.1 sub.1);
     }
 

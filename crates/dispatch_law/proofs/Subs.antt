@@ -1,32 +1,30 @@
 -- The subscriptions to an allocation, by their ratio and then by the show's name.
-use Rattle.std.proofs.Common.{◌≡◌, ℕ, ◌+◌, ◌*◌, ◌/◌, ◌%◌, ◌<◌, ◌≤◌, ◌⊎◌, inl, inr, Bool, true, false, cond, List, [], ◌∷◌, map, length, Option, Some, None, refl, sym, ap, subst, ◌∙◌, arith, filter, find, eqb, ◌&&◌}
+use Rattle.std.proofs.Common.{◌≡◌, ℕ, ◌%◌, ◌<◌, Bool, true, cond, List, [], ◌∷◌, length, Some, refl, sym, ap, subst, ◌∙◌, arith, eqb, ◌&&◌}
 use Rattle.std.specs.Cmp.{IsTotalOrder}
 use Rattle.std.specs.Cmp.Lexicographic.{slice_cmp}
 use Rattle.std.specs.FinMap.{slice_cmp-IsAntisymmetric, nat_cmp-IsAntisymmetric}
-use Rattle.std.specs.List.{slice_get, list_all}
+use Rattle.std.specs.List.{slice_get}
 use Rattle.std.specs.Prelude.{nat_lt, nat_le}
 use Rattle.std.specs.declared.cmp.Ordering.{Ordering}
 use Rattle.std.specs.declared.cmp.Ordering.TheVariants.{Less, Equal, Greater}
 use Rattle.std.specs.Ordering.{is_gt, nat_cmp, ordering_then}
 use Rattle.std.proofs.lemmas.Bool.{eqb-true, ltb-true}
 use Rattle.std.proofs.lemmas.Cmp.{nat_list_cmp_total, then_total, on_total, ranked}
-use Rattle.std.proofs.lemmas.Option.{same_Some}
-use Rattle.farm_types.specs.declared.dispatch.Candidate.{Candidate}
 use Rattle.farm_types.specs.declared.dispatch.Rank.{Rank}
 use Rattle.farm_types.specs.declared.rows.ShowRow.{ShowRow}
 use Rattle.farm_types.specs.declared.rows.SubRow.{SubRow}
 use Rattle.farm_types.specs.declared.limits.TheConstants.{MOST_ALLOCS, MOST_BURST, SUB_NUMBERS}
 use Rattle.farm_types.specs.Dispatch.{by_ratio, name_of, show_name}
-use Rattle.farm_types.specs.Farm.{Farm, sub_at, sub_of}
+use Rattle.farm_types.specs.Farm.{Farm, sub_at}
 use Rattle.farm_types.specs.Kept.{KeepsShows, KeepsSubs, show_label, is_kept_sub}
-use Rattle.farm_types.specs.Rising.{IsRising, sub_key}
+use Rattle.farm_types.specs.Rising.{sub_key}
 use Rattle.farm_types.specs.Sums.{booked_in}
 use Rattle.farm_types.proofs.Lists.{and_both, list_all-at, slice_get_below}
 use Rattle.dispatch_law.specs.ByIndex.{show_of, subs_to, sub_cmp, insert_sub, sorted_subs}
 use Rattle.dispatch_law.proofs.Distinct.{names_apart}
 use Rattle.dispatch_law.proofs.Found.{has_filter, filter_has}
 use Rattle.dispatch_law.proofs.InShow.{rising_strict, rising_found, filter_strict}
-use Rattle.dispatch_law.proofs.RankOrder.{ratio_cmp, ratio_total}
+use Rattle.dispatch_law.proofs.RankOrder.{ratio_total}
 use Rattle.dispatch_law.proofs.Strict.{Has, has_first, has_later, IsStrict, insert_by, sorted_by, sorted_has, has_sorted, sorted_strict, AreApart}
 
 -- ---- their order

@@ -1,6 +1,6 @@
 -- A candidate that is offered: it is booked, or passed over.
 use Rattle.std.proofs.Common.{◌≡◌, ℕ, ◌-◌, ◌<◌, ◌&&◌, Bool, true, false, cond, List, ◌∷◌, refl, sym, ap, ◌∙◌}
-use Rattle.std.specs.Prelude.{nat_lt}
+use Rattle.std.specs.Prelude.{nat_lt, if◌then◌else◌}
 use Rattle.std.proofs.lemmas.Bool.{lt-ltb}
 use Rattle.farm_types.specs.declared.dispatch.Candidate.{Candidate}
 use Rattle.farm_types.specs.Booking.{may_book}
@@ -15,12 +15,20 @@ module _ (f : Farm) (left : ℕ) (c : Candidate) (moment : ℕ) (later : List Ca
   abbrev offered : Bool → Farm
   offered b = run_of f (cond b (book_entry c moment ∷ round_from (left - 1) (after f (book_entry c moment)) moment later) (round_from left f moment later))
 
-  pub offered_booked : (new : Farm) → 0 < left → may_book f c.slot c.host ≡ true → new ≡ after f (book_entry c moment)
+  -- where bookings are left, the farm is booked on where that may be
+  abbrev booked_if : Bool → Farm
+  booked_if b = if b then after f (book_entry c moment) else f
+
+  pub offered_booked : (new : Farm) → 0 < left → may_book f c.slot c.host ≡ true → new ≡ booked_if (may_book f c.slot c.host)
       → after_offers (left - 1) new moment later ≡ after_offers left f moment (c ∷ later)
-  offered_booked new some may e = ap (λ g. after_offers (left - 1) g moment later) e ∙ sym (ap offered test)
+  offered_booked new some may e = ap (λ g. after_offers (left - 1) g moment later) (e ∙ ap booked_if may) ∙ sym (ap offered test)
     where
       test : (nat_lt 0 left && may_book f c.slot c.host) ≡ true
       test = rw (lt-ltb 0 left some, may) refl
 
-  pub offered_passed : (nat_lt 0 left && may_book f c.slot c.host) ≡ false → after_offers left f moment later ≡ after_offers left f moment (c ∷ later)
-  offered_passed test = sym (ap offered test)
+  pub offered_unbooked : (new : Farm) → 0 < left → may_book f c.slot c.host ≡ false → new ≡ booked_if (may_book f c.slot c.host)
+      → after_offers left new moment later ≡ after_offers left f moment (c ∷ later)
+  offered_unbooked new some may e = ap (λ g. after_offers left g moment later) (e ∙ ap booked_if may) ∙ sym (ap offered test)
+    where
+      test : (nat_lt 0 left && may_book f c.slot c.host) ≡ false
+      test = rw (lt-ltb 0 left some, may) refl

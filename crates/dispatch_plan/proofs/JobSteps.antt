@@ -117,6 +117,10 @@ layer_there f job n l e = (let is = layer_found f job n l e in ap (λ j. layer_a
 pub layer_billed : (f : Farm) (host job n sub : ℕ) (l : LayerRow) → layer_at f job n ≡ Some l → IsBilled f host job sub → IsBilled f host l.job sub
 layer_billed f host job n sub l e billed = subst (λ j. IsBilled f host j sub) (sym (layer_found f job n l e).0) billed
 
+-- what holds of the job's number holds of the layer's
+pub layer_owned : (P : ℕ → Type 0) (f : Farm) (job n : ℕ) (l : LayerRow) → layer_at f job n ≡ Some l → P job → P l.job
+layer_owned P f job n l e holds = subst P (sym (layer_found f job n l e).0) holds
+
 -- the next layer is offered
 pub job_step : (f : Farm) (host job n : ℕ) (l : LayerRow) (plan : List Candidate) → IsKeptFarm f → IsPending f job → layer_at f job n ≡ Some l
     → offered plan (flat_map (ranks_in_layer f host) (drop n (layers_of f.layers job))) ≡ offered (offered plan (ranks_in_layer f host l)) (flat_map (ranks_in_layer f host) (drop (n + 1) (layers_of f.layers job)))

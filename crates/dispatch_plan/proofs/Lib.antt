@@ -1,5 +1,7 @@
+mod AllFits
 mod Booked
 mod JobSteps
+mod NoneFits
 mod Offered
 mod Ordered
 mod Plans

@@ -143,7 +143,7 @@ no_ranks f host place (s ∷ ss) never same =
     let at : slice_get f.slots place ≡ Some s = ap (slice_get f.slots) (let e : place ≡ place + 0 = omega arith in e) ∙ same 0 in
     none_by f host place ss (rank_of f host place s) (unranked_by (rank_of f host place s) (λ r e. never place s r at e)) (no_ranks f host (place + 1) ss never next)
 
-no_plan : (f : Farm) (host : ℕ) → ((slot : ℕ) (s : SlotRow) (r : Rank) → slice_get f.slots slot ≡ Some s → rank_of f host slot s ≡ Some r → ⊥) → plan_for f host ≡ []
+pub no_plan : (f : Farm) (host : ℕ) → ((slot : ℕ) (s : SlotRow) (r : Rank) → slice_get f.slots slot ≡ Some s → rank_of f host slot s ≡ Some r → ⊥) → plan_for f host ≡ []
 no_plan f host never =
     ap (λ rs. take CANDIDATES_EACH (map (λ (r : Rank). r.candidate) (sorted_ranks f rs)))
     (no_ranks f host 0 f.slots never (λ k. ap (slice_get f.slots) (let e : 0 + k ≡ k = omega arith in e)))
@@ -156,7 +156,7 @@ pub record HasLeast (l : LayerRow) : Type 0 where
   pub cores : LEAST_CORES ≤ l.cores
   pub memory : LEAST_MEMORY ≤ l.memory
 
-has_least : (f : Farm) (l : LayerRow) → IsKeptFarm f → Has f.layers l → HasLeast l
+pub has_least : (f : Farm) (l : LayerRow) → IsKeptFarm f → Has f.layers l → HasLeast l
 has_least f l kept h =
     let formed = layer_formed l (list_all-at is_formed_layer f.layers h.place l kept.jobs.layers_formed h.at) in
     record { cores = formed.0; memory = formed.1 }

@@ -33,18 +33,18 @@ pub waiting_framed : (f : Farm) (slot : ℕ) → waits_in f.slots slot ≡ true 
 waiting_framed f slot h = row_by (slice_get f.slots slot) h
 
 -- the row and the frame that are shown
-record IsSeen (o : Option SlotRow) (v : FrameView) : Type 0 where
-  row : SlotRow
-  frame : Frame
-  at : o ≡ Some row
-  framed : row.frame ≡ Some frame
-  view : frame_view row.version frame ≡ v
+pub record IsSeen (o : Option SlotRow) (v : FrameView) : Type 0 where
+  pub row : SlotRow
+  pub frame : Frame
+  pub at : o ≡ Some row
+  pub framed : row.frame ≡ Some frame
+  pub view : frame_view row.version frame ≡ v
 
 seen_in : (s : SlotRow) (v : FrameView) (o : Option Frame) → s.frame ≡ o → option_map (frame_view s.version) o ≡ Some v → IsSeen (Some s) v
 seen_in s v None e shown = absurd (none-some v shown)
 seen_in s v (Some x) e shown = record { row = s; frame = x; at = refl; framed = e; view = same_Some (frame_view s.version x) v shown }
 
-seen : (o : Option SlotRow) (v : FrameView) → option_and_then (λ (s : SlotRow). option_map (frame_view s.version) s.frame) o ≡ Some v → IsSeen o v
+pub seen : (o : Option SlotRow) (v : FrameView) → option_and_then (λ (s : SlotRow). option_map (frame_view s.version) s.frame) o ≡ Some v → IsSeen o v
 seen None v shown = absurd (none-some v shown)
 seen (Some s) v shown = seen_in s v s.frame refl shown
 

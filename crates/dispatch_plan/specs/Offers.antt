@@ -6,9 +6,9 @@ use Rattle.farm_types.specs.declared.rows.JobRow.{JobRow}
 use Rattle.farm_types.specs.declared.rows.HostRow.{HostRow}
 use Rattle.farm_types.specs.declared.rows.SubRow.{SubRow}
 use Rattle.farm_types.specs.Dispatch.{with_found}
-use Rattle.farm_types.specs.Farm.{Farm, job_at, sub_at, sub_of}
+use Rattle.farm_types.specs.Farm.{Farm, for_some, job_at, sub_at, sub_of}
 use Rattle.farm_types.specs.Kept.{is_pending_job}
-use Rattle.farm_types.specs.Sums.{used_cores, used_memory}
+use Rattle.farm_types.specs.Sums.{booked_in, used_cores, used_memory}
 use Rattle.farm_types.specs.declared.limits.TheConstants.{CANDIDATES_EACH, LEAST_CORES, LEAST_MEMORY, MOST_SHOWS}
 use Rattle.dispatch_law.specs.ByIndex.{show_of}
 
@@ -52,6 +52,10 @@ pub record IsToHost (f : Farm) (host : ℕ) (s : SubRow) : Type 0 where
 
 abbrev pub AreBilled : Farm → ℕ → List SubRow → Type 0
 AreBilled f host subs = (n : ℕ) (s : SubRow) → slice_get subs n ≡ Some s → IsToHost f host s
+
+-- the subscription is there, and its burst has the least cores of a layer left
+abbrev pub has_least_left : Farm → ℕ → Bool
+has_least_left f sub = for_some (sub_at f sub) (λ s. nat_le (booked_in f sub + LEAST_CORES) s.burst)
 
 -- the host has the least amounts of a layer free
 abbrev pub has_least_free : Farm → ℕ → HostRow → Bool

@@ -1,20 +1,24 @@
 //! The frames of a host's order, offered piece by piece until a plan is full: a layer's waiting frames, a job's layers, a show's ready jobs.
 
-ghost use Rattle.std.specs.Prelude.{◌≡◌, ◌≤◌, ◌<◌, ◌+◌, length, slice_get, Some};
+ghost use Rattle.std.specs.Prelude.{◌≡◌, ◌≤◌, ◌<◌, ◌+◌, ◌&&◌, true, length, nat_lt, slice_get, Some};
 ghost use Rattle.std.specs.Vec.{vec_capacity};
 ghost use Rattle.farm_types.specs.Booking.{may_book};
+ghost use Rattle.farm_types.specs.Depends.{is_open};
+ghost use Rattle.farm_books.specs.Reads.{takes_job};
 ghost use Rattle.farm_types.specs.Farm.{layer_at};
-ghost use Rattle.farm_types.specs.declared.limits.TheConstants.{CANDIDATES_EACH, MOST_FRAMES, MOST_SHOWS};
+ghost use Rattle.farm_types.specs.declared.limits.TheConstants.{CANDIDATES_EACH, LAST_VERSION, MOST_FRAMES, MOST_SHOWS};
 ghost use Rattle.farm_types.specs.Ranges.{range_numbers};
 ghost use Rattle.dispatch_law.specs.ByIndex.{ranks_in_job, ranks_in_layer, ranks_in_show};
-ghost use Rattle.dispatch_plan.specs.Offers.{IsBilled, IsPending, IsShowBilled, offered, with_candidate};
+ghost use Rattle.dispatch_plan.specs.Offers.{IsBilled, IsPending, IsShowBilled, has_least_left, offered, with_candidate};
 
 use farm_core::Farm;
 use farm_types::{
-    CANDIDATES_EACH, Candidate, HostNo, JobNo, LayerRow, MOST_LAYERS, ShowNo, Slot, SubNo, Version,
+    CANDIDATES_EACH, Candidate, HostNo, JobNo, LAST_VERSION, LEAST_CORES, LayerRow, MOST_LAYERS,
+    ShowNo, Slot, SubNo, Version,
 };
 
-/// Offers the waiting frames of a show's ready jobs, of which the subscription of that number is billed.
+/// Offers the waiting frames of a show's ready jobs, of which the subscription of that number is billed. Where its burst is reached, none is
+/// looked at.
 pub(crate) fn offer_show(
     farm: &Farm,
     host: HostNo,
@@ -31,6 +35,9 @@ pub(crate) fn offer_show(
     ensures capacity { vec_capacity plan.new ≡ vec_capacity plan.old }
 {
     farm.kept();
+    if !has_least_left(farm, sub) {
+        return;
+    }
     let jobs = farm.jobs().ready(show);
     for job in jobs {
         if plan.len() >= CANDIDATES_EACH as usize {
@@ -40,7 +47,19 @@ pub(crate) fn offer_show(
     }
 }
 
-// Offers the waiting frames of a pending job's layers.
+// Whether the subscription is there and its burst has the least cores of a layer left.
+fn has_least_left(farm: &Farm, sub: SubNo) -> bool
+    ensures { result ≡ has_least_left farm.now sub }
+{
+    match farm.sub(sub) {
+        None => false,
+        Some(s) => {
+            u64::from(farm.booked(sub).0) + u64::from(LEAST_CORES) <= u64::from(s.burst.0)
+        }
+    }
+}
+
+// Offers the waiting frames of a pending job's layers. Where the job itself shows that none may be booked, none is looked at.
 fn offer_job(farm: &Farm, host: HostNo, sub: SubNo, job: JobNo, plan: &mut Vec<Candidate>)
     requires pending { IsPending farm.now job }
     requires billed { IsBilled farm.now host job sub }
@@ -51,6 +70,9 @@ fn offer_job(farm: &Farm, host: HostNo, sub: SubNo, job: JobNo, plan: &mut Vec<C
     ensures capacity { vec_capacity plan.new ≡ vec_capacity plan.old }
 {
     farm.kept();
+    if !farm.takes_job(host, job) {
+        return;
+    }
     for place in 0..MOST_LAYERS {
         let Some(layer) = farm.layer(job, place) else {
             return;
@@ -59,9 +81,12 @@ fn offer_job(farm: &Farm, host: HostNo, sub: SubNo, job: JobNo, plan: &mut Vec<C
     }
 }
 
-// Offers the waiting frames of a layer, in range order, until the plan is full.
+// Offers the waiting frames of a layer, in range order, until the plan is full. Where the layer itself shows that none may be booked, none is
+// looked at.
 fn offer_layer(farm: &Farm, host: HostNo, sub: SubNo, layer: &LayerRow, plan: &mut Vec<Candidate>)
     requires there { layer_at farm.now layer.now.job layer.now.place ≡ Some layer.now }
+    requires pending { IsPending farm.now layer.now.job }
+    requires taken { takes_job farm.now host layer.now.job ≡ true }
     requires short { length (range_numbers layer.now.range) ≤ MOST_FRAMES }
     requires billed { IsBilled farm.now host layer.now.job sub }
     requires few { length plan.old.items ≤ CANDIDATES_EACH }
@@ -71,6 +96,9 @@ fn offer_layer(farm: &Farm, host: HostNo, sub: SubNo, layer: &LayerRow, plan: &m
     ensures capacity { vec_capacity plan.new ≡ vec_capacity plan.old }
 {
     farm.kept();
+    if !farm.takes_layer(host, sub, layer) {
+        return;
+    }
     let jobs = farm.jobs();
     let mut from = 0;
     while plan.len() < CANDIDATES_EACH as usize {
@@ -83,7 +111,7 @@ fn offer_layer(farm: &Farm, host: HostNo, sub: SubNo, layer: &LayerRow, plan: &m
     }
 }
 
-// Offers a slot's frame, where it may be booked.
+// Offers a slot's waiting frame, where its version can rise and it waits for no other: that it may be booked beside is known of its layer.
 fn offer(
     farm: &Farm,
     host: HostNo,
@@ -92,13 +120,14 @@ fn offer(
     version: Version,
     plan: &mut Vec<Candidate>,
 )
+    requires known { may_book farm.now slot host ≡ (nat_lt version LAST_VERSION && is_open farm.now slot) }
     requires room { length plan.old.items + 1 ≤ CANDIDATES_EACH }
     requires capacity { CANDIDATES_EACH ≤ vec_capacity plan.old }
     ensures items { plan.new.items ≡ with_candidate (may_book farm.now slot host) plan.old.items (record { slot = slot; version = version; sub = sub; host = host }) }
     ensures few { length plan.new.items ≤ CANDIDATES_EACH }
     ensures capacity { vec_capacity plan.new ≡ vec_capacity plan.old }
 {
-    if farm.may_book(slot, host) {
+    if version.0 < LAST_VERSION && farm.is_open(slot) {
         plan.push_reserved(Candidate {
             slot,
             version,

@@ -38,8 +38,10 @@ fn book_in_turn(farm: &mut Farm, moment: u64, candidates: &[Candidate])
 fn offer(farm: &mut Farm, left: u32, candidate: &Candidate, moment: u64) -> u32
     ensures { (later : List dispatch.Candidate) → after_offers result farm.new moment later ≡ after_offers left farm.old moment (candidate.now ∷ later) }
 {
-    if left > 0 && farm.may_book(candidate.slot, candidate.host) {
-        farm.book(candidate.slot, candidate.host, moment);
+    if left == 0 {
+        return 0;
+    }
+    if farm.book_if(candidate.slot, candidate.host, moment) {
         left - 1
     } else {
         left

@@ -1,13 +1,4 @@
-pub mod Change
-pub mod Consistent
-pub mod DemoJob
-pub mod LostHosts
-pub mod WaitingSlots
+pub mod Bookings
 pub mod Inside
-pub mod EffectKinds
+pub mod Install
 pub mod Reads
-pub mod Refused
-pub mod Capacity
-pub mod Totals
-pub mod SlotChange
-pub mod Usage

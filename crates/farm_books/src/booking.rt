@@ -1,16 +1,19 @@
 //! When a frame may be booked on a host.
 
-ghost use Rattle.std.specs.Prelude.{◌≡◌, is_some, IfSome};
+ghost use Rattle.std.specs.Prelude.{ℕ, ◌≡◌, ◌<◌, ◌+◌, Some, is_some, nat_le, IfSome};
 ghost use Rattle.farm_types.specs.Farm.{sub_of};
 ghost use Rattle.farm_types.specs.Depends.{is_open};
+ghost use Rattle.farm_types.specs.declared.limits.TheConstants.{LAST_VERSION};
 ghost use Rattle.farm_types.specs.Booking.{is_waiting, is_ready, in_facility, takes_frames, has_capacity, within_burst, may_place, may_record, may_book, tags_match};
-ghost use Rattle.farm_books.specs.Reads.{rows_share_tag};
+ghost use Rattle.farm_books.specs.Bookings.{booked_at, row_of_booking};
+ghost use Rattle.farm_books.specs.Reads.{rows_share_tag, takes_job, takes_layer};
 
+use crate::begin::Booking;
 use crate::books::Books;
 use alloc_tags::matches;
 use farm_types::{
-    AllocNo, Frame, FrameState, HostNo, HostRow, HostState, JobRow, JobState, LAST_VERSION,
-    LayerRow, LockState, ShowNo, Slot, Text, Version,
+    AllocNo, Cores, Frame, FrameState, HostNo, HostRow, HostState, JobNo, JobRow, JobState,
+    LAST_VERSION, LayerRow, LockState, Slot, SubNo, Text, Version,
 };
 
 impl Books {
@@ -27,15 +30,48 @@ impl Books {
     {
         match self.booking(slot, host) {
             None => false,
-            Some((layer, host_row)) => self.tags_match(layer, host_row),
+            Some(booking) => self.tags_match(booking.layer, booking.host),
         }
     }
 
-    // The layer and the host's row, where a booking of the slot's frame on the host may be recorded. A frame that
-    // doesn't wait is seen before the others are looked up.
-    fn booking(&self, slot: Slot, host: HostNo) -> Option<(&LayerRow, &HostRow)>
+    /// Whether frames of the job may be booked on the host, as far as host and job decide it: the host is up and open, and the job isn't paused and of
+    /// the host's facility.
+    pub fn takes_job(&self, host: HostNo, job: JobNo) -> bool
+        ensures { result ≡ takes_job self.now host job }
+    {
+        let Some(row) = self.host(host) else {
+            return false;
+        };
+        match self.job(job) {
+            None => false,
+            Some(job) => {
+                takes_frames(row) && !job.paused && self.in_facility(row.alloc, &job.facility)
+            }
+        }
+    }
+
+    /// Whether frames of the layer may be booked on the host of the subscription of that number, as far as the layer decides it: the host
+    /// has the capacity, the burst is not passed, and the tags match.
+    pub fn takes_layer(&self, host: HostNo, sub: SubNo, layer: &LayerRow) -> bool
+        ensures { result ≡ takes_layer self.now host sub layer.now }
+    {
+        match self.host(host) {
+            None => false,
+            Some(row) => {
+                self.has_capacity(host, row, layer)
+                    && self.has_burst(sub, layer)
+                    && self.tags_match(layer, row)
+            }
+        }
+    }
+
+    // What a booking of the slot's frame on the host is made of, where it may be recorded. A frame that doesn't wait is seen before
+    // the others are looked up.
+    pub(crate) fn booking(&self, slot: Slot, host: HostNo) -> Option<Booking<'_>>
         ensures allowed { is_some result ≡ may_record self.now slot host }
-        ensures tags { IfSome result (λ rows. tags_match self.now slot host ≡ rows_share_tag self.now rows.0.now rows.1.now) }
+        ensures version { IfSome result (λ b. b.version < LAST_VERSION) }
+        ensures tags { IfSome result (λ b. tags_match self.now slot host ≡ rows_share_tag self.now b.layer.now b.host.now) }
+        ensures makes { IfSome result (λ b. (moment : ℕ) → booked_at self.now slot host moment ≡ Some (row_of_booking slot host moment b.version b.frame b.layer.now b.host.now b.sub)) }
     {
         let Some(row) = self.slot(slot) else {
             return None;
@@ -55,15 +91,20 @@ impl Books {
         let Some(host_row) = self.host(host) else {
             return None;
         };
-        if self.may_place(slot, host, row.version, frame, job, layer, host_row) {
-            Some((layer, host_row))
-        } else {
-            None
-        }
+        let Some(sub) = self.place(slot, host, row.version, frame, job, layer, host_row) else {
+            return None;
+        };
+        Some(Booking {
+            version: row.version,
+            frame: *frame,
+            layer,
+            host: host_row,
+            sub,
+        })
     }
 
-    // Whether the frame of that job and layer may be booked on the host.
-    fn may_place(
+    // The subscription on which the frame of that job and layer is booked on the host, where it may be.
+    fn place(
         &self,
         slot: Slot,
         host: HostNo,
@@ -72,19 +113,31 @@ impl Books {
         job: &JobRow,
         layer: &LayerRow,
         host_row: &HostRow,
-    ) -> bool
-        ensures { result ≡ may_place self.now slot host version frame.now job.now layer.now host_row.now }
+    ) -> Option<SubNo>
+        ensures allowed { is_some result ≡ may_place self.now slot host version frame.now job.now layer.now host_row.now }
+        ensures version { IfSome result (λ sub. version < LAST_VERSION) }
+        ensures number { IfSome result (λ sub. sub ≡ sub_of job.now.show host_row.now.alloc) }
     {
-        is_ready(version, frame, job)
+        let fits = is_ready(version, frame, job)
             && self.is_open(slot)
             && self.in_facility(host_row.alloc, &job.facility)
             && takes_frames(host_row)
-            && self.has_capacity(host, host_row, layer)
-            && self.within_burst(job.show, host_row.alloc, layer)
+            && self.has_capacity(host, host_row, layer);
+        if !fits {
+            return None;
+        }
+        let Some(sub) = self.sub_of(job.show, host_row.alloc) else {
+            return None;
+        };
+        if is_within(self.booked(sub.sub), layer, sub.burst) {
+            Some(sub.sub)
+        } else {
+            None
+        }
     }
 
-    // Whether the frame in the slot waits for no other. The farm has no depends yet.
-    fn is_open(&self, slot: Slot) -> bool
+    /// Whether the frame in the slot waits for no other. The farm has no depends yet.
+    pub fn is_open(&self, slot: Slot) -> bool
         ensures { result ≡ is_open self.now slot }
     {
         let _moment = self.moment;
@@ -106,25 +159,23 @@ impl Books {
     fn has_capacity(&self, host: HostNo, host_row: &HostRow, layer: &LayerRow) -> bool
         ensures { result ≡ has_capacity self.now host host_row.now layer.now }
     {
-        let (cores, memory) = self.used(host);
-        u64::from(cores.0) + u64::from(layer.cores.0) <= u64::from(host_row.cores.0)
-            && u128::from(memory.0) + u128::from(layer.memory.0) <= u128::from(host_row.memory.0)
+        u128::from(self.used_cores(host)) + u128::from(layer.cores.0)
+            <= u128::from(host_row.cores.0)
+            && self.used_memory(host) + u128::from(layer.memory.0) <= u128::from(host_row.memory.0)
     }
 
-    // Whether the booked cores with the layer's are within the burst of the show's subscription.
-    fn within_burst(&self, show: ShowNo, alloc: AllocNo, layer: &LayerRow) -> bool
-        ensures { result ≡ within_burst self.now (sub_of show alloc) layer.now }
+    // Whether the booked cores with the layer's are within the burst of the subscription of that number.
+    fn has_burst(&self, sub: SubNo, layer: &LayerRow) -> bool
+        ensures { result ≡ within_burst self.now sub layer.now }
     {
-        match self.sub_of(show, alloc) {
+        match self.sub(sub) {
             None => false,
-            Some(s) => {
-                u64::from(self.booked(s.sub).0) + u64::from(layer.cores.0) <= u64::from(s.burst.0)
-            }
+            Some(s) => is_within(self.booked(sub), layer, s.burst),
         }
     }
 
     // Whether the tags of the layer and those of the host share a word.
-    fn tags_match(&self, layer: &LayerRow, host_row: &HostRow) -> bool
+    pub(crate) fn tags_match(&self, layer: &LayerRow, host_row: &HostRow) -> bool
         ensures { result ≡ rows_share_tag self.now layer.now host_row.now }
     {
         match self.allocation(host_row.alloc) {
@@ -156,4 +207,11 @@ fn takes_frames(host_row: &HostRow) -> bool
     ensures { result ≡ takes_frames host_row.now }
 {
     matches!(host_row.state, HostState::Up) && matches!(host_row.lock, LockState::Unlocked)
+}
+
+// Whether so many booked cores with the layer's are within the burst.
+fn is_within(booked: Cores, layer: &LayerRow, burst: Cores) -> bool
+    ensures { result ≡ nat_le (booked + layer.now.cores) burst }
+{
+    u64::from(booked.0) + u64::from(layer.cores.0) <= u64::from(burst.0)
 }

@@ -1,38 +1,39 @@
 //! The books, and the calls that read one of their rows.
 
-ghost use Rattle.std.specs.Prelude.{◌≡◌, ◌≤◌, length, slice_get, option_copied, All, IfOk, IfSome, IfNone};
+ghost use Rattle.std.specs.Prelude.{◌≡◌, ◌≤◌, length, slice_get, option_copied, option_map, All, IfOk, IfSome, IfNone};
 ghost use Rattle.job_book.specs.Book.{IsLeastAbove};
 ghost use Rattle.farm_types.specs.Farm.{empty_farm, job_at, layer_at, sub_at, sub_of};
 ghost use Rattle.farm_types.specs.Step.{lists_of};
 ghost use Rattle.farm_types.specs.Sums.{booked_in, total_at};
 ghost use Rattle.farm_books.specs.Reads.{job_after};
+ghost use Rattle.host_book.specs.Life.{life_of};
 ghost use Rattle.farm_types.specs.Run.{live_at};
 ghost use Rattle.std.specs.Prelude.{ℕ};
 ghost use Rattle.farm_types.specs.declared.limits.TheConstants.{SLOT_LIMIT};
 
 use crate::shows::Shows;
-use crate::usage::Usage;
 use alloc_tags::Allocs;
+use attempt_book::Attempts;
 use farm_types::{
     AllocNo, AllocRow, HostNo, HostRow, JobNo, JobRow, LayerRow, MOST_ALLOCS, ProcRow, SUB_NUMBERS,
     ShowNo, ShowRow, Slot, SlotRow, SubNo, SubRow,
 };
-use host_book::Hosts;
+use host_book::{HostLife, Hosts};
 use job_book::Jobs;
 use std::alloc::{AllocError, Global};
 use std::marker::Model;
 use sub_ledger::Subs;
 
-/// The farm's books, and its counters, which contracts see as the farm. Beside them is kept what live attempts use of each host. Of an entry it
-/// is known only what each book asks: that the farm keeps what every farm keeps is the law of the layer above.
+/// The farm's books, and its counters, which contracts see as the farm. The live attempts stand twice, in the slots and in a book of their own, which
+/// keeps what they use and each host's own. Of a row that is put in it is known only what its book asks: what every farm keeps is the law of the
+/// layers above.
 #[derive(Debug, Drop)]
 pub struct Books {
     pub(crate) shows: Shows,
     pub(crate) allocs: Allocs,
-    pub(crate) subs: Subs,
+    pub(crate) attempts: Attempts,
     pub(crate) hosts: Hosts,
     pub(crate) jobs: Jobs,
-    pub(crate) usage: Usage,
     pub(crate) next_depend: u64,
     pub(crate) next_finish: u64,
     pub(crate) moment: u64,
@@ -44,11 +45,11 @@ impl Model for Books {
 
     ghost Value = { types.Farm };
 
-    ghost use Rattle.farm_books.specs.Inside.{farm_of, KeepsFarm};
+    ghost use Rattle.farm_books.specs.Inside.{farm_of, KeepsAttempts};
 
     ghost view = { farm_of };
 
-    ghost invariant = { KeepsFarm };
+    ghost invariant = { KeepsAttempts };
 }
 
 impl Books {
@@ -59,10 +60,9 @@ impl Books {
         Ok(Books {
             shows: Shows::make(alloc)?,
             allocs: Allocs::make(alloc)?,
-            subs: Subs::make(alloc)?,
+            attempts: Attempts::make(alloc)?,
             hosts: Hosts::make(alloc)?,
             jobs: Jobs::make(alloc)?,
-            usage: Usage::make(alloc)?,
             next_depend: 1,
             next_finish: 1,
             moment: 0,
@@ -97,7 +97,7 @@ impl Books {
         ensures rows { result.now.subs ≡ self.now.subs }
         ensures booked { (sub : ℕ) → total_at result.now.booked sub ≡ booked_in self.now sub }
     {
-        &self.subs
+        self.attempts.subs()
     }
 
     /// The show of that number.
@@ -121,11 +121,18 @@ impl Books {
         self.hosts.row(host)
     }
 
+    /// The life of the host of that number.
+    pub fn life(&self, host: HostNo) -> Option<HostLife>
+        ensures { result ≡ option_map life_of (slice_get self.now.hosts host) }
+    {
+        self.hosts.life(host)
+    }
+
     /// The subscription of that number.
     pub fn sub(&self, sub: SubNo) -> Option<SubRow>
         ensures { result ≡ sub_at self.now sub }
     {
-        self.subs.row(sub)
+        self.attempts.subs().row(sub)
     }
 
     /// The subscription of a show to an allocation.
@@ -134,7 +141,7 @@ impl Books {
         ensures number { IfSome result (λ s. s.sub ≡ sub_of show alloc) }
     {
         let number = sub_number(show, alloc);
-        let subs = &self.subs;
+        let subs = self.attempts.subs();
         if number < SUB_NUMBERS {
             subs.row(SubNo(number as u16))
         } else {
@@ -165,8 +172,8 @@ impl Books {
         self.jobs.layer(job, place)
     }
 
-    // What stands in a slot, none past the last that was ever used.
-    pub(crate) fn slot(&self, slot: Slot) -> Option<SlotRow>
+    /// What stands in a slot, none past the last that was ever used.
+    pub fn slot(&self, slot: Slot) -> Option<SlotRow>
         ensures { result ≡ slice_get self.now.slots slot }
     {
         self.jobs.row(slot)
@@ -183,8 +190,8 @@ impl Books {
     }
 }
 
-// The number of a show's subscription to an allocation.
-pub(crate) fn sub_number(show: ShowNo, alloc: AllocNo) -> u32
+/// The number of a show's subscription to an allocation.
+pub fn sub_number(show: ShowNo, alloc: AllocNo) -> u32
     ensures { result ≡ sub_of show alloc }
 {
     MOST_ALLOCS * u32::from(show.0) + u32::from(alloc.0)

@@ -1,26 +1,16 @@
-//! The books of the farm, what an entry does to them, and when a frame may be booked.
+//! The books of the farm together: what is read of them, when a frame may be booked, and one call for each kind of row that puts it in.
 #![tactic(auto)]
 
-mod apply;
-mod apply_host;
-mod apply_rows;
-mod attempt;
+mod begin;
 mod booking;
 mod books;
-mod change;
-mod demo;
-mod expire;
-mod fault;
+mod check;
+mod install;
+mod install_job;
 mod look;
-mod prepare;
-mod prepare_host;
-mod refused;
+mod reserve;
 mod shows;
-mod usage;
 mod used;
-mod verdict;
 
-pub use books::Books;
-pub use change::Change;
-pub use demo::demo_books;
-pub use fault::PrepareFault;
+pub use books::{Books, sub_number};
+pub use look::is_attempt;

@@ -51,8 +51,8 @@ impl Books {
     }
 }
 
-// Whether the live attempt has that version, host and boot.
-fn is_attempt(host: HostNo, boot: u32, version: Version, live: &ProcRow) -> bool
+/// Whether the live attempt has that version, host and boot.
+pub fn is_attempt(host: HostNo, boot: u32, version: Version, live: &ProcRow) -> bool
     ensures { result ≡ is_attempt host boot version live.now }
 {
     live.version == version && live.host == host && live.boot == boot

@@ -1,26 +1,47 @@
-//! What live attempts use of a host and of a subscription, as the kept totals say it.
+//! What live attempts use of a host and of a subscription, as it is kept, and each host's own attempts.
 
-ghost use Rattle.std.specs.Prelude.{◌≡◌};
-ghost use Rattle.farm_types.specs.Sums.{used_on, booked_in};
+ghost use Rattle.std.specs.Prelude.{◌≡◌, ◌<◌, ◌^◌};
+ghost use Rattle.farm_types.specs.Sums.{booked_in, used_cores, used_memory};
+ghost use Rattle.attempt_book.specs.Book.{first_on, next_on};
+ghost use Rattle.farm_books.specs.Install.{procs_of};
 
 use crate::books::Books;
-use farm_types::{Cores, HostNo, Kb, SubNo};
+use farm_types::{Cores, HostNo, Slot, SubNo};
 
 impl Books {
-    /// The cores and the memory that live attempts use on a host: none where there is no such host.
-    pub fn used(&self, host: HostNo) -> (Cores, Kb)
-        ensures { result ≡ used_on self.now host }
+    /// The cores (hundredths) that live attempts use on a host: none where there is no such host.
+    pub fn used_cores(&self, host: HostNo) -> u64
+        ensures { result ≡ used_cores self.now host }
     {
-        (
-            Cores(self.usage.cores(host) as u32),
-            Kb(self.usage.memory(host)),
-        )
+        self.attempts.cores(host)
+    }
+
+    /// The memory (KB) that live attempts use on a host: none where there is no such host.
+    pub fn used_memory(&self, host: HostNo) -> u128
+        ensures value { result ≡ used_memory self.now host }
+        ensures within { result < 2 ^ 127 }
+    {
+        self.attempts.memory(host)
     }
 
     /// The cores that are booked of a subscription.
     pub fn booked(&self, sub: SubNo) -> Cores
         ensures { result ≡ booked_in self.now sub }
     {
-        self.subs.booked(sub)
+        self.attempts.subs().booked(sub)
+    }
+
+    /// The first slot with a live attempt on the host.
+    pub fn first_attempt(&self, host: HostNo) -> Option<Slot>
+        ensures { result ≡ first_on (procs_of self.now.slots) host 0 }
+    {
+        self.attempts.first(host)
+    }
+
+    /// The next slot with a live attempt on the host of this slot's attempt, none where this one has no attempt.
+    pub fn next_attempt(&self, slot: Slot) -> Option<Slot>
+        ensures { result ≡ next_on (procs_of self.now.slots) slot }
+    {
+        self.attempts.next(slot)
     }
 }

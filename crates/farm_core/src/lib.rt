@@ -10,4 +10,4 @@ mod record;
 
 pub use demo::demo_farm;
 pub use farm::Farm;
-pub use farm_books::{Change, PrepareFault};
+pub use farm_changes::{Change, PrepareFault};

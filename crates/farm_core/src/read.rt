@@ -107,6 +107,13 @@ impl Farm {
         self.books.layer(job, place)
     }
 
+    /// What stands in a slot, none past the last that was ever used.
+    pub fn slot(&self, slot: Slot) -> Option<SlotRow>
+        ensures { result ≡ slice_get self.now.slots slot }
+    {
+        self.books.slot(slot)
+    }
+
     /// The live attempt of a slot.
     pub fn live(&self, slot: Slot) -> Option<ProcRow>
         ensures { result ≡ live_at self.now slot }

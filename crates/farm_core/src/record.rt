@@ -1,15 +1,15 @@
 //! Entries: prepared, reserved, applied.
 
-ghost use Rattle.std.specs.Prelude.{◌≡◌, ◌≤◌, length, true, OnOk, OnErr};
+ghost use Rattle.std.specs.Prelude.{◌≡◌, ◌≤◌, length, OnOk, OnErr, if◌then◌else◌};
 ghost use Rattle.farm_types.specs.declared.entry.Act.TheVariants as act;
-ghost use Rattle.farm_types.specs.Booking.{may_record};
+ghost use Rattle.farm_types.specs.Booking.{may_book};
 ghost use Rattle.farm_types.specs.Formed.{IsFormed};
 ghost use Rattle.farm_types.specs.Step.{HasCondition, after};
-ghost use Rattle.farm_books.specs.Change.{IsReserved, after_change, answer_of, reserved_of};
+ghost use Rattle.farm_changes.specs.Change.{IsReserved, after_change, reserved_of};
 ghost use Rattle.farm_core.specs.Change.{IsReady, Prepares};
 
 use crate::farm::Farm;
-use farm_books::{Change, PrepareFault};
+use farm_changes::{Change, PrepareFault, apply, prepare, record, reserve};
 use farm_types::{Answer, Entry, HostNo, Slot};
 use std::alloc::{AllocError, Global};
 
@@ -21,7 +21,7 @@ impl Farm {
         requires formed { IsFormed entry.now }
         ensures { Prepares self.now entry.now result }
     {
-        self.books.prepare(alloc, entry)
+        prepare(alloc, &self.books, entry)
     }
 
     /// Takes the memory that the change needs, so that applying it takes none. The farm is as before.
@@ -30,7 +30,7 @@ impl Farm {
         ensures ok { OnOk result (change.new ≡ reserved_of change.old) }
         ensures err { OnErr result (change.new ≡ change.old) }
     {
-        self.books.reserve(alloc, change)
+        reserve(&mut self.books, alloc, change)
     }
 
     /// Applies a change that fits the farm and whose memory was taken. It takes no memory.
@@ -38,10 +38,10 @@ impl Farm {
         requires ready { IsReady self.old change }
         requires reserved { IsReserved change }
         ensures farm { self.new ≡ after_change self.old change }
-        ensures answer { result ≡ answer_of change }
+        ensures answer { result ≡ change.answer }
         ensures hosts { length self.old.hosts ≤ length self.new.hosts }
     {
-        self.books.apply(change)
+        apply(&mut self.books, change)
     }
 
     /// Takes the memory that the change needs, and applies it. At an `Err`, where memory ran out, the farm is as before.
@@ -51,14 +51,15 @@ impl Farm {
         ensures err { OnErr result (self.new ≡ self.old) }
         ensures hosts { length self.old.hosts ≤ length self.new.hosts }
     {
-        self.books.record(alloc, change)
+        record(&mut self.books, alloc, change)
     }
 
-    /// Books the slot's frame on the host, at the later of the farm's moment and this one (seconds). It takes no memory.
-    pub fn book(&mut self, slot: Slot, host: HostNo, moment: u64)
-        requires { may_record self.old slot host ≡ true }
-        ensures { self.new ≡ after self.old (record { moment = moment; act = act.Book slot host }) }
+    /// Books the slot's frame on the host, at the later of the farm's moment and this one (seconds), where it may be booked, and says whether
+    /// it was. It takes no memory.
+    pub fn book_if(&mut self, slot: Slot, host: HostNo, moment: u64) -> bool
+        ensures said { result ≡ may_book self.old slot host }
+        ensures farm { self.new ≡ (if may_book self.old slot host then after self.old (record { moment = moment; act = act.Book slot host }) else self.old) }
     {
-        self.books.book(slot, host, moment);
+        self.books.book_if(slot, host, moment)
     }
 }

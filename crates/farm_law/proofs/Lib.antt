@@ -2,6 +2,7 @@ pub mod ActLaws
 pub mod Booked
 pub mod Booted
 pub mod CanBook
+pub mod DemoLegal
 pub mod Ended
 pub mod Hosts
 pub mod KeepsLaw

@@ -10,6 +10,7 @@ ghost use Rattle.farm_types.specs.Dispatch.{candidate_suits, plan_for};
 ghost use Rattle.farm_types.specs.Farm.{Farm, empty_farm};
 ghost use Rattle.farm_types.specs.Kept.{IsKeptFarm};
 ghost use Rattle.farm_types.specs.Run.{IsSound, HasItsHosts, IsLegal, IsSafe, run_of};
+ghost use Rattle.farm_law.specs.DemoRun.{demo_entries};
 
 /// Every legal run of entries from a sound farm with its hosts is safe: no host is ever used past its cores or
 /// memory, exactly the running frames have an attempt, each booking finds its frame open and leaves it an attempt
@@ -47,4 +48,10 @@ pub fn legal_runs_keep_farms()
     ensures empty { IsKeptFarm empty_farm }
     ensures demo { (moment : ℕ) → moment < 2 ^ 64 → IsKeptFarm (demo_farm moment) }
     ensures runs { (f : Farm) (es : List Entry) → IsKeptFarm f → IsLegal f es → IsKeptFarm (run_of f es) }
+{}
+
+/// The demonstration's farm is that of a legal run from the farm of no rows.
+pub fn the_demonstration_is_a_run()
+    ensures legal { (moment : ℕ) → moment < 2 ^ 64 → IsLegal empty_farm (demo_entries moment) }
+    ensures farm { (moment : ℕ) → run_of empty_farm (demo_entries moment) ≡ demo_farm moment }
 {}

@@ -4,5 +4,6 @@
 mod law;
 
 pub use law::{
-    candidates_suit, legal_runs_are_safe, legal_runs_keep_farms, legal_runs_keep_hosts, suits_stays,
+    candidates_suit, legal_runs_are_safe, legal_runs_keep_farms, legal_runs_keep_hosts,
+    suits_stays, the_demonstration_is_a_run,
 };

@@ -2,4 +2,4 @@ pub mod Booted
 pub mod KeptHosts
 pub mod Named
 pub mod Oldest
-pub mod Walked
+pub mod Unheard

@@ -4,11 +4,9 @@ use Rattle.std.specs.List.{slice_set, fold}
 use Rattle.std.proofs.lemmas.Bool.Decides.{nat_tests}
 use Rattle.std.proofs.lemmas.List.Elements.{All-nil, All-cons, All-head, All-tail, All-set, All-push, All-weaker}
 use Rattle.farm_types.specs.declared.rows.HostRow.{HostRow}
-use Rattle.farm_types.specs.declared.states.HostState.{HostState}
-use Rattle.farm_types.specs.declared.states.HostState.TheVariants.{Up, Down}
-use Rattle.farm_types.specs.Hosts.{count_unheard, down_row, is_unheard, reopened_row, silenced}
+use Rattle.farm_types.specs.Hosts.{count_unheard, is_unheard}
 use Rattle.host_book.specs.Inside.{AllSince, is_past, least_of, never_past, watched_of}
-use Rattle.host_book.proofs.Walked.{past_is_unheard}
+use Rattle.host_book.proofs.Unheard.{past_is_unheard}
 
 -- ---- a lower bound
 
@@ -43,16 +41,6 @@ since_fold_min a (n ∷ ns) =
 pub since_least : (bound : ℕ) (moments : List ℕ) → bound ≡ least_of moments → AllSince bound moments
 since_least bound moments is = subst (λ (b : ℕ). AllSince b moments) (sym is) (since_fold_min never_past moments)
 
-reopened_by : (moment : ℕ) (row : HostRow) (s : HostState) → row.state ≡ s → moment ≤ never_past → moment ≤ watched_of (reopened_row moment row)
-reopened_by moment row Up is within = rw is (omega arith)
-reopened_by moment row Down is within = rw is within
-
--- each host that is up counts as heard at the moment
-pub since_reopened : (moment : ℕ) (hosts : List HostRow) → moment ≤ never_past → AllSince moment (map watched_of (map (reopened_row moment) hosts))
-since_reopened moment [] within = All-nil (λ n. moment ≤ n)
-since_reopened moment (row ∷ rows) within =
-    All-cons (λ n. moment ≤ n) (watched_of (reopened_row moment row)) (map watched_of (map (reopened_row moment) rows)) (reopened_by moment row row.state refl within) (since_reopened moment rows within)
-
 -- ---- no silent host
 
 not_past : (moment bound heard : ℕ) → is_past moment bound ≡ false → bound ≤ heard → is_past moment heard ≡ false
@@ -62,32 +50,14 @@ module _ (moment bound : ℕ) (within : moment ≤ never_past) (soon : is_past m
   heard_soon : (row : HostRow) → bound ≤ watched_of row → is_unheard moment row ≡ false
   heard_soon row before = sym (past_is_unheard moment row within) ∙ not_past moment bound (watched_of row) soon before
 
-  soon_at : (row : HostRow) (rows : List HostRow) → AllSince bound (map watched_of (row ∷ rows)) → (is_unheard moment row ≡ false) × AllSince bound (map watched_of rows)
-  soon_at row rows since =
-      let P : ℕ → Type 0 = λ n. bound ≤ n in
-      (heard_soon row (All-head P (watched_of row) (map watched_of rows) since), All-tail P (watched_of row) (map watched_of rows) since)
-
   count_by : (hosts : List HostRow) → AllSince bound (map watched_of hosts) → count_unheard moment hosts ≡ 0
   count_by [] since = refl
   count_by (row ∷ rows) since =
-      let here = soon_at row rows since in
+      let P : ℕ → Type 0 = λ n. bound ≤ n in
+      let here = heard_soon row (All-head P (watched_of row) (map watched_of rows) since) in
       let others = filter (is_unheard moment) rows in
-      ap (λ (b : Bool). length (cond b (row ∷ others) others)) here.0 ∙ count_by rows here.1
+      ap (λ (b : Bool). length (cond b (row ∷ others) others)) here ∙ count_by rows (All-tail P (watched_of row) (map watched_of rows) since)
 
-  silenced_by : (hosts : List HostRow) → AllSince bound (map watched_of hosts) → silenced moment hosts ≡ hosts
-  silenced_by [] since = refl
-  silenced_by (row ∷ rows) since =
-      let here = soon_at row rows since in
-      λ j. cond (here.0 j) (down_row row) row ∷ silenced_by rows here.1 j
-
-  module _ (hosts : List HostRow) (watched : List ℕ) (these : watched ≡ map watched_of hosts) (since : AllSince bound watched) where
-    read_since : AllSince bound (map watched_of hosts)
-    read_since = subst (λ (ns : List ℕ). AllSince bound ns) these since
-
-    -- where the moment is not past the bound, no host is unheard
-    pub count_unheard-since : count_unheard moment hosts ≡ 0
-    count_unheard-since = count_by hosts read_since
-
-    -- and none goes down
-    pub silenced-since : silenced moment hosts ≡ hosts
-    silenced-since = silenced_by hosts read_since
+  -- where the moment is not past the bound, no host is unheard
+  pub count_unheard-since : (hosts : List HostRow) (watched : List ℕ) → watched ≡ map watched_of hosts → AllSince bound watched → count_unheard moment hosts ≡ 0
+  count_unheard-since hosts watched these since = count_by hosts (subst (λ (ns : List ℕ). AllSince bound ns) these since)

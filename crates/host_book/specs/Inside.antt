@@ -8,6 +8,7 @@ use Rattle.farm_types.specs.declared.rows.HostRow.{HostRow}
 use Rattle.farm_types.specs.Booking.{is_up}
 use Rattle.farm_types.specs.Hosts.{is_same_life}
 use Rattle.host_book.specs.declared.hosts.Hosts.TheInside.{Inside}
+use Rattle.host_book.specs.declared.life.HostLife.{HostLife}
 use Rattle.farm_types.specs.declared.limits.TheConstants.{LAST_BOOT, MOST_HOSTS, SILENT_SECONDS}
 
 abbrev pub name_of : HostRow → List ℕ
@@ -20,6 +21,10 @@ never_past = 18446744073709551615
 -- the moment when the host was last heard, while it is up
 abbrev pub watched_of : HostRow → ℕ
 watched_of row = if is_up row.state then row.heard else never_past
+
+-- the same of a host's life
+abbrev pub watched_in : HostLife → ℕ
+watched_in life = if is_up life.state then life.heard else never_past
 
 -- the moment is more than so many seconds past the other one
 abbrev pub is_past : ℕ → ℕ → Bool

@@ -4,13 +4,14 @@
 mod apply;
 mod boots;
 mod bound;
-mod change;
 mod check;
 mod copy;
 mod hosts;
+mod life;
 mod spare;
 mod walk;
 
 pub use boots::{BootPlan, HeardRefusal, HostRefusal};
 pub use hosts::Hosts;
+pub use life::HostLife;
 pub use spare::HostSpare;

@@ -1,4 +1,4 @@
--- Where the frame at a position of a layer stands, when one slot changes.
+-- Where the frame at a position of a layer stands, and whether it waits, when one slot's row is set.
 use Rattle.std.proofs.Common.{◌≡◌, ◌≢◌, ℕ, zero, suc, ◌+◌, ◌<◌, ◌&&◌, Bool, true, false, eqb, List, [], ◌∷◌, map, get_or, Option, Some, option_map, refl, sym, ap, subst, ◌∙◌, ◌⊎◌, inl, inr, arith}
 use Rattle.std.specs.List.{slice_get, slice_set}
 use Rattle.std.specs.Option.{option_and_then}
@@ -8,16 +8,18 @@ use Rattle.std.proofs.lemmas.Option.{none-some, same_Some, slice_get_within, get
 use Rattle.farm_types.specs.declared.rows.LayerRow.{LayerRow}
 use Rattle.farm_types.specs.declared.slot_row.Frame.{Frame}
 use Rattle.farm_types.specs.declared.slot_row.SlotRow.{SlotRow}
+use Rattle.farm_types.specs.declared.states.FrameState.{FrameState}
 use Rattle.farm_types.specs.Booking.{is_waiting}
 use Rattle.farm_types.specs.Farm.{for_some, changed_at}
 use Rattle.farm_types.specs.Jobs.{is_placed, slot_from}
 use Rattle.farm_types.specs.Rising.{IsRising}
-use Rattle.farm_types.proofs.Changed.{places, changed_at_each, changed_at_other}
-use Rattle.farm_types.proofs.ChangedLists.{map-changed_at, changed_at_kept}
+use Rattle.farm_types.proofs.Changed.{places, changed_at_each, changed_at_other, changed_at_same}
+use Rattle.farm_types.proofs.ChangedLists.{map-changed_at_kept}
 use Rattle.farm_types.proofs.Lists.{and_both, for_some_true, slice_get_below}
 use Rattle.job_book.specs.Index.{waits_in}
 use Rattle.job_book.specs.Inside.{layer_key}
 use Rattle.job_book.specs.Layers.{LayerPlaces, KeepsLayers, KeepsWaiting, layer_position, marked, place_in, slots_of}
+use Rattle.job_book.proofs.InState.{IsInState, read_same, with_row}
 use Rattle.job_book.proofs.Searched.{rises}
 
 -- ---- where a frame is found
@@ -61,14 +63,6 @@ slot_from_alike p test (r ∷ rs) (s ∷ ss) same =
     let others : map (λ (s : SlotRow). for_some s.frame test) rs ≡ map (λ (s : SlotRow). for_some s.frame test) ss = cc in
     rw (first, slot_from_alike (p + 1) test rs ss others) refl
 
--- a change of which the test says the same
-pub changed_from : (test : Frame → Bool) (slots : List SlotRow) (i : ℕ) (s : SlotRow) (change : SlotRow → SlotRow) → slice_get slots i ≡ Some s
-    → for_some (change s).frame test ≡ for_some s.frame test → slot_from 0 test (changed_at slots i change) ≡ slot_from 0 test slots
-changed_from test slots i s change at stays =
-    slot_from_alike 0 test (changed_at slots i change) slots
-    (map-changed_at (λ (r : SlotRow). for_some r.frame test) change slots i (λ b. b) (λ x is. subst (λ (r : SlotRow). for_some (change r).frame test ≡ for_some r.frame test) (same_Some s x (sym at ∙ is)) stays)
-    ∙ changed_at_kept (map (λ (r : SlotRow). for_some r.frame test) slots) i (λ b. b) (λ b is. refl))
-
 -- ---- the layer at a place
 
 -- a layer is found at its place, since the keys rise
@@ -110,22 +104,10 @@ listed layers slots index high m k i x rise keeps at there =
           ∙ ap (option_and_then (λ (ns : List ℕ). slice_get ns k)) read ∙ there;
     }
 
--- ---- a slot whose frame stays the same but for its state
+-- ---- marks
 
-pub kept_layers : (layers : List LayerRow) (slots : List SlotRow) (places : List (List ℕ)) (i : ℕ) (s : SlotRow) (change : SlotRow → SlotRow) → slice_get slots i ≡ Some s
-    → ((job layer k : ℕ) → for_some (change s).frame (is_placed job layer k) ≡ for_some s.frame (is_placed job layer k))
-    → ((x : Frame) → (change s).frame ≡ Some x → slot_from 0 (is_placed x.job x.layer x.position) slots ≡ Some i)
-    → KeepsLayers layers slots places → KeepsLayers layers (changed_at slots i change) places
-kept_layers layers slots places i s change at stays here keeps =
-    let same : (job layer k : ℕ) → slot_from 0 (is_placed job layer k) (changed_at slots i change) ≡ slot_from 0 (is_placed job layer k) slots = λ job layer k. changed_from (is_placed job layer k) slots i s change at (stays job layer k) in
-    record {
-      as_many = keeps.as_many;
-      found = λ job layer k. same job layer k ∙ keeps.found job layer k;
-      first = λ n row x there is.
-          changed_at_each (λ (m : ℕ) (r : SlotRow). (y : Frame) → r.frame ≡ Some y → slot_from 0 (is_placed y.job y.layer y.position) (changed_at slots i change) ≡ Some m) slots i change
-          (λ r was y e. same y.job y.layer y.position ∙ here y (ap (λ (z : SlotRow). (change z).frame) (same_Some s r (sym at ∙ was)) ∙ e))
-          (λ m r apart was y e. same y.job y.layer y.position ∙ keeps.first m r y was e) n row there x is;
-    }
+abbrev frame_waits : Option SlotRow → Bool
+frame_waits o = for_some o (λ (s : SlotRow). for_some s.frame (λ z. is_waiting z.state))
 
 pub map_same : (f g : ℕ → Bool) (ns : List ℕ) → ((j n : ℕ) → slice_get ns j ≡ Some n → g n ≡ f n) → map g ns ≡ map f ns
 map_same f g [] same = refl
@@ -138,28 +120,47 @@ map_set_at f g (n ∷ ns) zero b others here = λ j. here n refl j ∷ map_same 
 map_set_at f g (n ∷ ns) (suc k) b others here =
     λ j. others 0 n refl (λ e. absurd (omega (arith, e))) j ∷ map_set_at f g ns k b (λ i m at apart. others (suc i) m at (λ e. apart (omega (arith, e)))) (λ m at. here m at) j
 
-elsewhere_same : (slots : List SlotRow) (i : ℕ) (change : SlotRow → SlotRow) (n : ℕ) → n ≢ i → waits_in (changed_at slots i change) n ≡ waits_in slots n
-elsewhere_same slots i change n apart = ap (λ (o : Option SlotRow). for_some o (λ (r : SlotRow). for_some r.frame (λ z. is_waiting z.state))) (changed_at_other slots i n change apart)
-
--- where the slot's frame waits as before, all marks stay
-pub same_waiting : (slots : List SlotRow) (index : List LayerPlaces) → KeepsWaiting slots index → (i : ℕ) (change : SlotRow → SlotRow) → waits_in (changed_at slots i change) i ≡ waits_in slots i
-    → KeepsWaiting (changed_at slots i change) index
-same_waiting slots index waiting i change stays =
-    record { marks = λ m x here. waiting.marks m x here ∙ sym (map_same (waits_in slots) (waits_in (changed_at slots i change)) x.slots (λ j n _. by n (places n i))) }
-  where
-    by : (n : ℕ) → (n ≡ i) ⊎ (n ≢ i) → waits_in (changed_at slots i change) n ≡ waits_in slots n
-    by n (inl e) = rw e stays
-    by n (inr apart) = elsewhere_same slots i change n apart
+-- ---- one slot's row is set, its frame in any state
 
 module _ (layers : List LayerRow) (slots : List SlotRow) (index : List LayerPlaces) (high : ℕ) (rise : IsRising layer_key 0 layers high) (keeps : KeepsLayers layers slots (map slots_of index)) (waiting : KeepsWaiting slots index)
-    (i : ℕ) (s : SlotRow) (y : Frame) (at : slice_get slots i ≡ Some s) (is : s.frame ≡ Some y) where
+    (i : ℕ) (row : SlotRow) (y : Frame) (state : FrameState) (r : IsInState slots i row y state) where
+  abbrev new : List SlotRow
+  new = with_row slots i row
+
+  abbrev place : ℕ
+  place = layer_position y.job y.layer layers
+
+  -- each frame is found where it was
+  found_same : (job layer k : ℕ) → slot_from 0 (is_placed job layer k) new ≡ slot_from 0 (is_placed job layer k) slots
+  found_same job layer k = slot_from_alike 0 (is_placed job layer k) new slots (read_same slots i row y state r (λ (s : SlotRow). for_some s.frame (is_placed job layer k)) (rw (r.is, r.was) refl))
+
+  its_slot : slot_from 0 (is_placed y.job y.layer y.position) slots ≡ Some i
+  its_slot = keeps.first i r.old y r.at r.was
+
+  pub kept_layers : KeepsLayers layers new (map slots_of (changed_at index place (marked y.position (is_waiting state))))
+  kept_layers =
+      rw (map-changed_at_kept slots_of (marked y.position (is_waiting state)) (λ x. refl) index place) (record {
+        as_many = keeps.as_many;
+        found = λ job layer k. found_same job layer k ∙ keeps.found job layer k;
+        first = λ n s x there is.
+            changed_at_each (λ (m : ℕ) (t : SlotRow). (z : Frame) → t.frame ≡ Some z → slot_from 0 (is_placed z.job z.layer z.position) new ≡ Some m) slots i (λ _. row)
+            (λ t was z e. found_same z.job z.layer z.position ∙ subst (λ (f : Frame). slot_from 0 (is_placed f.job f.layer f.position) slots ≡ Some i) (same_Some (record y { state = state; retries = r.retries }) z (sym r.is ∙ e)) its_slot)
+            (λ m t apart was z e. found_same z.job z.layer z.position ∙ keeps.first m t z was e) n s there x is;
+      })
+
+  elsewhere_same : (n : ℕ) → n ≢ i → waits_in new n ≡ waits_in slots n
+  elsewhere_same n apart = ap frame_waits (changed_at_other slots i n (λ _. row) apart)
+
+  waits : waits_in new i ≡ is_waiting state
+  waits = ap frame_waits (changed_at_same slots i (λ _. row) r.old r.at) ∙ rw r.is refl
+
   -- the slot stands in the list of its frame's layer, at its frame's position, or nowhere
-  its_place : (m k : ℕ) (x : LayerPlaces) → slice_get index m ≡ Some x → slice_get x.slots k ≡ Some i → (m ≡ layer_position y.job y.layer layers) × (k ≡ y.position)
+  its_place : (m k : ℕ) (x : LayerPlaces) → slice_get index m ≡ Some x → slice_get x.slots k ≡ Some i → (m ≡ place) × (k ≡ y.position)
   its_place m k x here there =
       let found = listed layers slots index high m k i x rise keeps here there in
       let its = from_slot (is_placed found.layer.job found.layer.place k) slots i found.found in
-      let row : its.row ≡ s = same_Some its.row s (sym its.at ∙ at) in
-      let frame : its.frame ≡ y = same_Some its.frame y (sym its.is ∙ ap (λ (r : SlotRow). r.frame) row ∙ is) in
+      let old : its.row ≡ r.old = same_Some its.row r.old (sym its.at ∙ r.at) in
+      let frame : its.frame ≡ y = same_Some its.frame y (sym its.is ∙ ap (λ (s : SlotRow). s.frame) old ∙ r.was) in
       let passes : is_placed found.layer.job found.layer.place k y ≡ true = subst (λ (z : Frame). is_placed found.layer.job found.layer.place k z ≡ true) frame its.passes in
       let split = and_both (eqb y.job found.layer.job && eqb y.layer found.layer.place) (eqb y.position k) passes in
       let rest = and_both (eqb y.job found.layer.job) (eqb y.layer found.layer.place) split.0 in
@@ -167,38 +168,29 @@ module _ (layers : List LayerRow) (slots : List SlotRow) (index : List LayerPlac
       let layer : found.layer.place ≡ y.layer = sym (eqb-true y.layer found.layer.place rest.1) in
       (sym found.there ∙ ap (λ (n : ℕ). layer_position n found.layer.place layers) job ∙ ap (λ (n : ℕ). layer_position y.job n layers) layer, sym (eqb-true y.position k split.1))
 
-  module _ (change : SlotRow → SlotRow) where
-    abbrev new : List SlotRow
-    new = changed_at slots i change
+  others_same : (m : ℕ) (x : LayerPlaces) → slice_get index m ≡ Some x → ((k : ℕ) → slice_get x.slots k ≡ Some i → ⊥) → map (waits_in new) x.slots ≡ map (waits_in slots) x.slots
+  others_same m x here none = map_same (waits_in slots) (waits_in new) x.slots (λ j n there. by j n there (places n i))
+    where
+      by : (j n : ℕ) → slice_get x.slots j ≡ Some n → (n ≡ i) ⊎ (n ≢ i) → waits_in new n ≡ waits_in slots n
+      by j n there (inl e) = absurd (none j (there ∙ ap Some e))
+      by j n there (inr apart) = elsewhere_same n apart
 
-    -- and where it changes, its mark is set
-    module _ (w : Bool) (waits : waits_in new i ≡ w) where
-      abbrev place : ℕ
-      place = layer_position y.job y.layer layers
+  here_marked : (x : LayerPlaces) → slice_get index place ≡ Some x → slice_set x.waiting y.position (is_waiting state) ≡ map (waits_in new) x.slots
+  here_marked x here =
+      let read : slice_get (map slots_of index) place ≡ Some x.slots = slice_get-map slots_of index place ∙ ap (option_map slots_of) here in
+      let stands : slice_get x.slots y.position ≡ Some i = sym (ap (option_and_then (λ (ns : List ℕ). slice_get ns y.position)) read) ∙ sym (keeps.found y.job y.layer y.position) ∙ its_slot in
+      ap (λ bs. slice_set bs y.position (is_waiting state)) (waiting.marks place x here) ∙ sym (map_set_at (waits_in slots) (waits_in new) x.slots y.position (is_waiting state)
+      (λ j m there apart. other j m there apart (places m i))
+      (λ m there. ap (waits_in new) (same_Some m i (sym there ∙ stands)) ∙ waits))
+    where
+      other : (j m : ℕ) → slice_get x.slots j ≡ Some m → j ≢ y.position → (m ≡ i) ⊎ (m ≢ i) → waits_in new m ≡ waits_in slots m
+      other j m there apart (inl e) = absurd (apart (its_place place j x here (there ∙ ap Some e)).1)
+      other j m there apart (inr far) = elsewhere_same m far
 
-      others_same : (m : ℕ) (x : LayerPlaces) → slice_get index m ≡ Some x → ((k : ℕ) → slice_get x.slots k ≡ Some i → ⊥) → map (waits_in new) x.slots ≡ map (waits_in slots) x.slots
-      others_same m x here none = map_same (waits_in slots) (waits_in new) x.slots (λ j n there. by j n there (places n i))
-        where
-          by : (j n : ℕ) → slice_get x.slots j ≡ Some n → (n ≡ i) ⊎ (n ≢ i) → waits_in new n ≡ waits_in slots n
-          by j n there (inl e) = absurd (none j (there ∙ ap Some e))
-          by j n there (inr apart) = elsewhere_same slots i change n apart
-
-      here_marked : (x : LayerPlaces) → slice_get index place ≡ Some x → slice_set x.waiting y.position w ≡ map (waits_in new) x.slots
-      here_marked x here =
-          let read : slice_get (map slots_of index) place ≡ Some x.slots = slice_get-map slots_of index place ∙ ap (option_map slots_of) here in
-          let stands : slice_get x.slots y.position ≡ Some i =
-          sym (ap (option_and_then (λ (ns : List ℕ). slice_get ns y.position)) read) ∙ sym (keeps.found y.job y.layer y.position) ∙ keeps.first i s y at is in
-          ap (λ bs. slice_set bs y.position w) (waiting.marks place x here) ∙ sym (map_set_at (waits_in slots) (waits_in new) x.slots y.position w
-          (λ j m there apart. other j m there apart (places m i))
-          (λ m there. ap (waits_in new) (same_Some m i (sym there ∙ stands)) ∙ waits))
-        where
-          other : (j m : ℕ) → slice_get x.slots j ≡ Some m → j ≢ y.position → (m ≡ i) ⊎ (m ≢ i) → waits_in new m ≡ waits_in slots m
-          other j m there apart (inl e) = absurd (apart (its_place place j x here (there ∙ ap Some e)).1)
-          other j m there apart (inr far) = elsewhere_same slots i change m far
-
-      pub marked_waiting : KeepsWaiting new (changed_at index place (marked y.position w))
-      marked_waiting = record {
-        marks = changed_at_each (λ (m : ℕ) (x : LayerPlaces). x.waiting ≡ map (waits_in new) x.slots) index place (marked y.position w)
-            (λ x here. here_marked x here)
-            (λ m x apart here. waiting.marks m x here ∙ sym (others_same m x here (λ k there. apart (its_place m k x here there).0)));
-      }
+  -- the frame's mark is set where it waits, and taken where it doesn't
+  pub marked_waiting : KeepsWaiting new (changed_at index place (marked y.position (is_waiting state)))
+  marked_waiting = record {
+    marks = changed_at_each (λ (m : ℕ) (x : LayerPlaces). x.waiting ≡ map (waits_in new) x.slots) index place (marked y.position (is_waiting state))
+        (λ x here. here_marked x here)
+        (λ m x apart here. waiting.marks m x here ∙ sym (others_same m x here (λ k there. apart (its_place m k x here there).0)));
+  }

@@ -1,13 +1,12 @@
 pub mod FreeSlots
 pub mod LayerLists
 pub mod LayerSlots
-pub mod LayersKept
 pub mod PlacedLayers
 pub mod PlacedWaiting
 pub mod NamedJobs
 pub mod Names
 pub mod FirstWaiting
-pub mod KeptFree
+pub mod FirstFree
 pub mod KeyLists
 pub mod NextJob
 pub mod Placed

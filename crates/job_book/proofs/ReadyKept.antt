@@ -1,10 +1,9 @@
--- The ready jobs when a frame changes its state, when a slot's attempt alone changes, and when a job is placed.
-use Rattle.std.proofs.Common.{◌≡◌, ℕ, zero, suc, ◌+◌, ◌<◌, ◌≤◌, Bool, true, false, cond, eqb, ltb, List, [], ◌∷◌, ◌++◌, length, Option, Some, None, option_map, refl, sym, ap, ◌∙◌, arith, length-append}
+-- The ready jobs when a slot's row is set, and when a job is placed.
+use Rattle.std.proofs.Common.{◌≡◌, ℕ, zero, suc, ◌+◌, ◌<◌, ◌≤◌, Bool, true, false, eqb, ltb, List, [], ◌∷◌, ◌++◌, length, Option, Some, None, option_map, refl, sym, ap, ◌∙◌, arith, length-append}
 use Rattle.std.specs.List.{find, list_all, position_or_len, slice_get}
 use Rattle.std.proofs.lemmas.Bool.{eq-eqb, ne_eqb, eqb-true, eqb-false, lt-ltb, le-leb}
 use Rattle.std.proofs.lemmas.List.Folds.{find_at}
 use Rattle.std.proofs.lemmas.Option.{none-some, same_Some, slice_get-map}
-use Rattle.farm_types.specs.declared.attempt.ProcRow.{ProcRow}
 use Rattle.farm_types.specs.declared.job.JobSpec.{JobSpec}
 use Rattle.farm_types.specs.declared.rows.JobRow.{JobRow}
 use Rattle.farm_types.specs.declared.slot_row.Frame.{Frame}
@@ -16,13 +15,12 @@ use Rattle.farm_types.specs.Jobs.{JobLists, frames_of, job_row, place_frames, wi
 use Rattle.farm_types.specs.SpecLimits.{JobKeepsLimits}
 use Rattle.farm_types.specs.declared.limits.TheConstants.{MOST_PRIORITY}
 use Rattle.farm_types.specs.Rising.{IsRising, job_key}
-use Rattle.farm_types.proofs.Changed.{changed_at_sum}
 use Rattle.farm_types.proofs.Lists.{found_is, list_all-at}
 use Rattle.job_book.specs.declared.counts.Counts.{Counts}
-use Rattle.job_book.specs.Book.{count_in, counts_of, is_in, row_in_state, attempted_row}
+use Rattle.job_book.specs.Book.{count_in, counts_of}
 use Rattle.job_book.specs.Inside.{IsBook, counts_for, has_begun}
 use Rattle.job_book.specs.Ready.{CanBeReady, CanChange, KeepsReady, changed_ready, has_priority, put_key, ready_key, waits}
-use Rattle.job_book.proofs.InState.{counts_other}
+use Rattle.job_book.proofs.InState.{IsInState, counts_other, with_row}
 use Rattle.job_book.proofs.Placed.{count_placed, new_job_counts_none}
 use Rattle.job_book.proofs.PlacedLayers.{slice_get-back}
 use Rattle.job_book.proofs.ReadyLists.{can_be_ready, more_ready, ready_after, same_ready}
@@ -60,13 +58,13 @@ module _ (jobs : List JobRow) (high : ℕ) (most : high ≤ JOB_NUMBERS) (rise :
     pub can_change : CanChange had has ready (slice_get jobs place)
     can_change = can_by (slice_get jobs place) refl
 
-    module _ (i : ℕ) (s : SlotRow) (x : Frame) (at : slice_get slots i ≡ Some s) (is : s.frame ≡ Some x) (state : FrameState) (version retries : ℕ) (stands : place ≡ position_or_len (λ (j : JobRow). eqb j.job x.job) jobs)
-        (later : List Counts) (now_are : later ≡ counts_for jobs (changed_at slots i (row_in_state state version retries))) (now : has ≡ said (slice_get later place)) where
+    module _ (i : ℕ) (row : SlotRow) (x : Frame) (state : FrameState) (r : IsInState slots i row x state) (stands : place ≡ position_or_len (λ (j : JobRow). eqb j.job x.job) jobs)
+        (later : List Counts) (now_are : later ≡ counts_for jobs (with_row slots i row)) (now : has ≡ said (slice_get later place)) where
       abbrev new : List SlotRow
-      new = changed_at slots i (row_in_state state version retries)
+      new = with_row slots i row
 
       apart_same : (job : ℕ) → (job ≡ x.job → ⊥) → waits new job ≡ waits slots job
-      apart_same job far = ap (λ (c : Counts). ltb 0 c.waiting) (counts_other slots i s x at is state version retries job (ne_eqb x.job job (λ e. far (sym e))))
+      apart_same job far = ap (λ (c : Counts). ltb 0 c.waiting) (counts_other slots i row x state r job (ne_eqb x.job job (λ e. far (sym e))))
 
       found : (o : Option JobRow) → slice_get jobs place ≡ o → find (λ (j : JobRow). eqb j.job x.job) jobs ≡ o
       found o here = find_at (λ (j : JobRow). eqb j.job x.job) jobs ∙ ap (slice_get jobs) (sym stands) ∙ here
@@ -80,15 +78,6 @@ module _ (jobs : List JobRow) (high : ℕ) (most : high ≤ JOB_NUMBERS) (rise :
 
       pub in_state_ready : KeepsReady jobs new (changed_ready had has ready (slice_get jobs place))
       in_state_ready = kept_by (slice_get jobs place) refl
-
--- a slot whose attempt alone changes
-pub attempted_ready : (jobs : List JobRow) (slots : List SlotRow) (ready : List (List ℕ)) (i : ℕ) (s : SlotRow) (proc : Option ProcRow) → slice_get slots i ≡ Some s → KeepsReady jobs slots ready
-    → KeepsReady jobs (changed_at slots i (attempted_row proc)) ready
-attempted_ready jobs slots ready i s proc at keeps =
-    same_ready jobs slots (changed_at slots i (attempted_row proc)) ready (λ k l _.
-    let same : count_in l.job Waiting (changed_at slots i (attempted_row proc)) ≡ count_in l.job Waiting slots =
-    omega (arith, changed_at_sum (λ (r : SlotRow). cond (for_some r.frame (is_in l.job Waiting)) 1 0) slots i (attempted_row proc) s at) in
-    ap (ltb 0) same) keeps
 
 -- a job is placed
 module _ (b : JobLists) (show : ℕ) (spec : JobSpec) (limits : JobKeepsLimits spec) (ok : IsBook b) (placed : IsBook (with_job b show spec)) (few : length b.jobs + 1 < MOST_JOBS) (ready : List (List ℕ)) (keeps : KeepsReady b.jobs b.slots ready) where

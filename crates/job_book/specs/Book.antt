@@ -1,7 +1,6 @@
 -- What the calls of the job book answer and change.
 use Rattle.std.specs.Prelude.{◌≡◌, ◌<◌, ◌≤◌, All, IsSome, ℕ, ◌==◌, ◌&&◌, Bool, not, is_some, List, [], option_map, option_and_then, sum_by, Option, None, Some, find, slice_get, nat_lt, bytes_eq, Result, Ok, Err, if◌then◌else◌}
 use Rattle.std.specs.List.{prefix_len}
-use Rattle.farm_types.specs.declared.attempt.ProcRow.{ProcRow}
 use Rattle.farm_types.specs.declared.job.JobSpec.{JobSpec}
 use Rattle.farm_types.specs.declared.rows.JobRow.{JobRow}
 use Rattle.farm_types.specs.declared.slot_row.Frame.{Frame}
@@ -42,14 +41,15 @@ Checks b show spec (Err fault.NoMemory) = Unit {0}
 abbrev pub has_frame : JobLists → ℕ → Bool
 has_frame b slot = for_some (slice_get b.slots slot) (λ (s : SlotRow). is_some s.frame)
 
--- the slot at that version, its frame in that state with so many retries
-abbrev pub row_in_state : FrameState → ℕ → ℕ → SlotRow → SlotRow
-row_in_state state version retries s =
-    record { version = version; frame = option_map (λ (x : Frame). record x { state = state; retries = retries }) s.frame; proc = s.proc }
+-- the frame stands where the other one stood: it differs in its state and its retries alone
+abbrev pub IsSameFrame : Option Frame → Option Frame → Type 0
+IsSameFrame (Some x) (Some y) = y ≡ record x { state = y.state; retries = y.retries }
+IsSameFrame x y = ⊥
 
--- the slot with that live attempt, or with none
-abbrev pub attempted_row : Option ProcRow → SlotRow → SlotRow
-attempted_row proc s = record s { proc = proc }
+-- the slot is there, and the row has its frame
+abbrev pub KeepsFrame : Option SlotRow → SlotRow → Type 0
+KeepsFrame None row = ⊥
+KeepsFrame (Some old) row = IsSameFrame old.frame row.frame
 
 -- ---- what is read
 

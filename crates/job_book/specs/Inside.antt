@@ -14,8 +14,7 @@ use Rattle.job_book.specs.declared.counts.Counts.{Counts}
 use Rattle.job_book.specs.declared.jobs.Jobs.TheInside.{Inside}
 use Rattle.job_book.specs.Book.{counts_of}
 use Rattle.job_book.specs.Ready.{KeepsReady}
-use Rattle.job_book.specs.Layers.{LayerPlaces, KeepsLayers, KeepsWaiting, fresh_places, slots_of}
-use Rattle.farm_types.specs.declared.job.JobSpec.{JobSpec}
+use Rattle.job_book.specs.Layers.{KeepsLayers, KeepsWaiting, slots_of}
 use Rattle.farm_types.specs.declared.limits.TheConstants.{LAST_JOB, SLOT_LIMIT}
 use Rattle.job_book.specs.declared.jobs.TheConstants.{MOST_JOBS}
 use Rattle.job_book.specs.declared.place_of.TheConstants.{PLACE_LIMIT}
@@ -63,11 +62,6 @@ pub record KeepsNames (names : List (List ℕ)) (fit : ℕ) (jobs : List JobRow)
   pub names_are : names ≡ map name_of jobs
   pub pending : list_all has_begun jobs ≡ true
   pub room : MOST_JOBS ≤ fit
-
--- what is reserved for a job: its name once more, and its layers' lists
-pub record IsSpare (spec : JobSpec) (name : List ℕ) (index : List LayerPlaces) : Type 0 where
-  pub named : name ≡ spec.name
-  pub fresh : index ≡ map fresh_places spec.layers
 
 -- so many slots are free, and none of those below the lowest one
 pub record KeepsFree (free lowest : ℕ) (slots : List SlotRow) : Type 0 where

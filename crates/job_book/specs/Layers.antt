@@ -1,6 +1,7 @@
 -- Where the frames of the layers stand, and which of them wait.
 use Rattle.std.specs.Prelude.{ℕ, ◌≡◌, ◌==◌, ◌&&◌, ◌+◌, Bool, true, List, [], ◌∷◌, map, length, replicate, Option, Some, option_and_then, slice_get, slice_set, if◌then◌else◌}
 use Rattle.std.specs.List.{position_or_len}
+use Rattle.farm_types.specs.declared.job.JobSpec.{JobSpec}
 use Rattle.farm_types.specs.declared.job.LayerSpec.{LayerSpec}
 use Rattle.farm_types.specs.declared.rows.LayerRow.{LayerRow}
 use Rattle.farm_types.specs.declared.slot_row.Frame.{Frame}
@@ -26,6 +27,14 @@ count_of x = length x.slots
 -- of a layer whose frames have no slots yet, and all wait
 abbrev pub fresh_places : LayerSpec → LayerPlaces
 fresh_places l = record { slots = replicate (length l.numbers) 0; waiting = replicate (length l.numbers) true }
+
+-- what is reserved for a job: its name once more, and the lists of its layers' slots
+pub record Spare : Type 0 where
+  pub name : List ℕ
+  pub layers : List LayerPlaces
+
+abbrev pub spare_of : JobSpec → Spare
+spare_of spec = record { name = spec.name; layers = map fresh_places spec.layers }
 
 -- with the mark at a position set
 abbrev pub marked : ℕ → Bool → LayerPlaces → LayerPlaces

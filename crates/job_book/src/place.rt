@@ -6,6 +6,7 @@ ghost use Rattle.farm_types.specs.Jobs.{frames_in, job_refusal, job_row, layer_r
 ghost use Rattle.farm_types.specs.SpecLimits.{JobKeepsLimits};
 ghost use Rattle.farm_types.specs.declared.limits.TheConstants.{MOST_LAYERS};
 ghost use Rattle.job_book.specs.Book.{placing_of};
+ghost use Rattle.job_book.specs.Layers.{spare_of};
 ghost use Rattle.job_book.specs.Counting.{new_counts};
 
 use crate::counts::Counts;
@@ -20,18 +21,15 @@ use farm_types::{JobNo, JobRow, JobSpec, JobState, LayerRow, LayerSpec};
 impl Jobs {
     /// Places a job that isn't refused where `check` said, with the memory that was reserved for it: its frames wait in the
     /// lowest free slots, layer by layer in range order. Says the job's number. It takes no memory.
-    pub fn place(&mut self, reserved: JobSpare, placing: Placing) -> JobNo
-        requires limits { JobKeepsLimits reserved }
-        requires accepted { job_refusal self.old reserved ≡ None }
-        requires placing { placing ≡ placing_of self.old placing.show reserved }
-        ensures book { self.new ≡ with_job self.old placing.show reserved }
+    pub fn place(&mut self, spec: JobSpec, reserved: JobSpare, placing: Placing) -> JobNo
+        requires limits { JobKeepsLimits spec }
+        requires accepted { job_refusal self.old spec ≡ None }
+        requires placing { placing ≡ placing_of self.old placing.show spec }
+        requires reserved { reserved ≡ spare_of spec }
+        ensures book { self.new ≡ with_job self.old placing.show spec }
         ensures job { result ≡ self.old.next_job }
     {
-        let JobSpare {
-            spec,
-            name,
-            mut index,
-        } = reserved;
+        let JobSpare { name, mut index } = reserved;
         let job = placing.job;
         let (row, layers) = taken_apart(spec, &placing);
         self.lowest = put_layers(

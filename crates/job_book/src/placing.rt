@@ -1,7 +1,7 @@
 //! Where a job is to be placed, and the memory for it.
 
 use crate::layer_frames::LayerFrames;
-use farm_types::{JobNo, JobSpec, Refusal, ShowNo, Slot};
+use farm_types::{JobNo, Refusal, ShowNo, Slot};
 use std::alloc::AllocError;
 use std::fmt;
 use std::marker::Model;
@@ -16,26 +16,21 @@ pub struct Placing {
     pub frames: u32,
 }
 
-/// The memory that a job needs, reserved before the job is placed, which contracts see as its spec: its texts, numbers and
-/// tags, once more its name, for the index of names, and the lists of its layers' slots.
+/// The memory that a job needs beside its spec, reserved before the job is placed: once more its name, for the index of names, and
+/// the lists of its layers' slots.
 #[derive(Debug, Drop)]
 pub struct JobSpare {
-    pub(crate) spec: JobSpec,
     pub(crate) name: String,
     pub(crate) index: Vec<LayerFrames>,
 }
 
 impl Model for JobSpare {
-    ghost use Rattle.farm_types.specs.declared.job.JobSpec as types;
-
-    ghost Value = { types.JobSpec };
-
     ghost use Rattle.std.specs.Prelude.{string_bytes};
-    ghost use Rattle.job_book.specs.Inside.{IsSpare};
+    ghost use Rattle.job_book.specs.Layers as types;
 
-    ghost view = { λ reserved. reserved.spec };
+    ghost Value = { types.Spare };
 
-    ghost invariant = { λ reserved. IsSpare reserved.spec (string_bytes reserved.name) reserved.index.items };
+    ghost view = { λ a. record { name = string_bytes a.name; layers = a.index.items } };
 }
 
 /// Why a job can't be placed.

@@ -13,11 +13,11 @@ use Rattle.farm_lines.specs.declared.request.Request.{Request}
 use Rattle.farm_lines.specs.declared.request.Request.TheVariants as request
 use Rattle.farm_lines.specs.declared.request.RequestFault.{RequestFault}
 use Rattle.farm_lines.specs.declared.request.RequestFault.TheVariants as fault
-use Rattle.farm_books.specs.Change.{after_change}
+use Rattle.farm_changes.specs.Change.{after_change}
 use Rattle.farm_core.specs.Change.{Makes, Prepares}
-use Rattle.farm_books.specs.declared.change.Change.{Change}
-use Rattle.farm_books.specs.declared.fault.PrepareFault.{PrepareFault}
-use Rattle.farm_books.specs.declared.fault.PrepareFault.TheVariants as prepare
+use Rattle.farm_changes.specs.declared.change.Change.{Change}
+use Rattle.farm_changes.specs.declared.fault.PrepareFault.{PrepareFault}
+use Rattle.farm_changes.specs.declared.fault.PrepareFault.TheVariants as prepare
 use Rattle.farm_types.specs.EntryAnswers.{answer_of}
 use Rattle.farm_types.specs.Dispatch.{round_for}
 use Rattle.farm_types.specs.Farm.{Farm, host_named}

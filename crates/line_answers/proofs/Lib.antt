@@ -1,5 +1,5 @@
 mod AnswerLemmas
-mod LaunchLemmas
 mod LegalLemmas
 mod LineLemmas
 mod OutcomeLemmas
+mod WalkLemmas

@@ -1,8 +1,10 @@
--- Collecting launches up to the limit of a reply.
-use Rattle.std.specs.Prelude.{List, ◌++◌, length, Option, nat_lt, option_to_list, if◌then◌else◌}
+-- The launches of a host's own attempts.
+use Rattle.std.specs.Prelude.{ℕ, Option, option_and_then, slice_get}
+use Rattle.farm_types.specs.Farm.{Farm}
 use Rattle.farm_lines.specs.declared.launch.Launch.{Launch}
-use Rattle.farm_lines.specs.declared.limits.TheConstants.{LAUNCHES_EACH}
+use Rattle.farm_lines.specs.declared.report.Report.{Report}
+use Rattle.farm_lines.specs.Reply.{due_in}
 
--- the launches with one more, where one was found and the limit isn't reached
-abbrev pub with_launch : List Launch → Option Launch → List Launch
-with_launch launches found = if nat_lt (length launches) LAUNCHES_EACH then launches ++ option_to_list found else launches
+-- the launch of the live attempt in the slot of that number, where it is due
+abbrev pub due_at : Farm → ℕ → Report → ℕ → Option Launch
+due_at f host report slot = option_and_then (due_in f host report) (slice_get f.slots slot)

@@ -35,7 +35,7 @@ fn answer_request(alloc: Global, farm: &mut Farm, asked: Request, moment: u64) -
     ensures { (mark : Mark) × IsAnswer farm.old (unless_memory mark (asked_answer farm.old moment mark asked)) farm.new (shown result) }
 {
     match asked {
-        Request::Report(report) => answer_report(alloc, farm, &report, moment),
+        Request::Report(report) => answer_report(alloc, farm, report, moment),
         asked => answer_taken(alloc, farm, entry_of(asked, moment)),
     }
 }

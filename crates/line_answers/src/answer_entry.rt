@@ -1,7 +1,7 @@
 //! Answering a request of one entry.
 
 ghost use Rattle.std.specs.Prelude.{◌≡◌, ◌++◌, ◌∷◌, [], IfOk};
-ghost use Rattle.farm_books.specs.Change.{after_change};
+ghost use Rattle.farm_changes.specs.Change.{after_change};
 ghost use Rattle.farm_core.specs.Change.{IsReady, Makes, Prepares};
 ghost use Rattle.farm_lines.specs.Reply.{job_named, ok_reply, reply_text};
 ghost use Rattle.farm_types.specs.Formed.{IsFormed};

@@ -1,15 +1,17 @@
 //! What the reply to a report orders: acknowledgements, kills and launches.
 
-ghost use Rattle.std.specs.Prelude.{◌≡◌, IfOk, OnOk};
+ghost use Rattle.std.specs.Prelude.{◌≡◌, ◌++◌, IfOk, OnOk, option_to_list};
 ghost use Rattle.std.specs.List.{list_any};
 ghost use Rattle.farm_lines.specs.Reply.{acks_of, kills_of, launches_of, launch_of, launch_for, due_in, is_due, is_listed};
 ghost use Rattle.farm_types.specs.Run.{is_same};
-ghost use Rattle.line_answers.specs.Launches.{with_launch};
+ghost use Rattle.line_answers.specs.Launches.{due_at};
 
 use command_text::{expand, frame_name};
 use farm_core::Farm;
 use farm_lines::{LAUNCHES_EACH, Launch, Report};
-use farm_types::{Attempt, DoneItem, Frame, HostNo, Items, JobRow, LayerRow, ProcRow, SlotRow};
+use farm_types::{
+    Attempt, DoneItem, Frame, HostNo, Items, JobRow, LayerRow, ProcRow, Slot, SlotRow,
+};
 use std::alloc::{AllocError, Global};
 
 /// The attempts that the report says are done, in order.
@@ -41,8 +43,8 @@ pub fn kills(
     Ok(kills)
 }
 
-/// The first live attempts on this host and boot, by slot, that the report doesn't list.
-#[tactic(auto, using(crate::proofs::LaunchLemmas::take_step))]
+/// The first live attempts on this host and boot, by slot, that the report doesn't list. The host's own attempts are walked, up to the limit of a
+/// reply.
 pub fn launches(
     alloc: Global,
     farm: &Farm,
@@ -52,27 +54,33 @@ pub fn launches(
     ensures { IfOk result (λ launches. launches ≡ launches_of farm.now host report.now) }
 {
     let mut launches = Items::new(alloc);
-    for slot in farm.slots() {
+    let mut next = farm.first_attempt(host);
+    while let Some(slot) = next {
+        if launches.len() >= LAUNCHES_EACH as usize {
+            return Ok(launches);
+        }
         add_due(alloc, &mut launches, farm, host, report, slot)?;
+        next = farm.next_attempt(slot);
     }
     Ok(launches)
 }
 
-// Adds the launch of the slot's live attempt, where it is due and the limit isn't reached.
+// Adds the launch of the slot's live attempt, where it is due.
 fn add_due(
     alloc: Global,
     launches: &mut Items<Launch>,
     farm: &Farm,
     host: HostNo,
     report: &Report,
-    slot: &SlotRow,
+    slot: Slot,
 ) -> Result<(), AllocError>
-    ensures { OnOk result (launches.new ≡ with_launch launches.old (due_in farm.now host report.now slot.now)) }
+    ensures { OnOk result (launches.new ≡ launches.old ++ option_to_list (due_at farm.now host report.now slot)) }
 {
-    if launches.len() < LAUNCHES_EACH as usize {
-        if let Some(launch) = due(alloc, farm, host, report, slot)? {
-            launches.push(launch)?;
-        }
+    let Some(row) = farm.slot(slot) else {
+        return Ok(());
+    };
+    if let Some(launch) = due(alloc, farm, host, report, &row)? {
+        launches.push(launch)?;
     }
     Ok(())
 }

@@ -1,11 +1,17 @@
-use Rattle.std.proofs.Common.{◌+◌, ◌∙◌, drop, sym, ap, arith}
+use Rattle.std.proofs.Common.{◌≡◌, ◌+◌, ◌∙◌, true, drop, sym, ap, arith}
 use Rattle.std.specs.List.{flat_map}
 use Rattle.farm_types.specs.Kept.{layers_of}
 use Rattle.dispatch_law.specs.ByIndex.{ranks_in_layer}
-use Rattle.dispatch_plan.specs.Offers.{offered}
-use Rattle.dispatch_plan.proofs.JobSteps.{all_offered, job_end, job_step, layer_billed, layer_is, layer_there, layers_at, layers_few}
+use Rattle.farm_books.specs.Reads.{takes_job}
+use Rattle.dispatch_plan.specs.Offers.{IsPending, offered}
+use Rattle.dispatch_plan.proofs.JobSteps.{all_offered, job_end, job_step, layer_billed, layer_is, layer_owned, layer_there, layers_at, layers_few}
+use Rattle.dispatch_plan.proofs.NoneFits.{job_unoffered}
 use Rattle.dispatch_plan.proofs.Plans.{layer_short}
 use Rattle.dispatch_plan.proofs.offers.offer_job.Goals as goal
+
+pub returns-then-not-takes_job-clause-items : goal.returns-then-not-takes_job-clause-items
+returns-then-not-takes_job-clause-items c =
+    job_unoffered c.args.farm.now c.args.host c.args.job c.args.plan.now.items (sym c.if-not-takes_job.ensures) c.requires.few
 
 pub returns-in_default-clause-items : goal.returns-in_default-clause-items
 returns-in_default-clause-items c =
@@ -13,6 +19,14 @@ returns-in_default-clause-items c =
 
 pub offer_layer-requires-clause-there : goal.offer_layer-requires-clause-there
 offer_layer-requires-clause-there c = layer_there c.args.farm.now c.args.job c.loop-place.place c.in-Some.layer.now (sym c.in-Some.ensures)
+
+pub offer_layer-requires-clause-pending : goal.offer_layer-requires-clause-pending
+offer_layer-requires-clause-pending c =
+    layer_owned (IsPending c.args.farm.now) c.args.farm.now c.args.job c.loop-place.place c.in-Some.layer.now (sym c.in-Some.ensures) c.requires.pending
+
+pub offer_layer-requires-clause-taken : goal.offer_layer-requires-clause-taken
+offer_layer-requires-clause-taken c =
+    layer_owned (λ job. takes_job c.args.farm.now c.args.host job ≡ true) c.args.farm.now c.args.job c.loop-place.place c.in-Some.layer.now (sym c.in-Some.ensures) (sym c.if-not-takes_job.ensures)
 
 pub offer_layer-requires-clause-short : goal.offer_layer-requires-clause-short
 offer_layer-requires-clause-short c =

@@ -6,9 +6,15 @@ use Rattle.job_book.specs.Index.{IsFirstWaiting, WaitsFirst}
 use Rattle.dispatch_law.specs.ByIndex.{ranks_at}
 use Rattle.dispatch_plan.specs.Offers.{offered}
 use Rattle.dispatch_plan.proofs.JobSteps.{full_stays}
+use Rattle.dispatch_plan.proofs.AllFits.{view_may_book}
+use Rattle.dispatch_plan.proofs.NoneFits.{layer_unoffered}
 use Rattle.dispatch_plan.proofs.Steps.{offer_end}
 use Rattle.dispatch_plan.proofs.Views.{view_step}
 use Rattle.dispatch_plan.proofs.offers.offer_layer.Goals as goal
+
+pub returns-then-not-takes_layer-clause-items : goal.returns-then-not-takes_layer-clause-items
+returns-then-not-takes_layer-clause-items c =
+    layer_unoffered c.args.farm.now c.args.host c.args.sub c.args.layer.now c.requires.there c.requires.billed c.args.plan.now.items (sym c.if-not-takes_layer.ensures) c.requires.few
 
 pub returns-in_default-clause-items : goal.returns-in_default-clause-items
 returns-in_default-clause-items c =
@@ -17,6 +23,12 @@ returns-in_default-clause-items c =
     let from = c.loop-jobs.from in
     let none : WaitsFirst (lists_of f) l.job l.place from None = subst (λ b. WaitsFirst b l.job l.place from None) c.jobs-jobs.ensures c.in_default.ensures in
     sym (offer_end f c.args.host l.job l.place from (length (range_numbers l.range) - from) c.loop-jobs.plan.items none c.loop-jobs.invariant.few) ∙ c.loop-jobs.invariant.items
+
+pub offer-requires-clause-known : goal.offer-requires-clause-known
+offer-requires-clause-known c =
+    let first = subst (λ b. IsFirstWaiting b c.args.layer.now.job c.args.layer.now.place c.loop-jobs.from c.in-Some.slot) c.jobs-jobs.ensures c.in-Some.ensures in
+    let shown = subst (λ b. frame_at b c.in-Some.slot ≡ Some c.frame-frame.result) c.jobs-jobs.ensures c.frame-frame.ensures in
+    view_may_book c.args.farm.now c.args.host c.args.sub c.loop-jobs.from c.in-Some.slot c.args.layer.now c.frame-frame.result c.kept.ensures c.requires.pending c.requires.taken (sym c.if-not-takes_layer.ensures) c.requires.there c.requires.billed first shown
 
 pub overflow_add-from : goal.overflow_add-from
 overflow_add-from c =

@@ -6,8 +6,13 @@ use Rattle.job_book.specs.Index.{ready_of}
 use Rattle.dispatch_law.specs.ByIndex.{ranks_in_job}
 use Rattle.dispatch_plan.specs.Offers.{offered}
 use Rattle.dispatch_plan.proofs.JobSteps.{all_offered, full_stays, piece_step}
+use Rattle.dispatch_plan.proofs.NoneFits.{show_unoffered}
 use Rattle.dispatch_plan.proofs.Plans.{ready_offered}
 use Rattle.dispatch_plan.proofs.offers.offer_show.Goals as goal
+
+pub returns-then-not-has_least_left-clause-items : goal.returns-then-not-has_least_left-clause-items
+returns-then-not-has_least_left-clause-items c =
+    show_unoffered c.args.farm.now c.args.host c.args.show c.args.sub c.args.plan.now.items c.kept.ensures c.requires.billed (sym c.if-not-has_least_left.ensures) c.requires.few
 
 pub returns-then-len-clause-items : goal.returns-then-len-clause-items
 returns-then-len-clause-items c =

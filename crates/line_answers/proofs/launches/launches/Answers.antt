@@ -1,16 +1,16 @@
--- One slot more, and the end of the slots.
-use Rattle.std.proofs.Common.{◌∙◌, sym, ap}
-use Rattle.farm_lines.specs.Reply.{due_in}
-use Rattle.line_answers.specs.Launches.{with_launch}
-use Rattle.line_answers.proofs.LaunchLemmas.{take_step, take_end}
+-- The walk begins at the first of the host's own attempts, and goes on to the next.
+use Rattle.std.proofs.Common.{arith}
+use Rattle.line_answers.proofs.WalkLemmas.{walk_begins, walk_goes_on, walk_shortens}
 use Rattle.line_answers.proofs.launches.launches.Goals as goal
 
-pub loop-slot-preserved : goal.loop-slot-preserved
-loop-slot-preserved c =
-    take_step (due_in c.args.farm.now c.args.host c.args.report.now) c.loop-slot.launches c.add_due.new.launches c.slots-slot-items.result.now c.loop-slot.slot-index c.slot-item.result c.loop-slot-test.true
-    (c.in_ok-add_due.ensures ∙ ap (λ slot. with_launch c.loop-slot.launches (due_in c.args.farm.now c.args.host c.args.report.now slot)) c.slot-item.is)
-    ∙ c.loop-slot.invariant
+pub loop-next-init : goal.loop-next-init
+loop-next-init c = walk_begins c.args.farm.now c.args.host c.args.report.now c.first_attempt-next.result c.new-launches.result c.first_attempt-next.ensures c.new-launches.ensures
 
-pub returns : goal.returns
-returns c =
-    sym (take_end (due_in c.args.farm.now c.args.host c.args.report.now) c.loop-slot.launches c.slots-slot-items.result.now c.loop-slot.slot-index c.loop-slot-test.false) ∙ c.loop-slot.invariant
+pub loop-next-preserved : goal.loop-next-preserved
+loop-next-preserved c =
+    walk_goes_on c.args.farm.now c.args.host c.args.report.now c.in-Some.slot c.loop-next.next c.next_attempt-next.result c.loop-next.launches c.add_due.new.launches c.loop-next.invariant c.in-Some.is
+    (omega arith) c.in_ok-add_due.ensures c.next_attempt-next.ensures
+
+pub loop-next-smaller : goal.loop-next-smaller
+loop-next-smaller c =
+    walk_shortens c.args.farm.now c.args.host c.args.report.now c.in-Some.slot c.loop-next.next c.next_attempt-next.result c.loop-next.invariant.own c.in-Some.is c.next_attempt-next.ensures

@@ -1,10 +1,10 @@
--- What was found so far and what the rest of the slots gives, up to the limit, is what all of them give.
-use Rattle.std.proofs.Common.{◌≡◌, ◌++◌, ◌-◌, drop, take, length}
-use Rattle.std.specs.Prelude.{filter_map}
-use Rattle.farm_lines.specs.Reply.{launches_of, due_in}
-use Rattle.farm_lines.specs.declared.limits.TheConstants.{LAUNCHES_EACH}
+-- The host's own attempts are walked.
+use Rattle.std.proofs.Common.{length}
+use Rattle.line_answers.proofs.WalkLemmas.{IsWalked, rows_from}
 use Rattle.line_answers.proofs.launches.launches.Given as goal
 
-abbrev pub invariant-loop-slot : goal.invariant-loop-slot
-invariant-loop-slot l =
-    l.launches ++ take (LAUNCHES_EACH - length l.launches) (filter_map (due_in l.farm l.host l.report) (drop l.slot-index l.slot-items)) ≡ launches_of l.farm l.host l.report
+abbrev pub invariant-loop-next : goal.invariant-loop-next
+invariant-loop-next l = IsWalked l.farm l.host l.report l.next l.launches
+
+abbrev pub decreases-loop-next : goal.decreases-loop-next
+decreases-loop-next l = length (rows_from l.farm.slots l.next)

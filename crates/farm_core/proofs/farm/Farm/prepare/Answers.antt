@@ -1,5 +1,4 @@
-use Rattle.std.proofs.Common.{◌≡◌, sym, subst}
-use Rattle.farm_types.specs.declared.entry.Entry.{Entry}
+use Rattle.std.proofs.Common.{sym, subst}
 use Rattle.farm_types.specs.Farm.{Farm}
 use Rattle.farm_types.specs.Step.{HasCondition}
 use Rattle.farm_core.specs.Change.{Prepares}

@@ -2,7 +2,7 @@ use Rattle.std.proofs.Common.{◌∙◌, ◌≤◌, ℕ, List, length, filter, a
 use Rattle.std.proofs.lemmas.List.Sums.{length-filter, count_by-le-length}
 use Rattle.farm_types.specs.Hosts.{count_unheard, is_unheard}
 use Rattle.host_book.specs.Inside.{is_past, never_past}
-use Rattle.host_book.proofs.Walked.{past_count}
+use Rattle.host_book.proofs.Unheard.{past_count}
 use Rattle.host_book.proofs.hosts.Hosts.count_expired.Goals as goal
 
 pub overflow_cast-result : goal.overflow_cast-result

@@ -2,7 +2,7 @@ use Rattle.std.proofs.Common.{◌+◌, ◌∙◌, List, drop, ap}
 use Rattle.farm_types.specs.declared.slot_row.SlotRow.{SlotRow}
 use Rattle.farm_types.specs.Jobs.{JobLists}
 use Rattle.job_book.specs.Book.{first_free}
-use Rattle.job_book.proofs.KeptFree.{first_after}
+use Rattle.job_book.proofs.FirstFree.{first_after}
 use Rattle.job_book.proofs.jobs.Jobs.first_free.Goals as goal
 
 pub returns : goal.returns

@@ -4,12 +4,11 @@ use Rattle.std.specs.List.{list_all, list_any}
 use Rattle.std.proofs.lemmas.List.{map_push, length-map}
 use Rattle.indexmap.specs.IndexSet.{spare}
 use Rattle.farm_types.specs.Jobs.{frames_in, free_among, is_pending_named}
-use Rattle.farm_types.specs.declared.job.JobSpec.{JobSpec}
 use Rattle.farm_types.specs.declared.slot_row.SlotRow.{SlotRow}
 use Rattle.farm_types.specs.declared.job.LayerSpec.{LayerSpec}
 use Rattle.farm_types.specs.declared.rows.LayerRow.{LayerRow}
 use Rattle.farm_types.specs.Rising.{IsRising}
-use Rattle.job_book.specs.Layers.{count_of, fresh_places, marks_of, put_places, slots_of}
+use Rattle.job_book.specs.Layers.{Spare, count_of, fresh_places, marks_of, put_places, slots_of}
 use Rattle.farm_types.specs.declared.rows.JobRow.{JobRow}
 use Rattle.farm_types.specs.Farm.{changed_at}
 use Rattle.std.proofs.lemmas.Bool.{le-leb}
@@ -29,21 +28,22 @@ use Rattle.job_book.proofs.jobs.Jobs.place.Goals as goal
 pub add_layers-requires-clause-capacity : goal.add_layers-requires-clause-capacity
 add_layers-requires-clause-capacity c =
     let ok = subst IsBook c.self.view_is c.self.invariant.lists in
-    let spec = c.args.reserved in
-    let layers = ap length c.taken_apart-row.ensures.layers ∙ ap (λ (s : JobSpec). length s.layers) c.reserved.view_is in
+    let spec = c.args.spec in
+    let layers = ap length c.taken_apart-row.ensures.layers in
     let rows = ap (λ (b : JobLists). length b.layers) c.self.view_is in
     let each = layers_within spec.layers c.requires.limits.each_layer in
     let enough = (accepted_fits c.args.self.now spec c.requires.accepted).0 in
     omega (arith, layers, rows, each, enough, ok.layers_fit, c.self.invariant.layers_capacity)
 
 pub put_layers-requires-clause-index : goal.put_layers-requires-clause-index
-put_layers-requires-clause-index c = c.reserved.invariant.fresh ∙ ap (map fresh_places) (sym (c.as_slice.ensures.value ∙ c.taken_apart-row.ensures.layers))
+put_layers-requires-clause-index c =
+    ap (λ (s : Spare). s.layers) (c.reserved.view_is ∙ c.requires.reserved) ∙ ap (map fresh_places) (sym (c.as_slice.ensures.value ∙ c.taken_apart-row.ensures.layers))
 
 pub add_index-requires : goal.add_index-requires
 add_index-requires c =
     let ok = subst IsBook c.self.view_is c.self.invariant.lists in
-    let spec = c.args.reserved in
-    let given = c.as_slice.ensures.value ∙ c.taken_apart-row.ensures.layers ∙ ap (λ (s : JobSpec). s.layers) c.reserved.view_is in
+    let spec = c.args.spec in
+    let given = c.as_slice.ensures.value ∙ c.taken_apart-row.ensures.layers in
     let more = sym (length-map c.put_layers.new.index.items count_of) ∙ ap length c.put_layers.ensures.lengths ∙ length-map c.as_slice.result.now (λ (l : LayerSpec). length l.numbers) ∙ ap length given in
     let had = sym (length-map c.self.inside.index.items slots_of) ∙ c.self.invariant.layers.as_many ∙ ap (λ (b : JobLists). length b.layers) c.self.view_is in
     let each = layers_within spec.layers c.requires.limits.each_layer in
@@ -52,18 +52,16 @@ add_index-requires c =
 
 pub put_ready-requires-clause-priority : goal.put_ready-requires-clause-priority
 put_ready-requires-clause-priority c =
-    let spec = c.args.reserved in
-    let row : c.taken_apart-row.result.0 ≡ job_row c.args.placing.job c.args.placing.show spec = c.taken_apart-row.ensures.row ∙ ap (job_row c.args.placing.job c.args.placing.show) c.reserved.view_is in
-    ap has_priority row ∙ le-leb spec.priority MOST_PRIORITY c.requires.limits.priority_within.1
+    ap has_priority c.taken_apart-row.ensures.row ∙ le-leb c.args.spec.priority MOST_PRIORITY c.requires.limits.priority_within.1
 
 pub put_ready-requires-clause-can : goal.put_ready-requires-clause-can
 put_ready-requires-clause-can c =
     let b = c.args.self.now in
-    let spec = c.args.reserved in
+    let spec = c.args.spec in
     let show = c.args.placing.show in
     let ok = subst IsBook c.self.view_is c.self.invariant.lists in
     let job : c.args.placing.job ≡ b.next_job = ap (λ (p : Placing). p.job) c.requires.placing in
-    let row : c.taken_apart-row.result.0 ≡ job_row b.next_job show spec = c.taken_apart-row.ensures.row ∙ ap (job_row c.args.placing.job show) c.reserved.view_is ∙ ap (λ n. job_row n show spec) job in
+    let row : c.taken_apart-row.result.0 ≡ job_row b.next_job show spec = c.taken_apart-row.ensures.row ∙ ap (λ n. job_row n show spec) job in
     let placed = placed_book b show spec c.requires.limits c.requires.accepted ok in
     let keeps = subst (λ (l : JobLists). KeepsReady l.jobs l.slots c.self.inside.ready.items) c.self.view_is c.self.invariant.ready in
     rw row (placed_can b show spec c.requires.limits ok placed (omega (arith, ok.jobs_fit)) c.self.inside.ready.items keeps)
@@ -74,10 +72,10 @@ none_below k slots same = omega (arith, same)
 
 pub add_name-requires-clause-new : goal.add_name-requires-clause-new
 add_name-requires-clause-new c =
-    let none = accepted_new c.args.self.now c.args.reserved c.requires.accepted in
-    let name : string_bytes c.reserved.inside.name ≡ c.args.reserved.name = c.reserved.invariant.named ∙ ap (λ (s : JobSpec). s.name) c.reserved.view_is in
+    let none = accepted_new c.args.self.now c.args.spec c.requires.accepted in
+    let name : string_bytes c.reserved.inside.name ≡ c.args.spec.name = ap (λ (s : Spare). s.name) (c.reserved.view_is ∙ c.requires.reserved) in
     let here : list_any (is_pending_named (string_bytes c.reserved.inside.name)) c.self.inside.jobs.items ≡ false =
-    ap (λ n. list_any (is_pending_named n) c.self.inside.jobs.items) name ∙ ap (λ (b : JobLists). list_any (is_pending_named c.args.reserved.name) b.jobs) c.self.view_is ∙ none in
+    ap (λ n. list_any (is_pending_named n) c.self.inside.jobs.items) name ∙ ap (λ (b : JobLists). list_any (is_pending_named c.args.spec.name) b.jobs) c.self.view_is ∙ none in
     unnamed string_bytes (string_bytes c.reserved.inside.name) c.self.inside.names.keys c.self.inside.jobs.items c.self.invariant.names.names_are c.self.invariant.names.pending here
 
 pub add_name-requires-clause-capacity : goal.add_name-requires-clause-capacity
@@ -88,7 +86,7 @@ add_name-requires-clause-capacity c =
 pub invariant_of-self : goal.invariant_of-self
 invariant_of-self c =
     let b = c.args.self.now in
-    let spec = c.args.reserved in
+    let spec = c.args.spec in
     let show = c.args.placing.show in
     let ok = subst IsBook c.self.view_is c.self.invariant.lists in
     let job : c.args.placing.job ≡ b.next_job = ap (λ (p : Placing). p.job) c.requires.placing in
@@ -97,9 +95,9 @@ invariant_of-self c =
     let old_layers : c.self.inside.layers.items ≡ b.layers = ap (λ (l : JobLists). l.layers) c.self.view_is in
     let old_slots : c.self.inside.slots.items ≡ b.slots = ap (λ (l : JobLists). l.slots) c.self.view_is in
     let old_next : c.self.inside.next_job ≡ b.next_job = ap (λ (l : JobLists). l.next_job) c.self.view_is in
-    let layers : c.taken_apart-row.result.1.items ≡ spec.layers = c.taken_apart-row.ensures.layers ∙ ap (λ (s : JobSpec). s.layers) c.reserved.view_is in
-    let row : c.taken_apart-row.result.0 ≡ job_row b.next_job show spec = c.taken_apart-row.ensures.row ∙ ap (job_row c.args.placing.job show) c.reserved.view_is ∙ ap (λ n. job_row n show spec) job in
-    let name : string_bytes c.reserved.inside.name ≡ spec.name = c.reserved.invariant.named ∙ ap (λ (s : JobSpec). s.name) c.reserved.view_is in
+    let layers = c.taken_apart-row.ensures.layers in
+    let row : c.taken_apart-row.result.0 ≡ job_row b.next_job show spec = c.taken_apart-row.ensures.row ∙ ap (λ n. job_row n show spec) job in
+    let name : string_bytes c.reserved.inside.name ≡ spec.name = ap (λ (s : Spare). s.name) (c.reserved.view_is ∙ c.requires.reserved) in
     let given = c.as_slice.ensures.value ∙ layers in
     let new_slots : c.put_layers.new.slots.items ≡ place_frames b.slots (frames_of b.next_job 0 spec.layers) = c.put_layers.ensures.slots ∙ rw (old_slots, job, given) refl in
     let new_layers : c.add_layers.new.rows.items ≡ b.layers ++ layer_rows b.next_job 0 spec.layers = c.add_layers.ensures.rows ∙ rw (old_layers, job, layers) refl in
@@ -120,7 +118,7 @@ invariant_of-self c =
     let inside = c.self.inside in
     let more = c.put_layers.new.index.items in
     let numbered = c.put_layers.ensures.lengths ∙ ap (map (λ (l : LayerSpec). length l.numbers)) given in
-    let marked = c.put_layers.ensures.marks ∙ ap (map marks_of) (c.reserved.invariant.fresh ∙ ap (λ (s : JobSpec). map fresh_places s.layers) c.reserved.view_is) in
+    let marked = c.put_layers.ensures.marks ∙ ap (λ (s : Spare). map marks_of s.layers) (c.reserved.view_is ∙ c.requires.reserved) in
     let went = c.put_layers.ensures.places ∙ ap (λ (ls : List LayerSpec). put_places 0 inside.slots.items (frames_of c.args.placing.job 0 ls)) given ∙ ap (λ (n : ℕ). put_places 0 inside.slots.items (frames_of n 0 spec.layers)) job in
     let rise = subst (λ (n : ℕ). IsRising layer_key 0 inside.layers.items (PLACE_LIMIT * n)) old_next c.self.invariant.lists.layers_rise in
     let later = subst (λ (ls : List LayerRow). IsRising layer_key 0 (ls ++ layer_rows b.next_job 0 spec.layers) (PLACE_LIMIT * (b.next_job + 1))) (sym old_layers) placed.layers_rise in

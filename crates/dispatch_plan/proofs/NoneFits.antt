@@ -1,0 +1,115 @@
+-- Where a subscription, a job or a layer shows by itself that none of its frames may be booked, it has no rank.
+use Rattle.std.proofs.Common.{◌≡◌, ℕ, ◌+◌, ◌≤◌, ◌&&◌, Bool, true, false, List, [], ◌∷◌, length, Some, refl, sym, ap, subst, ◌∙◌, arith, eqb}
+use Rattle.std.specs.Cmp.Derive.{both_true}
+use Rattle.std.specs.List.{slice_get}
+use Rattle.std.specs.Prelude.{nat_le, not}
+use Rattle.std.proofs.lemmas.Bool.{false≢true, le-leb, leb-true}
+use Rattle.std.proofs.lemmas.Option.{same_Some}
+use Rattle.farm_types.specs.declared.dispatch.Candidate.{Candidate}
+use Rattle.farm_types.specs.declared.dispatch.Rank.{Rank}
+use Rattle.farm_types.specs.declared.rows.HostRow.{HostRow}
+use Rattle.farm_types.specs.declared.rows.JobRow.{JobRow}
+use Rattle.farm_types.specs.declared.rows.LayerRow.{LayerRow}
+use Rattle.farm_types.specs.declared.rows.SubRow.{SubRow}
+use Rattle.farm_types.specs.declared.limits.TheConstants.{CANDIDATES_EACH, LEAST_CORES}
+use Rattle.farm_types.specs.Booking.{has_capacity, in_facility, takes_frames, within_burst}
+use Rattle.farm_types.specs.Dispatch.{plan_for}
+use Rattle.farm_types.specs.Farm.{Farm, for_some, job_at, layer_at, sub_at, sub_of}
+use Rattle.farm_types.specs.Kept.{IsKeptFarm}
+use Rattle.farm_types.specs.Step.{lists_of}
+use Rattle.farm_types.specs.Sums.{booked_in}
+use Rattle.farm_types.proofs.Lists.{for_some_true}
+use Rattle.farm_types.proofs.Passes.{for_some-there}
+use Rattle.farm_books.specs.Reads.{rows_share_tag, takes_job, takes_layer}
+use Rattle.job_book.specs.Index.{ready_of}
+use Rattle.dispatch_law.specs.ByIndex.{ranks_in_job, ranks_in_layer, ranks_in_show}
+use Rattle.dispatch_law.proofs.Found.{find_has}
+use Rattle.dispatch_law.proofs.InJob.{in_job, in_layer}
+use Rattle.dispatch_law.proofs.InLayer.{IsRankAt}
+use Rattle.dispatch_law.proofs.RankFacts.{ranked}
+use Rattle.dispatch_law.proofs.Strict.{Has, has_first, flat_from}
+use Rattle.dispatch_plan.specs.Offers.{IsBilled, IsShowBilled, has_least_left, offered}
+use Rattle.dispatch_plan.proofs.Offered.{offered_none}
+use Rattle.dispatch_plan.proofs.Plans.{has_least, no_plan, ready_offered}
+use Rattle.dispatch_plan.proofs.Steps.{stands_there}
+
+-- a list without members
+empty_by : {X : Type 0} (xs : List X) → ((x : X) → Has xs x → ⊥) → xs ≡ []
+empty_by [] never = refl
+empty_by (x ∷ xs) never = absurd (never x (has_first x xs))
+
+-- nothing is offered of it
+none_offered : (plan : List Candidate) (rs : List Rank) → rs ≡ [] → length plan ≤ CANDIDATES_EACH → plan ≡ offered plan rs
+none_offered plan rs none few = sym (ap (offered plan) none ∙ offered_none plan few)
+
+-- ---- a layer
+
+module _ (f : Farm) (host sub : ℕ) (l : LayerRow) (there : layer_at f l.job l.place ≡ Some l) (billed : IsBilled f host l.job sub) where
+  taken : (position : ℕ) (r : Rank) → IsRankAt f host l.job l.place position r → takes_layer f host sub l ≡ true
+  taken position r it =
+      let has = ranked f host it.slot it.row r it.at it.rank_is in
+      let at = stands_there f l.job l.place position it.slot it.row has.frame it.stands_at it.at has.frame_is in
+      let found : layer_at f has.frame.job has.frame.layer ≡ Some l = ap (λ n. layer_at f n has.frame.layer) at.job_is ∙ (ap (layer_at f l.job) at.layer_is ∙ there) in
+      let layer : has.layer ≡ l = same_Some has.layer l (sym has.layer_is ∙ found) in
+      let billed_so : sub_of has.job.show has.row.alloc ≡ sub = billed has.job has.row (ap (job_at f) (sym at.job_is) ∙ has.job_is) has.row_is in
+      let capable : has_capacity f host has.row l ≡ true = subst (λ (m : LayerRow). has_capacity f host has.row m ≡ true) layer has.capable in
+      let burst : within_burst f sub l ≡ true =
+      subst (λ n. within_burst f n l ≡ true) billed_so (subst (λ (m : LayerRow). within_burst f (sub_of has.job.show has.row.alloc) m ≡ true) layer has.burst) in
+      let tagged : rows_share_tag f l has.row ≡ true = subst (λ (m : LayerRow). rows_share_tag f m has.row ≡ true) layer has.tagged in
+      for_some-there (slice_get f.hosts host) (λ (row : HostRow). has_capacity f host row l && within_burst f sub l && rows_share_tag f l row) has.row has.row_is (both_true (both_true capable burst) tagged)
+
+  pub layer_unoffered : (plan : List Candidate) → takes_layer f host sub l ≡ false → length plan ≤ CANDIDATES_EACH → plan ≡ offered plan (ranks_in_layer f host l)
+  layer_unoffered plan refused few =
+      none_offered plan (ranks_in_layer f host l) (empty_by (ranks_in_layer f host l) (λ r h. let got = in_layer f host l r h in false≢true (sym refused ∙ taken got.position r got.found))) few
+
+-- ---- a job
+
+job_taken : (f : Farm) (host job : ℕ) (r : Rank) → Has (ranks_in_job f host job) r → takes_job f host job ≡ true
+job_taken f host job r h =
+    let got = in_job f host job r h in
+    let it = got.within.found in
+    let has = ranked f host it.slot it.row r it.at it.rank_is in
+    let at = stands_there f got.layer.job got.layer.place got.within.position it.slot it.row has.frame it.stands_at it.at has.frame_is in
+    let found : job_at f job ≡ Some has.job = ap (job_at f) (sym (at.job_is ∙ got.job_is)) ∙ has.job_is in
+    let test : JobRow → Bool = λ j. takes_frames has.row && not j.paused && in_facility f has.row.alloc j.facility in
+    for_some-there (slice_get f.hosts host) (λ (row : HostRow). for_some (job_at f job) (λ (j : JobRow). takes_frames row && not j.paused && in_facility f row.alloc j.facility)) has.row has.row_is
+    (for_some-there (job_at f job) test has.job found (both_true (both_true has.takes has.resumed) has.in_place))
+
+pub job_unoffered : (f : Farm) (host job : ℕ) (plan : List Candidate) → takes_job f host job ≡ false → length plan ≤ CANDIDATES_EACH → plan ≡ offered plan (ranks_in_job f host job)
+job_unoffered f host job plan refused few =
+    none_offered plan (ranks_in_job f host job) (empty_by (ranks_in_job f host job) (λ r h. false≢true (sym refused ∙ job_taken f host job r h))) few
+
+-- ---- a subscription
+
+left_by : (f : Farm) (sub cores : ℕ) → LEAST_CORES ≤ cores → for_some (sub_at f sub) (λ (s : SubRow). nat_le (booked_in f sub + cores) s.burst) ≡ true → has_least_left f sub ≡ true
+left_by f sub cores least h =
+    let s = for_some_true (sub_at f sub) (λ (s : SubRow). nat_le (booked_in f sub + cores) s.burst) h in
+    let within = leb-true (booked_in f sub + cores) s.0.burst s.2 in
+    for_some-there (sub_at f sub) (λ (s : SubRow). nat_le (booked_in f sub + LEAST_CORES) s.burst) s.0 s.1 (le-leb (booked_in f sub + LEAST_CORES) s.0.burst (omega (arith, within, least)))
+
+sub_left : (f : Farm) (host show sub : ℕ) (r : Rank) → IsKeptFarm f → IsShowBilled f host show sub → Has (ranks_in_show f host show) r → has_least_left f sub ≡ true
+sub_left f host show sub r kept billed h =
+    let from = flat_from (ranks_in_job f host) (ready_of (lists_of f) show) r h in
+    let ready = ready_offered f host show sub from.there.place from.from kept billed from.there.at in
+    let got = in_job f host from.from r from.within in
+    let it = got.within.found in
+    let has = ranked f host it.slot it.row r it.at it.rank_is in
+    let at = stands_there f got.layer.job got.layer.place got.within.position it.slot it.row has.frame it.stands_at it.at has.frame_is in
+    let billed_so : sub_of has.job.show has.row.alloc ≡ sub = ready.billed has.job has.row (ap (job_at f) (sym (at.job_is ∙ got.job_is)) ∙ has.job_is) has.row_is in
+    let there = find_has (λ (l : LayerRow). eqb l.job has.frame.job && eqb l.place has.frame.layer) f.layers has.layer has.layer_is in
+    left_by f sub has.layer.cores (has_least f has.layer kept there).cores (subst (λ n. within_burst f n has.layer ≡ true) billed_so has.burst)
+
+pub show_unoffered : (f : Farm) (host show sub : ℕ) (plan : List Candidate) → IsKeptFarm f → IsShowBilled f host show sub → has_least_left f sub ≡ false → length plan ≤ CANDIDATES_EACH
+    → plan ≡ offered plan (ranks_in_show f host show)
+show_unoffered f host show sub plan kept billed reached few =
+    none_offered plan (ranks_in_show f host show) (empty_by (ranks_in_show f host show) (λ r h. false≢true (sym reached ∙ sub_left f host show sub r kept billed h))) few
+
+-- ---- a host
+
+pub plan_closed : (f : Farm) (host : ℕ) (row : HostRow) → slice_get f.hosts host ≡ Some row → takes_frames row ≡ false → plan_for f host ≡ []
+plan_closed f host row hosted closed =
+    no_plan f host
+    (λ slot s r at e.
+    let has = ranked f host slot s r at e in
+    let rows : has.row ≡ row = same_Some has.row row (sym has.row_is ∙ hosted) in
+    false≢true (sym closed ∙ (ap takes_frames (sym rows) ∙ has.takes)))

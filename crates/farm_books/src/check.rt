@@ -1,0 +1,85 @@
+//! What the books say before a row is put in: whether it may be, and which hosts are silent.
+
+ghost use Rattle.std.specs.Prelude.{◌≡◌, ◌≤◌, ◌<◌, length, slice_get};
+ghost use Rattle.alloc_tags.specs.Book.{check_of};
+ghost use Rattle.farm_types.specs.Farm.{alloc_name};
+ghost use Rattle.farm_types.specs.Hosts.{count_unheard};
+ghost use Rattle.farm_types.specs.SpecLimits.{JobKeepsLimits};
+ghost use Rattle.farm_types.specs.Step.{is_silent, lists_of};
+ghost use Rattle.farm_types.specs.declared.limits.TheConstants.{MOST_HOSTS, MOST_SHOWS};
+ghost use Rattle.host_book.specs.Book.{heard_check, plan_of};
+ghost use Rattle.job_book.specs.Book.{Checks};
+
+use crate::books::Books;
+use alloc_tags::AllocRefusal;
+use farm_types::{AllocNo, BootLine, HostNo, JobSpec, ShowNo};
+use host_book::{BootPlan, HeardRefusal, HostRefusal};
+use job_book::{JobFault, Placing};
+use std::alloc::Global;
+
+impl Books {
+    /// How many shows there are.
+    pub fn count_shows(&self) -> usize
+        ensures value { result ≡ length self.now.shows }
+        ensures within { result ≤ MOST_SHOWS }
+    {
+        self.shows.count()
+    }
+
+    /// How many hosts there are.
+    pub fn count_hosts(&self) -> usize
+        ensures value { result ≡ length self.now.hosts }
+        ensures within { result ≤ MOST_HOSTS }
+    {
+        self.hosts.count()
+    }
+
+    /// Whether an allocation of that facility and tag may be added: its number, or why not.
+    pub fn check_alloc(&self, facility: &str, tag: &str) -> Result<AllocNo, AllocRefusal>
+        ensures { result ≡ check_of self.now.allocs (alloc_name facility.now tag.now) }
+    {
+        self.allocs.check(facility, tag)
+    }
+
+    /// What a boot comes to, or why it isn't taken.
+    pub fn check_boot(&self, line: &BootLine, alloc: AllocNo) -> Result<BootPlan, HostRefusal>
+        ensures { result ≡ plan_of self.now.hosts line.now alloc }
+    {
+        self.hosts.check_boot(line, alloc)
+    }
+
+    /// Whether a report of that boot and sequence number may be taken.
+    pub fn check_heard(&self, host: HostNo, boot: u32, seq: u64) -> Result<(), HeardRefusal>
+        requires { host < length self.now.hosts }
+        ensures { result ≡ heard_check boot seq (slice_get self.now.hosts host) }
+    {
+        self.hosts.check_heard(host, boot, seq)
+    }
+
+    /// Where a job would be placed, or why it can't be.
+    pub fn check_job(
+        &self,
+        alloc: Global,
+        spec: &JobSpec,
+        show: ShowNo,
+    ) -> Result<Placing, JobFault>
+        requires { JobKeepsLimits spec.now }
+        ensures { Checks (lists_of self.now) show spec.now result }
+    {
+        self.jobs.check(alloc, spec, show)
+    }
+
+    /// How many hosts are silent at the moment (seconds). Where the book of hosts knows that none is, none is looked at.
+    pub fn count_silent(&self, moment: u64) -> u32
+        ensures { result ≡ count_unheard moment self.now.hosts }
+    {
+        self.hosts.count_expired(moment)
+    }
+
+    /// Whether the host is silent at the moment.
+    pub fn is_silent(&self, host: HostNo, moment: u64) -> bool
+        ensures { result ≡ is_silent self.now moment host }
+    {
+        self.hosts.expired(host, moment)
+    }
+}

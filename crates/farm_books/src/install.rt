@@ -1,0 +1,88 @@
+//! One call for each kind of row that puts it in: shows, allocations, subscriptions, hosts, slots. Each keeps what is kept beside the rows, and
+//! takes no memory.
+
+ghost use Rattle.std.specs.Prelude.{◌≡◌, ◌<◌, ◌++◌, ◌∷◌, [], length, slice_set, Ok};
+ghost use Rattle.alloc_tags.specs.Book.{check_of};
+ghost use Rattle.farm_types.specs.Farm.{alloc_name, changed_at};
+ghost use Rattle.farm_types.specs.Hosts.{booted};
+ghost use Rattle.farm_types.specs.Step.{at_moment};
+ghost use Rattle.farm_types.specs.Subs.{with_sub};
+ghost use Rattle.farm_types.specs.declared.limits.TheConstants.{MOST_SHOWS, SUB_NUMBERS};
+ghost use Rattle.host_book.specs.Book.{alloc_of, plan_of};
+ghost use Rattle.host_book.specs.Life.{with_life};
+ghost use Rattle.farm_books.specs.Install.{CanInstall};
+
+use crate::books::Books;
+use alloc_tags::Spare;
+use farm_types::{Cores, HostNo, Slot, SlotRow, SubNo, Text};
+use host_book::{BootPlan, HostLife, HostSpare};
+
+impl Books {
+    /// The farm comes to the moment (seconds), and is recorded as one that an entry made.
+    pub fn advance_to(&mut self, moment: u64)
+        ensures { self.new ≡ at_moment self.old moment }
+    {
+        self.moment = moment;
+        self.recorded = true;
+    }
+
+    /// A show is added.
+    pub fn install_show(&mut self, name: Text)
+        requires { length self.old.shows < MOST_SHOWS }
+        ensures { self.new ≡ record self.old { shows = self.old.shows ++ record { name = name } ∷ [] } }
+    {
+        self.shows.add(name);
+    }
+
+    /// An allocation is added, in the memory that was taken for it.
+    pub fn install_alloc(&mut self, spare: Spare)
+        requires { check_of self.old.allocs (alloc_name spare.facility spare.tag) ≡ Ok (length self.old.allocs) }
+        ensures { self.new ≡ record self.old { allocs = self.old.allocs ++ spare ∷ [] } }
+    {
+        self.allocs.add(spare);
+    }
+
+    /// A subscription gets that size and burst, and is added where it isn't there.
+    pub fn install_sub(&mut self, sub: SubNo, size: Cores, burst: Cores)
+        requires { sub < SUB_NUMBERS }
+        ensures { self.new ≡ record self.old { subs = with_sub (record { sub = sub; size = size; burst = burst }) self.old.subs } }
+    {
+        self.attempts.set_sub(sub, size, burst);
+    }
+
+    /// A host has that life.
+    pub fn install_life(&mut self, host: HostNo, life: HostLife)
+        requires { host < length self.old.hosts }
+        ensures { self.new ≡ record self.old { hosts = changed_at self.old.hosts host (with_life life) } }
+    {
+        self.hosts.set_life(host, life);
+    }
+
+    /// A host boots as planned, in the memory that was taken for it.
+    pub fn install_boot(&mut self, spare: HostSpare, plan: BootPlan, moment: u64)
+        requires { plan_of self.old.hosts spare (alloc_of plan) ≡ Ok plan }
+        ensures { self.new ≡ record self.old { hosts = booted self.old.hosts spare (alloc_of plan) moment } }
+    {
+        self.hosts.apply_boot(spare, plan, moment);
+    }
+
+    /// A slot holds that row, whose frame is the one that stands there. Where the row has no live attempt, the slot's attempt ends; where it has one, that
+    /// begins.
+    pub fn install_slot(&mut self, slot: Slot, row: &SlotRow)
+        requires { CanInstall self.old.subs self.old.slots slot row.now }
+        ensures { self.new ≡ record self.old { slots = slice_set self.old.slots slot row.now } }
+    {
+        self.attempts.end(slot);
+        if let Some(proc) = row.proc {
+            self.attempts.begin(slot, proc);
+        }
+        self.jobs.set_row(slot, row);
+    }
+
+    /// Looks again how long ago the hosts were heard, where the book of hosts can't tell that none is silent.
+    pub fn watch(&mut self, moment: u64)
+        ensures { self.new ≡ self.old }
+    {
+        self.hosts.watch(moment);
+    }
+}

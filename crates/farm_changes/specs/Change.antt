@@ -1,0 +1,115 @@
+-- Changes that were prepared: what each does to the farm, and what it needs of it.
+use Rattle.std.specs.Prelude.{ℕ, ◌≡◌, ◌<◌, ◌++◌, ◌∷◌, [], true, false, List, length, Option, None, Some, Result, Ok, Err}
+use Rattle.alloc_tags.specs.Book.{check_of}
+use Rattle.farm_types.specs.declared.entry.Entry.{Entry}
+use Rattle.farm_types.specs.declared.entry.Act.{Act}
+use Rattle.farm_types.specs.declared.entry.Act.TheVariants as act
+use Rattle.farm_types.specs.declared.refusal.Refusal.TheVariants.{Unknown}
+use Rattle.farm_types.specs.EntryAnswers.{answer_of as entry_answer}
+use Rattle.farm_types.specs.Farm.{Farm, host_named, alloc_name}
+use Rattle.farm_types.specs.Hosts.{booted}
+use Rattle.farm_types.specs.Jobs.{with_job}
+use Rattle.farm_types.specs.Step.{refusal_of, lists_of, with_lists, at_moment, after}
+use Rattle.farm_types.specs.Subs.{with_sub}
+use Rattle.farm_types.specs.declared.limits.TheConstants.{MOST_SHOWS, SUB_NUMBERS}
+use Rattle.host_book.specs.Book.{alloc_of, plan_of}
+use Rattle.host_book.specs.declared.boots.BootPlan.{BootPlan}
+use Rattle.host_book.specs.declared.boots.BootPlan.TheVariants as plan
+use Rattle.job_book.specs.Layers.{spare_of}
+use Rattle.farm_books.specs.Install.{IsPlacement}
+use Rattle.farm_draft.specs.Rows.{AreReady, installed}
+use Rattle.farm_changes.specs.declared.change.Change.{Change}
+use Rattle.farm_changes.specs.declared.change.More.{More}
+use Rattle.farm_changes.specs.declared.change.More.TheVariants as more
+use Rattle.farm_changes.specs.declared.change.Reserved.{Reserved}
+use Rattle.farm_changes.specs.declared.change.Reserved.TheVariants as taken
+use Rattle.farm_changes.specs.declared.fault.PrepareFault.{PrepareFault}
+use Rattle.farm_changes.specs.declared.fault.PrepareFault.TheVariants.{Refused, NoMemory}
+
+-- ---- what a change does
+
+-- the farm with a row that owns texts
+abbrev pub with_more : Farm → ℕ → More → Farm
+with_more f moment more.Nothing = f
+with_more f moment (more.Show name) = record f { shows = f.shows ++ record { name = name } ∷ [] }
+with_more f moment (more.Alloc facility tag) = record f { allocs = f.allocs ++ record { facility = facility; tag = tag } ∷ [] }
+with_more f moment (more.Sub sub size burst) = record f { subs = with_sub (record { sub = sub; size = size; burst = burst }) f.subs }
+with_more f moment (more.Boot planned line) = record f { hosts = booted f.hosts line (alloc_of planned) moment }
+with_more f moment (more.Job placing spec) = with_lists f (with_job (lists_of f) placing.show spec)
+
+-- the farm with the change's rows, before the one that owns texts
+abbrev pub with_rows : Farm → Change → Farm
+with_rows f change = installed (at_moment f change.moment) change.rows
+
+-- the farm after the change
+abbrev pub after_change : Farm → Change → Farm
+after_change f change = with_more (with_rows f change) change.moment change.more
+
+-- ---- what a change needs of the farm
+
+abbrev pub FitsMore : Farm → More → Type 0
+FitsMore f more.Nothing = Unit {0}
+FitsMore f (more.Show name) = length f.shows < MOST_SHOWS
+FitsMore f (more.Alloc facility tag) = check_of f.allocs (alloc_name facility tag) ≡ Ok (length f.allocs)
+FitsMore f (more.Sub sub size burst) = sub < SUB_NUMBERS
+FitsMore f (more.Boot planned line) = plan_of f.hosts line (alloc_of planned) ≡ Ok planned
+FitsMore f (more.Job placing spec) = IsPlacement f placing spec
+
+-- each row may be put in at its turn
+pub record IsReady (f : Farm) (change : Change) : Type 0 where
+  pub rows : AreReady f change.rows
+  pub more : FitsMore (with_rows f change) change.more
+
+-- the memory that a row with texts needs
+abbrev pub memory_of : More → Reserved
+memory_of (more.Alloc facility tag) = taken.Alloc (record { facility = facility; tag = tag })
+memory_of (more.Boot planned line) = taken.Host line
+memory_of (more.Job placing spec) = taken.Job (spare_of spec)
+memory_of other = taken.None
+
+-- the memory that the change needs was taken
+pub record IsReserved (change : Change) : Type 0 where
+  pub taken : change.reserved ≡ true
+  pub memory_is : change.memory ≡ memory_of change.more
+
+-- the same change, with its memory taken
+abbrev pub reserved_of : Change → Change
+reserved_of change = record change { reserved = true; memory = memory_of change.more }
+
+abbrev pub boot_in : BootPlan → ℕ
+boot_in (plan.New boot alloc) = boot
+boot_in (plan.Same boot alloc) = boot
+boot_in (plan.Again boot alloc) = boot
+
+-- ---- preparing
+
+-- the host is there
+abbrev pub IsThere : Farm → Option ℕ → Type 0
+IsThere f None = ⊥
+IsThere f (Some host) = host < length f.hosts
+
+-- the host that was heard is there
+abbrev pub HasHeard : Farm → Act → Type 0
+HasHeard f (act.Heard heard) = IsThere f (host_named f heard.host)
+HasHeard f other = Unit {0}
+
+-- The farm doesn't refuse the entry. The change fits the farm, makes the farm that the entry makes, and has the entry's answer.
+-- Its memory isn't taken yet.
+pub record Makes (f : Farm) (e : Entry) (change : Change) : Type 0 where
+  pub accepted : refusal_of f e ≡ None
+  pub heard : HasHeard f e.act
+  pub ready : IsReady f change
+  pub unreserved : change.reserved ≡ false
+  pub farm : after_change f change ≡ after f e
+  pub answer : change.answer ≡ entry_answer f e
+
+-- a change that makes the entry, or exactly the farm's refusal; running out of memory needs no cause
+abbrev pub Prepares : Farm → Entry → Result Change PrepareFault → Type 0
+Prepares f e (Ok change) = Makes f e change
+Prepares f e (Err (Refused why)) = refusal_of f e ≡ Some why
+Prepares f e (Err NoMemory) = Unit {0}
+
+-- a refusal that nothing of that name is there, or out of memory
+abbrev pub IsUnknown : List ℕ → PrepareFault → Type 0
+IsUnknown name (Refused why) = why ≡ Unknown name
+IsUnknown name NoMemory = Unit {0}

@@ -1,0 +1,4 @@
+pub mod Change
+pub mod Refused
+pub mod RowsOf
+pub mod SilentCounts

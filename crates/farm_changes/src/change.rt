@@ -1,0 +1,71 @@
+//! Changes of the farm that were prepared.
+
+ghost use Rattle.std.specs.Prelude.{◌≡◌};
+
+use alloc_tags::Spare;
+use farm_draft::Rows;
+use farm_types::{Answer, BootLine, Cores, JobSpec, SubNo, Text};
+use host_book::{BootPlan, HostSpare};
+use job_book::{JobSpare, Placing};
+
+/// A change that was prepared for an entry, at its moment (seconds): the rows that it leaves, and what the farm answers once it is applied. It is
+/// applied once its memory is reserved.
+#[derive(Debug, Drop)]
+pub struct Change {
+    pub(crate) moment: u64,
+    pub(crate) answer: Answer,
+    pub(crate) rows: Rows,
+    pub(crate) more: More,
+    pub(crate) reserved: bool,
+    pub(crate) memory: Reserved,
+}
+
+/// A row with texts that a change adds or sets.
+#[derive(Debug, Drop)]
+pub(crate) enum More {
+    /// None.
+    Nothing,
+    /// A show.
+    Show {
+        name: Text,
+    },
+    /// An allocation.
+    Alloc {
+        facility: Text,
+        tag: Text,
+    },
+    /// A subscription, added or set.
+    Sub {
+        sub: SubNo,
+        size: Cores,
+        burst: Cores,
+    },
+    /// A host, added or in a new boot.
+    Boot {
+        plan: BootPlan,
+        line: BootLine,
+    },
+    /// A job with its layers and frames.
+    Job {
+        placing: Placing,
+        spec: JobSpec,
+    },
+}
+
+/// The memory that was taken for a change.
+#[derive(Debug, Drop)]
+pub(crate) enum Reserved {
+    None,
+    Alloc(Spare),
+    Host(HostSpare),
+    Job(JobSpare),
+}
+
+impl Change {
+    /// What the farm answers once the change is applied.
+    pub fn answer(&self) -> Answer
+        ensures { result ≡ self.now.answer }
+    {
+        self.answer
+    }
+}

@@ -1,0 +1,16 @@
+//! Changes of the farm: an entry is prepared as the rows that it leaves, and they are put into the books.
+#![tactic(auto)]
+
+mod applying;
+mod change;
+mod fault;
+mod prepare_host;
+mod prepare_slots;
+mod preparing;
+mod refused;
+mod rows_of;
+
+pub use applying::{apply, record, reserve};
+pub use change::Change;
+pub use fault::PrepareFault;
+pub use preparing::prepare;

@@ -1,0 +1,45 @@
+//! Prepares a booking.
+
+ghost use Rattle.std.specs.Prelude.{◌≡◌, ◌≤◌, ◌∷◌, [], true, IfOk};
+ghost use Rattle.farm_types.specs.Booking.{may_record};
+ghost use Rattle.farm_types.specs.Kept.{IsKeptFarm};
+ghost use Rattle.farm_types.specs.declared.entry.Act.TheVariants as act;
+ghost use Rattle.farm_changes.specs.Change.{Prepares};
+
+use crate::change::{Change, More};
+use crate::fault::PrepareFault;
+use crate::preparing::change_of;
+use farm_books::Books;
+use farm_draft::Rows;
+use farm_types::{Answer, HostNo, Slot, SlotRow};
+use std::alloc::{AllocError, Global};
+
+/// Prepares a booking that may be recorded.
+pub(crate) fn prepare_book(
+    alloc: Global,
+    books: &Books,
+    moment: u64,
+    slot: Slot,
+    host: HostNo,
+) -> Result<Change, PrepareFault>
+    requires kept { IsKeptFarm books.now }
+    requires ahead { books.now.moment ≤ moment }
+    requires allowed { may_record books.now slot host ≡ true }
+    ensures { Prepares books.now (record { moment = moment; act = act.Book slot host }) result }
+{
+    let Some(row) = books.booked_at(slot, host, moment) else {
+        unreachable!()
+    };
+    let rows = one_slot(alloc, slot, row)?;
+    Ok(change_of(moment, Answer::Booked, rows, More::Nothing))
+}
+
+// The row of one slot.
+fn one_slot(alloc: Global, slot: Slot, row: SlotRow) -> Result<Rows, AllocError>
+    ensures hosts { IfOk result (λ rows. rows.hosts.items ≡ []) }
+    ensures slots { IfOk result (λ rows. rows.slots.items ≡ (slot, row) ∷ []) }
+{
+    let mut rows = Rows::none(alloc);
+    rows.slots.push((slot.0, row))?;
+    Ok(rows)
+}

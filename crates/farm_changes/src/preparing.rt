@@ -1,0 +1,172 @@
+//! Prepares the change that an entry makes, or says why the farm refuses it.
+
+ghost use Rattle.std.specs.Prelude.{◌≡◌, ◌≤◌, false};
+ghost use Rattle.farm_types.specs.Limits.{SubKeepsLimits};
+ghost use Rattle.farm_types.specs.SpecLimits.{JobKeepsLimits};
+ghost use Rattle.farm_types.specs.Formed.{IsFormed};
+ghost use Rattle.farm_types.specs.Kept.{IsKeptFarm};
+ghost use Rattle.farm_types.specs.Step.{HasCondition};
+ghost use Rattle.farm_types.specs.declared.entry.Act.TheVariants as act;
+ghost use Rattle.farm_changes.specs.declared.change.Reserved.TheVariants as taken;
+ghost use Rattle.farm_changes.specs.Change.{Prepares};
+
+use crate::change::{Change, More, Reserved};
+use crate::fault::PrepareFault;
+use crate::prepare_host::{
+    prepare_boot, prepare_heard, prepare_lock, prepare_opened, prepare_tick,
+};
+use crate::prepare_slots::prepare_book;
+use crate::refused::{existing, existing_alloc, full, unknown};
+use alloc_tags::AllocRefusal;
+use farm_books::{Books, sub_number};
+use farm_draft::Rows;
+use farm_types::{
+    Act, Answer, Counted, Entry, JobSpec, MOST_ALLOCS, MOST_SHOWS, SubLine, SubNo, Text,
+};
+use std::alloc::Global;
+
+/// Prepares what the entry does, and changes nothing. The farm keeps what every farm keeps, the entry is within its forms and limits, and an entry
+/// to book is one whose booking may be recorded.
+pub fn prepare(alloc: Global, books: &Books, entry: &Entry) -> Result<Change, PrepareFault>
+    requires kept { IsKeptFarm books.now }
+    requires condition { HasCondition books.now entry.now.act }
+    requires formed { IsFormed entry.now }
+    ensures { Prepares books.now entry.now result }
+{
+    let moment = books.later_of(entry.moment);
+    match &entry.act {
+        Act::Opened => prepare_opened(alloc, books, moment),
+        Act::Show { name } => prepare_show(alloc, books, moment, name),
+        Act::Alloc { facility, tag } => prepare_alloc(alloc, books, moment, facility, tag),
+        Act::Sub(line) => prepare_sub(alloc, books, moment, line),
+        Act::Boot(line) => prepare_boot(alloc, books, moment, line),
+        Act::Heard(heard) => prepare_heard(alloc, books, moment, heard),
+        Act::Submit(spec) => prepare_submit(alloc, books, moment, spec),
+        Act::Lock { host, lock } => prepare_lock(alloc, books, moment, host, *lock),
+        Act::Tick => prepare_tick(alloc, books, moment),
+        Act::Book { slot, host } => prepare_book(alloc, books, moment, *slot, *host),
+    }
+}
+
+/// A change of those rows, at the moment. Its memory isn't taken yet.
+pub(crate) fn change_of(moment: u64, answer: Answer, rows: Rows, more: More) -> Change
+    ensures { result ≡ record { moment = moment; answer = answer; rows = rows; more = more; reserved = false; memory = taken.None } }
+{
+    Change {
+        moment,
+        answer,
+        rows,
+        more,
+        reserved: false,
+        memory: Reserved::None,
+    }
+}
+
+// Prepares that a show is added. Its name is new, then there are not too many.
+fn prepare_show(
+    alloc: Global,
+    books: &Books,
+    moment: u64,
+    name: &Text,
+) -> Result<Change, PrepareFault>
+    requires { books.now.moment ≤ moment }
+    ensures { Prepares books.now (record { moment = moment; act = act.Show name.now }) result }
+{
+    if books.show_named(name.as_str()).is_some() {
+        return Err(existing(alloc, name));
+    }
+    if books.count_shows() >= MOST_SHOWS as usize {
+        return Err(full(u64::from(MOST_SHOWS), Counted::Shows));
+    }
+    let name = name.copy(alloc)?;
+    Ok(change_of(moment, Answer::Show, Rows::none(alloc), More::Show { name }))
+}
+
+// Prepares that an allocation is added.
+fn prepare_alloc(
+    alloc: Global,
+    books: &Books,
+    moment: u64,
+    facility: &Text,
+    tag: &Text,
+) -> Result<Change, PrepareFault>
+    requires { books.now.moment ≤ moment }
+    ensures { Prepares books.now (record { moment = moment; act = act.Alloc facility.now tag.now }) result }
+{
+    match books.check_alloc(facility.as_str(), tag.as_str()) {
+        Ok(_) => {
+            let facility = facility.copy(alloc)?;
+            let tag = tag.copy(alloc)?;
+            Ok(change_of(
+                moment,
+                Answer::Alloc,
+                Rows::none(alloc),
+                More::Alloc { facility, tag },
+            ))
+        }
+        Err(AllocRefusal::Exists) => Err(existing_alloc(alloc, facility.as_str(), tag.as_str())),
+        Err(AllocRefusal::Full) => Err(full(u64::from(MOST_ALLOCS), Counted::Allocs)),
+    }
+}
+
+// Prepares that a subscription of a show to an allocation is set.
+fn prepare_sub(
+    alloc: Global,
+    books: &Books,
+    moment: u64,
+    line: &SubLine,
+) -> Result<Change, PrepareFault>
+    requires kept { IsKeptFarm books.now }
+    requires ahead { books.now.moment ≤ moment }
+    requires limits { SubKeepsLimits line.now }
+    ensures { Prepares books.now (record { moment = moment; act = act.Sub line.now }) result }
+{
+    let Some(show) = books.show_named(line.show.as_str()) else {
+        return Err(unknown(alloc, &line.show));
+    };
+    let Some(allocation) = books.alloc_named(line.alloc.as_str()) else {
+        return Err(unknown(alloc, &line.alloc));
+    };
+    let sub = SubNo(sub_number(show, allocation) as u16);
+    let answer = Answer::Sub {
+        booked: books.booked(sub),
+        burst: line.burst,
+        size: line.size,
+    };
+    let more = More::Sub {
+        sub,
+        size: line.size,
+        burst: line.burst,
+    };
+    Ok(change_of(moment, answer, Rows::none(alloc), more))
+}
+
+// Prepares that a job is placed, of the show and the facility that its spec names.
+fn prepare_submit(
+    alloc: Global,
+    books: &Books,
+    moment: u64,
+    spec: &JobSpec,
+) -> Result<Change, PrepareFault>
+    requires ahead { books.now.moment ≤ moment }
+    requires limits { JobKeepsLimits spec.now }
+    ensures { Prepares books.now (record { moment = moment; act = act.Submit spec.now }) result }
+{
+    let Some(show) = books.show_named(spec.show.as_str()) else {
+        return Err(unknown(alloc, &spec.show));
+    };
+    if !books.has_facility(&spec.facility) {
+        return Err(unknown(alloc, &spec.facility));
+    }
+    let placing = books.check_job(alloc, spec, show)?;
+    let spec = spec.copy(alloc)?;
+    let answer = Answer::Submitted {
+        frames: placing.frames,
+    };
+    Ok(change_of(
+        moment,
+        answer,
+        Rows::none(alloc),
+        More::Job { placing, spec },
+    ))
+}

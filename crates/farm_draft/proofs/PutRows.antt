@@ -1,0 +1,216 @@
+-- Rows that are put in one after another, and the same rows laid over the list.
+use Rattle.std.proofs.Common.{◌≡◌, ◌≢◌, ◌⊎◌, inl, inr, ℕ, zero, suc, ◌+◌, ◌<◌, Bool, true, false, List, [], ◌∷◌, ◌++◌, length, Option, None, Some, slice_get, slice_set, All, nat_eq, eqb, refl, sym, ap, subst, ◌∙◌, append_assoc, arith}
+use Rattle.std.specs.Cmp.{nat_eq_equiv}
+use Rattle.std.specs.List.{IsDistinct}
+use Rattle.std.specs.Map.{keys_of, lookup}
+use Rattle.std.proofs.lemmas.List.{append-nil}
+use Rattle.std.proofs.lemmas.List.Elements.{All-head, All-tail, All-nil, All-push, All-weaker, All-contains_itself}
+use Rattle.std.proofs.lemmas.Map.{lookup-none}
+use Rattle.std.proofs.lemmas.Map.Entries.{lookup_head, lookup_tail, none_past_head}
+use Rattle.std.proofs.lemmas.Map.Keys.{IsDistinct-tail}
+use Rattle.std.proofs.lemmas.Map.Views.{lookup-from_Contains}
+use Rattle.std.proofs.lemmas.Bool.{ne_eqb}
+use Rattle.std.proofs.lemmas.Bool.Decides.{eqb_tells}
+use Rattle.std.proofs.lemmas.Option.{same_Some, slice_get_within}
+use Rattle.farm_types.specs.declared.rows.HostRow.{HostRow}
+use Rattle.farm_types.specs.declared.rows.SubRow.{SubRow}
+use Rattle.farm_types.specs.declared.slot_row.Frame.{Frame}
+use Rattle.farm_types.specs.declared.slot_row.SlotRow.{SlotRow}
+use Rattle.farm_types.specs.Farm.{changed_at}
+use Rattle.farm_types.proofs.Changed.{changed_at_each, slice_get-set_same, slice_get-set_other}
+use Rattle.farm_types.proofs.ChangedLists.{changed_at_suc, changed_at_kept}
+use Rattle.host_book.specs.Life.{with_life}
+use Rattle.host_book.specs.declared.life.HostLife.{HostLife}
+use Rattle.job_book.specs.Book.{IsSameFrame, KeepsFrame}
+use Rattle.farm_draft.specs.Ends.{IsEndOf, OnlyEnds}
+use Rattle.farm_draft.specs.Laid.{laid, laid_from, row_over, whole}
+use Rattle.farm_draft.proofs.LaidRows.{changed_at-whole, laid_alike, laid_is, laid_none}
+use Rattle.farm_books.specs.Install.{MayBegin}
+use Rattle.farm_draft.specs.Rows.{AreInstallable, HasOtherLife, HasSameLife, IsChanged, IsOtherLife, IsOtherRow, IsSameRow, put_lives, put_slots}
+
+-- ---- rows laid over a list
+
+-- a row over which nothing is laid yet may be put in first
+pub laid_first : {P X : Type 0} (put : P → X → X) (n : ℕ) (over next : ℕ → Option P) (xs : List X) (i k : ℕ) (p : P) → k ≡ n + i → over k ≡ None → next k ≡ Some p → ((j : ℕ) → j ≢ k → over j ≡ next j)
+    → laid_from put n over (changed_at xs i (put p)) ≡ laid_from put n next xs
+laid_first put n over next [] i k p at none some other = refl
+laid_first {P} {X} put n over next (x ∷ xs) zero k p at none some other =
+    let here : k ≡ n = omega arith in
+    ap (λ (o : Option P). row_over put o (put p x) ∷ laid_from put (suc n) over xs) (ap over (sym here) ∙ none)
+    ∙ ap (λ (ys : List X). put p x ∷ ys) (laid_alike put (suc n) next over xs (λ i. other (suc n + i) (omega arith)))
+    ∙ ap (λ (o : Option P). row_over put o x ∷ laid_from put (suc n) next xs) (sym (ap next (sym here) ∙ some))
+laid_first {P} {X} put n over next (x ∷ xs) (suc i) k p at none some other =
+    let apart : n ≢ k = omega arith in
+    ap (laid_from put n over) (changed_at_suc x xs i (put p))
+    ∙ ap (λ (o : Option P). row_over put o x ∷ laid_from put (suc n) over (changed_at xs i (put p))) (other n apart)
+    ∙ ap (λ (ys : List X). row_over put (next n) x ∷ ys) (laid_first put (suc n) over next xs i k p (omega arith) none some other)
+
+-- ---- rows put in turn
+
+abbrev pub put_all : {P X : Type 0} → (P → X → X) → List X → List (ℕ × P) → List X
+put_all put xs [] = xs
+put_all put xs (e ∷ es) = put_all put (changed_at xs e.0 (put e.1)) es
+
+pub put_slots_all : (slots : List SlotRow) (es : List (ℕ × SlotRow)) → put_slots slots es ≡ put_all whole slots es
+put_slots_all slots [] = refl
+put_slots_all slots (e ∷ es) = put_slots_all (slice_set slots e.0 e.1) es ∙ ap (λ (ys : List SlotRow). put_all whole ys es) (sym (changed_at-whole slots e.0 e.1))
+
+pub put_lives_all : (hosts : List HostRow) (es : List (ℕ × HostLife)) → put_lives hosts es ≡ put_all with_life hosts es
+put_lives_all hosts [] = refl
+put_lives_all hosts (e ∷ es) = put_lives_all (changed_at hosts e.0 (with_life e.1)) es
+
+-- entries of distinct numbers, put in turn, are laid over the list
+pub put_laid : {P X : Type 0} (put : P → X → X) (xs : List X) (es : List (ℕ × P)) → IsDistinct nat_eq (keys_of es) → put_all put xs es ≡ laid put (λ k. lookup (nat_eq k) es) xs
+put_laid put xs [] distinct = sym (laid_none put 0 (λ k. None) xs (λ j. refl))
+put_laid {P} put xs (e ∷ es) distinct =
+    put_laid put (changed_at xs e.0 (put e.1)) es (IsDistinct-tail nat_eq e.0 (keys_of es) distinct)
+    ∙ laid_first put 0 (λ k. lookup (nat_eq k) es) (λ k. lookup (nat_eq k) (e ∷ es)) xs e.0 e.0 e.1 (omega arith)
+    (lookup-none (nat_eq e.0) es (none_past_head nat_eq_equiv e.0 e es distinct (nat_eq_equiv.refl e.0)))
+    (lookup_head (nat_eq e.0) e es (nat_eq_equiv.refl e.0))
+    (λ j apart. sym (lookup_tail (nat_eq j) e es (ne_eqb j e.0 apart)))
+
+-- ---- rows put in turn, of which those that change nothing are left out
+
+-- the entry is the one of its number
+abbrev pub IsAt : {P : Type 0} → List (ℕ × P) → ℕ × P → Type 0
+IsAt all e = lookup (nat_eq e.0) all ≡ Some e.1
+
+-- the entry changes nothing
+abbrev pub IsIdle : {P X : Type 0} → (P → X → X) → List X → ℕ × P → Type 0
+IsIdle {P} {X} put xs e = (x : X) → slice_get xs e.0 ≡ Some x → put e.1 x ≡ x
+
+still_idle : {P X : Type 0} (put : P → X → X) (xs : List X) (all : List (ℕ × P)) (d e : ℕ × P) → IsAt all d → IsAt all e → IsIdle put xs e → IsIdle put (changed_at xs d.0 (put d.1)) e
+still_idle {P} {X} put xs all d e d_at e_at idle x at =
+    changed_at_each (λ j y. j ≡ e.0 → put e.1 y ≡ y) xs d.0 (put d.1)
+    (λ y there same.
+    let one : d.1 ≡ e.1 = same_Some d.1 e.1 (sym d_at ∙ ap (λ (k : ℕ). lookup (nat_eq k) all) same ∙ e_at) in
+    let stays : put e.1 y ≡ y = idle y (ap (slice_get xs) (sym same) ∙ there) in
+    subst (λ (p : P). put e.1 (put p y) ≡ put p y) (sym one) (ap (put e.1) stays))
+    (λ j y apart there same. idle y (ap (slice_get xs) (sym same) ∙ there))
+    e.0 x at refl
+
+put_idle : {P X : Type 0} (put : P → X → X) (xs : List X) (all done : List (ℕ × P)) (e : ℕ × P) (rest : List (ℕ × P)) → All (IsAt all) done → IsAt all e → IsIdle put xs e → put_all put xs (done ++ e ∷ rest) ≡ put_all put xs (done ++ rest)
+put_idle {P} {X} put xs all [] e rest at e_at idle = ap (λ (ys : List X). put_all put ys rest) (changed_at_kept xs e.0 (put e.1) idle)
+put_idle put xs all (d ∷ done) e rest at e_at idle =
+    put_idle put (changed_at xs d.0 (put d.1)) all done e rest (All-tail (IsAt all) d done at) e_at (still_idle put xs all d e (All-head (IsAt all) d done at) e_at idle)
+
+-- the entries that were kept, with those that are left, come to what all come to; those that were kept are of one kind, and all are at their numbers
+pub record IsPicked {P X : Type 0} (put : P → X → X) (xs : List X) (Q : ℕ × P → Type 0) (all done rest : List (ℕ × P)) : Type 0 where
+  pub same : put_all put xs (done ++ rest) ≡ put_all put xs all
+  pub differ : All Q done
+  pub at : All (IsAt all) done
+  pub left : All (IsAt all) rest
+
+module _ {P X : Type 0} (put : P → X → X) (xs : List X) (Q : ℕ × P → Type 0) (all : List (ℕ × P)) where
+  pub picked_none : (done left : List (ℕ × P)) → done ≡ [] → left ≡ all → IsDistinct nat_eq (keys_of all) → IsPicked put xs Q all done left
+  picked_none done left none each distinct =
+      subst (λ (ds : List (ℕ × P)). IsPicked put xs Q all ds left) (sym none) (subst (λ (ls : List (ℕ × P)). IsPicked put xs Q all [] ls) (sym each) record {
+        same = refl;
+        differ = All-nil Q;
+        at = All-nil (IsAt all);
+        left = All-weaker _ (IsAt all) (λ e there. lookup-from_Contains nat_eq_equiv e.0 e.1 all distinct there) all (All-contains_itself all);
+      })
+
+  -- one entry more is kept, or left out
+  pub picked_more : (done left next : List (ℕ × P)) (e : ℕ × P) (rest : List (ℕ × P)) → left ≡ e ∷ rest → next ≡ done ++ e ∷ [] → IsPicked put xs Q all done left → Q e → IsPicked put xs Q all next rest
+  picked_more done left next e rest first pushed picked q =
+      let p = subst (λ (ls : List (ℕ × P)). IsPicked put xs Q all done ls) first picked in
+      subst (λ (ds : List (ℕ × P)). IsPicked put xs Q all ds rest) (sym pushed) record {
+        same = ap (put_all put xs) (append_assoc done (e ∷ []) rest) ∙ p.same;
+        differ = All-push Q done e p.differ q;
+        at = All-push (IsAt all) done e p.at (All-head (IsAt all) e rest p.left);
+        left = All-tail (IsAt all) e rest p.left;
+      }
+
+  pub picked_past : (done left : List (ℕ × P)) (e : ℕ × P) (rest : List (ℕ × P)) → left ≡ e ∷ rest → IsPicked put xs Q all done left → IsIdle put xs e → IsPicked put xs Q all done rest
+  picked_past done left e rest first picked idle =
+      let p = subst (λ (ls : List (ℕ × P)). IsPicked put xs Q all done ls) first picked in
+      record {
+        same = sym (put_idle put xs all done e rest p.at (All-head (IsAt all) e rest p.left) idle) ∙ p.same;
+        differ = p.differ;
+        at = p.at;
+        left = All-tail (IsAt all) e rest p.left;
+      }
+
+  -- at the end, what was kept comes to all that is laid over the list
+  pub picked_all : (done left : List (ℕ × P)) → left ≡ [] → IsPicked put xs Q all done left → IsDistinct nat_eq (keys_of all) → put_all put xs done ≡ laid put (λ k. lookup (nat_eq k) all) xs
+  picked_all done left none picked distinct =
+      let p = subst (λ (ls : List (ℕ × P)). IsPicked put xs Q all done ls) none picked in
+      ap (put_all put xs) (sym (append-nil done)) ∙ p.same ∙ put_laid put xs all distinct
+
+-- ---- entries that change nothing, and others
+
+pub idle_row : (slots : List SlotRow) (e : ℕ × SlotRow) → IsSameRow (slice_get slots e.0) e.1 → IsIdle whole slots e
+idle_row slots e same x at = sym (subst (λ (o : Option SlotRow). IsSameRow o e.1) at same)
+
+pub idle_life : (hosts : List HostRow) (e : ℕ × HostLife) → HasSameLife (slice_get hosts e.0) e.1 → IsIdle with_life hosts e
+idle_life hosts e same x at = subst (λ (l : HostLife). with_life l x ≡ x) (subst (λ (o : Option HostRow). HasSameLife o e.1) at same) refl
+
+pub other_row : (o : Option SlotRow) (row : SlotRow) → (IsSameRow o row → ⊥) → IsOtherRow o row
+other_row None row differs = absurd (differs tt)
+other_row (Some old) row differs = differs
+
+pub other_life : (o : Option HostRow) (life : HostLife) → (HasSameLife o life → ⊥) → HasOtherLife o life
+other_life None life differs = absurd (differs tt)
+other_life (Some row) life differs = differs
+
+-- ---- rows that may be put in
+
+there_by : (hosts : List HostRow) (k : ℕ) (life : HostLife) (o : Option HostRow) → slice_get hosts k ≡ o → HasOtherLife o life → k < length hosts
+there_by hosts k life None at other = absurd other
+there_by hosts k life (Some x) at other = slice_get_within hosts k x at
+
+-- a host that has another life is there
+pub hosts_there : (hosts : List HostRow) (es : List (ℕ × HostLife)) → All (IsOtherLife hosts) es → All (λ e. e.0 < length hosts) es
+hosts_there hosts es differ = All-weaker (IsOtherLife hosts) (λ e. e.0 < length hosts) (λ e other. there_by hosts e.0 e.1 (slice_get hosts e.0) refl other) es differ
+
+-- two frames that stand where a third one stood stand where either does
+same_frame : (o x y : Option Frame) → IsSameFrame o x → IsSameFrame o y → IsSameFrame x y
+same_frame None x y p q = absurd p
+same_frame (Some f) None y p q = absurd p
+same_frame (Some f) (Some g) None p q = absurd q
+same_frame (Some f) (Some g) (Some h) p q = q ∙ ap (λ (z : Frame). record z { state = h.state; retries = h.retries }) (sym p)
+
+-- the entry's row has the frame that stands in its slot, and no attempt
+abbrev IsEnding : List SlotRow → ℕ × SlotRow → Type 0
+IsEnding slots e = KeepsFrame (slice_get slots e.0) e.1 × (e.1.proc ≡ None)
+
+kept_here : (slots : List SlotRow) (k : ℕ) (row next : SlotRow) (o : Option SlotRow) → slice_get slots k ≡ o → KeepsFrame o row → KeepsFrame o next → KeepsFrame (slice_get (slice_set slots k row) k) next
+kept_here slots k row next None at p q = absurd p
+kept_here slots k row next (Some x) at p q = subst (λ (o : Option SlotRow). KeepsFrame o next) (sym (slice_get-set_same slots k x row at)) (same_frame x.frame row.frame next.frame p q)
+
+-- a row that has the frame of its slot still has it after another such row was put in
+kept_next : (slots : List SlotRow) (d e : ℕ × SlotRow) → KeepsFrame (slice_get slots d.0) d.1 → KeepsFrame (slice_get slots e.0) e.1 → KeepsFrame (slice_get (slice_set slots d.0 d.1) e.0) e.1
+kept_next slots d e p q = by (eqb_tells e.0 d.0)
+  where
+    by : ((eqb e.0 d.0 ≡ true) × (e.0 ≡ d.0)) ⊎ ((eqb e.0 d.0 ≡ false) × (e.0 ≢ d.0)) → KeepsFrame (slice_get (slice_set slots d.0 d.1) e.0) e.1
+    by (inl h) =
+        subst (λ (k : ℕ). KeepsFrame (slice_get (slice_set slots d.0 d.1) k) e.1) (sym h.1)
+        (kept_here slots d.0 d.1 e.1 (slice_get slots d.0) refl p (subst (λ (k : ℕ). KeepsFrame (slice_get slots k) e.1) h.1 q))
+    by (inr h) = subst (λ (o : Option SlotRow). KeepsFrame o e.1) (sym (slice_get-set_other slots d.0 e.0 d.1 h.1)) q
+
+installable : (subs : List SubRow) (slots : List SlotRow) (es : List (ℕ × SlotRow)) → All (IsEnding slots) es → AreInstallable subs slots es
+installable subs slots [] all = tt
+installable subs slots (e ∷ es) all =
+    let first = All-head (IsEnding slots) e es all in (
+      record { keeps = first.0; begins = subst (MayBegin subs slots e.0) (sym first.1) tt },
+      installable subs (slice_set slots e.0 e.1) es
+          (All-weaker (IsEnding slots) (IsEnding (slice_set slots e.0 e.1)) (λ d rest. (kept_next slots e d first.0 rest.0, rest.1)) es (All-tail (IsEnding slots) e es all)),
+    )
+
+-- where attempts only end, a row that differs ends one
+ending_by : (x old new : SlotRow) (same : Bool) → x ≡ old → x ≢ new → IsEndOf same old new → IsSameFrame x.frame new.frame × (new.proc ≡ None)
+ending_by x old new true one other end = absurd (other (one ∙ sym end))
+ending_by x old new false one other end = subst (λ (s : SlotRow). IsSameFrame s.frame new.frame × (new.proc ≡ None)) (sym one) end
+
+ending_at : (slots : List SlotRow) (over : ℕ → Option SlotRow) → OnlyEnds slots (laid whole over slots) → (k : ℕ) (new : SlotRow) (o : Option SlotRow) → slice_get slots k ≡ o → over k ≡ Some new → IsOtherRow o new → KeepsFrame o new × (new.proc ≡ None)
+ending_at slots over ends k new None at is other = absurd other
+ending_at slots over ends k new (Some x) at is other =
+    let end = ends k new (laid_is whole over slots k x (Some new) at is) in
+    ending_by x end.0 new end.2.0 (same_Some x end.0 (sym at ∙ end.1)) other end.2.1
+
+-- where attempts only end in what is laid over the slots, the entries that differ may be put in, in turn
+pub slots_ready : (subs : List SubRow) (slots : List SlotRow) (all es : List (ℕ × SlotRow)) → OnlyEnds slots (laid whole (λ k. lookup (nat_eq k) all) slots) → All (IsChanged slots) es → All (IsAt all) es → AreInstallable subs slots es
+slots_ready subs slots all es ends differ at =
+    installable subs slots es
+    (All-weaker (λ e. IsChanged slots e × IsAt all e) (IsEnding slots) (λ e both. ending_at slots (λ k. lookup (nat_eq k) all) ends e.0 e.1 (slice_get slots e.0) refl both.1 both.0) es (λ k d within. (differ k d within, at k d within)))

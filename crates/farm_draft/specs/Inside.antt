@@ -1,0 +1,19 @@
+-- The draft that the code's fields hold.
+use Rattle.std.specs.Prelude.{ℕ, Option, nat_eq}
+use Rattle.indexmap.specs.IndexMap.{get}
+use Rattle.farm_types.specs.declared.slot_row.SlotRow.{SlotRow}
+use Rattle.farm_types.specs.Farm.{Farm}
+use Rattle.farm_types.specs.Step.{at_moment}
+use Rattle.host_book.specs.Life.{with_life}
+use Rattle.host_book.specs.declared.life.HostLife.{HostLife}
+use Rattle.farm_draft.specs.Drafted.{Drafted}
+use Rattle.farm_draft.specs.Laid.{laid, whole}
+use Rattle.farm_draft.specs.declared.draft.Draft.TheInside.{Inside}
+
+-- the farm at the moment, with lives of hosts and rows of slots laid over it
+abbrev pub over_farm : Farm → ℕ → (ℕ → Option HostLife) → (ℕ → Option SlotRow) → Drafted
+over_farm f moment hosts slots =
+    record { base = f; moment = moment; farm = record (at_moment f moment) { hosts = laid with_life hosts f.hosts; slots = laid whole slots f.slots } }
+
+abbrev pub drafted_of : Inside → Drafted
+drafted_of a = over_farm a.books.now a.moment (get nat_eq a.hosts) (get nat_eq a.slots)
