@@ -8,7 +8,7 @@ use mir.Syntax.{w32}
 use Rattle.std.specs.Prelude.{ℤ, pos, negsuc, unsigned_abs, decimal}
 use Rattle.std.specs.Fmt.{padded_integral, format_spec, char_count, styled_signed_decimal}
 use Rattle.std.specs.Int.{is_negative}
-use Rattle.farm_lines.specs.Names.{four_places}
+use Rattle.farm_types.specs.Names.{four_places}
 
 pub padded_to_four : (number : ℤ) → padded_integral (format_spec 32 0 4 4 (2 ^ 64 - 1)) (is_negative number) [] (decimal (unsigned_abs number)) ≡ four_places number
 unfolding padded_integral char_count

@@ -5,7 +5,7 @@ use Rattle.std.specs.Char.{encode_utf8, len_utf8}
 use Rattle.std.proofs.lemmas.Bool.{cond-true, lt-ltb, ne_eqb, cases_lt}
 use Rattle.std.proofs.lemmas.Str.{inside_one, encode_ascii, length-encode, len_utf8_bounds}
 use mathlib.Core.Logic.{⊎_elim}
-use Rattle.farm_lines.specs.Names.{expanded_from, token_at, text_for, rest_of, Token}
+use Rattle.farm_types.specs.Names.{expanded_from, token_at, text_for, rest_of, Token}
 use Rattle.command_text.specs.Steps.{IsCopied, IsStep, expanded_rest}
 use Rattle.command_text.specs.Tokens.{size_of, meaning_of, token_of}
 use Rattle.command_text.specs.declared.expansion.Names.{Names}

@@ -7,7 +7,7 @@ use Rattle.std.proofs.lemmas.List.{take-append-drop}
 use Rattle.std.proofs.Math.Seq.{take-append_seam}
 use Rattle.std.proofs.lemmas.Slice.Eq.{bytes_eq-Decides}
 use denote.Ref.{Bor}
-use Rattle.farm_lines.specs.Names.{starts_with}
+use Rattle.farm_types.specs.Names.{starts_with}
 
 pub word_stripped : (word text : List ℕ) (r : Option (Bor (List ℕ)))
     → MatchOption r (FindsTextPrefix word text None) (λ x. StripsPrefix (FindsTextPrefix word) text x.now)

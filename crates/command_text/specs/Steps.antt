@@ -1,7 +1,7 @@
 -- One step of the expansion.
 use Rattle.std.specs.Prelude.{◌≡◌, ℕ, ◌<◌, List, ◌++◌, length}
 use Rattle.std.specs.Char.{encode_utf8}
-use Rattle.farm_lines.specs.Names.{expanded_from}
+use Rattle.farm_types.specs.Names.{expanded_from}
 use Rattle.command_text.specs.declared.expansion.Names.{Names}
 
 -- what the rest of a command becomes

@@ -1,7 +1,7 @@
 -- The five tokens of a command, beside the rules' own words.
 use Rattle.std.specs.Prelude.{◌≡◌, ℕ, ℤ, List, drop, length, true, false, Option, None, Some}
 use Rattle.std.specs.Fmt.{signed_decimal}
-use Rattle.farm_lines.specs.Names.{four_places, frame_name, starts_with, token_at, Token as Replaced}
+use Rattle.farm_types.specs.Names.{four_places, frame_name, starts_with, token_at, Token as Replaced}
 use Rattle.command_text.specs.declared.token.Token.{Token}
 use Rattle.command_text.specs.declared.token.Token.TheVariants.{PlacedNumber, PlainNumber, Layer, Job, FrameName}
 use denote.Ref.{Bor}

@@ -1,7 +1,7 @@
 //! Commands with their tokens replaced.
 
 ghost use Rattle.std.specs.Prelude.{◌≡◌, ◌<◌, length, IfOk, string_bytes};
-ghost use Rattle.farm_lines.specs.Names.{expanded};
+ghost use Rattle.farm_types.specs.Names.{expanded};
 ghost use Rattle.command_text.specs.Steps.{IsCopied, IsStep};
 ghost use Rattle.command_text.specs.Tokens.{meaning_of};
 

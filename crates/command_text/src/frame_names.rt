@@ -1,7 +1,7 @@
 //! Names of frames.
 
 ghost use Rattle.std.specs.Prelude.{◌≡◌, IfOk};
-ghost use Rattle.farm_lines.specs.Names.{four_places, frame_name};
+ghost use Rattle.farm_types.specs.Names.{four_places, frame_name};
 
 use farm_types::Text;
 use std::alloc::{AllocError, Global};

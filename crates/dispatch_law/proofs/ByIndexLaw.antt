@@ -23,9 +23,8 @@ use Rattle.farm_types.specs.declared.states.FrameState.TheVariants as frame_stat
 use Rattle.farm_types.specs.declared.limits.TheConstants.{MOST_ALLOCS, LAST_VERSION, MOST_RETRIES}
 use Rattle.farm_types.specs.Booking.{is_waiting}
 use Rattle.farm_types.specs.Dispatch.{by_ratio, show_name, rank_cmp, rank_of, ranks_from, with_found, insert_rank, sorted_ranks}
-use Rattle.farm_types.specs.Farm.{Farm, for_some, layer_at, sub_at, sub_of}
-use Rattle.farm_types.specs.Jobs.{is_placed}
-use Rattle.farm_types.specs.Kept.{IsKeptFarm, layers_of, is_kept_slot, is_kept_frame, for_any, layer_in, is_setup}
+use Rattle.farm_types.specs.Farm.{Farm, for_some, layer_at, sub_at, sub_of, is_placed, layers_of}
+use Rattle.farm_types.specs.Kept.{KeepsRows, is_kept_slot, is_kept_frame, for_any, layer_in, is_setup}
 use Rattle.farm_types.specs.Ranges.{range_numbers}
 use Rattle.farm_types.specs.Step.{lists_of}
 use Rattle.farm_types.specs.Sums.{booked_in}
@@ -90,7 +89,7 @@ tied f a b e =
       position_is = number_tie a.position b.position (rest_ties (nat_cmp a.layer b.layer) (nat_cmp a.position b.position) e4);
     }
 
-module _ (f : Farm) (kept : IsKeptFarm f) where
+module _ (f : Farm) (kept : KeepsRows f) where
   -- two ranked slots of one place are one
   one_slot : (host i k : ℕ) (s t : SlotRow) (a b : Rank) → slice_get f.slots i ≡ Some s → slice_get f.slots k ≡ Some t → IsRanked f host i s a → IsRanked f host k t b → AreTied a b → i ≡ k
   one_slot host i k s t a b at_i at_k x y same =

@@ -5,8 +5,7 @@ use Rattle.std.proofs.lemmas.Bool.{false≢true, eqb-true}
 use Rattle.std.proofs.lemmas.Option.{same_Some}
 use Rattle.farm_types.specs.declared.slot_row.Frame.{Frame}
 use Rattle.farm_types.specs.declared.slot_row.SlotRow.{SlotRow}
-use Rattle.farm_types.specs.Farm.{for_some}
-use Rattle.farm_types.specs.Jobs.{is_placed, slot_from}
+use Rattle.farm_types.specs.Farm.{for_some, is_placed, slot_from}
 use Rattle.farm_types.proofs.Lists.{and_both}
 use Rattle.dispatch_law.proofs.Strict.{Has, has_first, has_later, has_none, has_split}
 

@@ -8,8 +8,8 @@ use Rattle.std.proofs.lemmas.Cmp.{ranked}
 use Rattle.farm_types.specs.declared.dispatch.Rank.{Rank}
 use Rattle.farm_types.specs.declared.rows.LayerRow.{LayerRow}
 use Rattle.farm_types.specs.Dispatch.{rank_cmp}
-use Rattle.farm_types.specs.Farm.{Farm}
-use Rattle.farm_types.specs.Kept.{AreAtPlaces, layers_of}
+use Rattle.farm_types.specs.Farm.{Farm, layers_of}
+use Rattle.farm_types.specs.Kept.{AreAtPlaces}
 use Rattle.farm_types.specs.Ranges.{range_numbers}
 use Rattle.dispatch_law.specs.ByIndex.{ranks_in_layer, ranks_in_job}
 use Rattle.dispatch_law.proofs.Found.{has_filter}

@@ -6,8 +6,7 @@ use Rattle.farm_types.specs.declared.dispatch.Rank.{Rank}
 use Rattle.farm_types.specs.declared.slot_row.Frame.{Frame}
 use Rattle.farm_types.specs.declared.slot_row.SlotRow.{SlotRow}
 use Rattle.farm_types.specs.Dispatch.{rank_of, rank_cmp, with_found}
-use Rattle.farm_types.specs.Farm.{Farm, for_some}
-use Rattle.farm_types.specs.Jobs.{is_placed}
+use Rattle.farm_types.specs.Farm.{Farm, for_some, is_placed}
 use Rattle.farm_types.specs.Step.{lists_of}
 use Rattle.job_book.specs.Index.{slot_of}
 use Rattle.dispatch_law.specs.ByIndex.{rank_in_slot, rank_at_position, ranks_at}

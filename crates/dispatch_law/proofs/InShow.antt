@@ -14,11 +14,11 @@ use Rattle.std.proofs.lemmas.Option.{same_Some}
 use Rattle.farm_types.specs.declared.dispatch.Rank.{Rank}
 use Rattle.farm_types.specs.declared.rows.JobRow.{JobRow}
 use Rattle.farm_types.specs.Dispatch.{rank_cmp}
-use Rattle.farm_types.specs.Farm.{Farm, job_at}
+use Rattle.farm_types.specs.Farm.{Farm, job_at, layers_of}
 use Rattle.farm_types.specs.Rising.{IsRising, job_key}
 use Rattle.farm_types.specs.declared.states.FrameState.TheVariants as frame_state
 use Rattle.farm_types.specs.Booking.{is_pending}
-use Rattle.farm_types.specs.Kept.{AreAtPlaces, KeepsJobs, is_pending_job, layers_of}
+use Rattle.farm_types.specs.Kept.{AreAtPlaces, KeepsJobs, is_pending_job}
 use Rattle.farm_types.specs.Step.{lists_of}
 use Rattle.farm_types.proofs.Lists.{and_both}
 use Rattle.job_book.specs.Book.{count_in}

@@ -9,8 +9,7 @@ use Rattle.farm_types.specs.declared.rows.JobRow.{JobRow}
 use Rattle.farm_types.specs.declared.rows.LayerRow.{LayerRow}
 use Rattle.farm_types.specs.declared.rows.SubRow.{SubRow}
 use Rattle.farm_types.specs.Dispatch.{by_ratio, show_name, rank_of, with_found}
-use Rattle.farm_types.specs.Farm.{Farm}
-use Rattle.farm_types.specs.Kept.{layers_of}
+use Rattle.farm_types.specs.Farm.{Farm, layers_of}
 use Rattle.farm_types.specs.Ranges.{range_numbers}
 use Rattle.farm_types.specs.Step.{lists_of}
 use Rattle.farm_types.specs.Sums.{booked_in}

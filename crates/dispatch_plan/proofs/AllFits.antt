@@ -12,7 +12,7 @@ use Rattle.farm_types.specs.declared.limits.TheConstants.{LAST_VERSION}
 use Rattle.farm_types.specs.Booking.{has_capacity, in_facility, is_pending, is_waiting, may_book, may_place, may_record, tags_match, takes_frames, within_burst}
 use Rattle.farm_types.specs.Depends.{is_open}
 use Rattle.farm_types.specs.Farm.{Farm, for_some, job_at, layer_at, sub_of}
-use Rattle.farm_types.specs.Kept.{IsKeptFarm}
+use Rattle.farm_types.specs.Kept.{KeepsRows}
 use Rattle.farm_types.specs.Step.{lists_of}
 use Rattle.farm_types.proofs.Lists.{and_both, for_some_true}
 use Rattle.farm_books.specs.Reads.{rows_share_tag, takes_job, takes_layer}
@@ -63,7 +63,7 @@ record Fits (f : Farm) (host sub : ℕ) (l : LayerRow) : Type 0 where
   burst : within_burst f (sub_of job.show row.alloc) l ≡ true
   tagged : rows_share_tag f l row ≡ true
 
-fits : (f : Farm) (host sub : ℕ) (l : LayerRow) → IsKeptFarm f → IsPending f l.job → takes_job f host l.job ≡ true → takes_layer f host sub l ≡ true → IsBilled f host l.job sub → Fits f host sub l
+fits : (f : Farm) (host sub : ℕ) (l : LayerRow) → KeepsRows f → IsPending f l.job → takes_job f host l.job ≡ true → takes_layer f host sub l ≡ true → IsBilled f host l.job sub → Fits f host sub l
 fits f host sub l kept it job_taken layer_taken billed =
     let a = for_some_true (slice_get f.hosts host) _ layer_taken in
     let b = for_some_true (slice_get f.hosts host) _ job_taken in
@@ -117,7 +117,7 @@ tags_are f host slot l row s x at framed layer_is row_is tagged =
     ∙ (ap (λ (o : Option HostRow). for_some o (λ r. rows_share_tag f l r)) row_is ∙ tagged)))
 
 -- the next waiting frame, as the book of jobs shows it
-pub view_may_book : (f : Farm) (host sub from slot : ℕ) (l : LayerRow) (v : FrameView) → IsKeptFarm f → IsPending f l.job → takes_job f host l.job ≡ true → takes_layer f host sub l ≡ true → layer_at f l.job l.place ≡ Some l
+pub view_may_book : (f : Farm) (host sub from slot : ℕ) (l : LayerRow) (v : FrameView) → KeepsRows f → IsPending f l.job → takes_job f host l.job ≡ true → takes_layer f host sub l ≡ true → layer_at f l.job l.place ≡ Some l
     → IsBilled f host l.job sub → IsFirstWaiting (lists_of f) l.job l.place from slot → frame_at (lists_of f) slot ≡ Some v → may_book f slot host ≡ (nat_lt v.version LAST_VERSION && is_open f slot)
 view_may_book f host sub from slot l v kept pending job_taken layer_taken there billed first shown =
     let it = seen (slice_get f.slots slot) v shown in

@@ -8,8 +8,8 @@ use Rattle.farm_types.specs.declared.dispatch.Candidate.{Candidate}
 use Rattle.farm_types.specs.declared.dispatch.Rank.{Rank}
 use Rattle.farm_types.specs.declared.rows.LayerRow.{LayerRow}
 use Rattle.farm_types.specs.declared.limits.TheConstants.{CANDIDATES_EACH, MOST_LAYERS}
-use Rattle.farm_types.specs.Farm.{Farm, layer_at}
-use Rattle.farm_types.specs.Kept.{IsKeptFarm, AreAtPlaces, layers_of, is_formed_layer}
+use Rattle.farm_types.specs.Farm.{Farm, layer_at, layers_of}
+use Rattle.farm_types.specs.Kept.{KeepsRows, AreAtPlaces, is_formed_layer}
 use Rattle.farm_types.proofs.Lists.{and_both, found_is, list_all-at}
 use Rattle.dispatch_law.specs.ByIndex.{ranks_in_layer}
 use Rattle.dispatch_plan.specs.Offers.{IsBilled, IsPending, offered}
@@ -55,7 +55,7 @@ layer_is f job n at =
     ∙ (find_place 0 n (layers_of f.layers job) at (omega arith) ∙ (let e : n - 0 ≡ n = omega arith in ap (slice_get (layers_of f.layers job)) e))
 
 -- the layers of a pending job
-pub layers_at : (f : Farm) (job : ℕ) → IsKeptFarm f → IsPending f job → AreAtPlaces 0 (layers_of f.layers job)
+pub layers_at : (f : Farm) (job : ℕ) → KeepsRows f → IsPending f job → AreAtPlaces 0 (layers_of f.layers job)
 layers_at f job kept it = subst (λ n. AreAtPlaces 0 (layers_of f.layers n)) it.number_is ((kept.jobs.jobs_layered it.place it.job it.at it.pending).places)
 
 few_by : (place : ℕ) (ls : List LayerRow) → AreAtPlaces place ls → ((l : LayerRow) → Has ls l → l.place < MOST_LAYERS) → place ≤ MOST_LAYERS → place + length ls ≤ MOST_LAYERS
@@ -76,7 +76,7 @@ layer_place l h = ltb-true l.place MOST_LAYERS (second_of h)
     second_of e = second_by _ (nat_lt l.place MOST_LAYERS) _ e
 
 -- there are as many at most as a job has
-pub layers_few : (f : Farm) (job : ℕ) → IsKeptFarm f → IsPending f job → length (layers_of f.layers job) ≤ MOST_LAYERS
+pub layers_few : (f : Farm) (job : ℕ) → KeepsRows f → IsPending f job → length (layers_of f.layers job) ≤ MOST_LAYERS
 layers_few f job kept it =
     let few = few_by 0 (layers_of f.layers job) (layers_at f job kept it)
     (λ l h. let in_all = (has_filter (λ (m : LayerRow). eqb m.job job) f.layers l h).there in layer_place l (list_all-at is_formed_layer f.layers in_all.place l kept.jobs.layers_formed in_all.at)) (omega arith) in
@@ -122,12 +122,12 @@ pub layer_owned : (P : ℕ → Type 0) (f : Farm) (job n : ℕ) (l : LayerRow) �
 layer_owned P f job n l e holds = subst P (sym (layer_found f job n l e).0) holds
 
 -- the next layer is offered
-pub job_step : (f : Farm) (host job n : ℕ) (l : LayerRow) (plan : List Candidate) → IsKeptFarm f → IsPending f job → layer_at f job n ≡ Some l
+pub job_step : (f : Farm) (host job n : ℕ) (l : LayerRow) (plan : List Candidate) → KeepsRows f → IsPending f job → layer_at f job n ≡ Some l
     → offered plan (flat_map (ranks_in_layer f host) (drop n (layers_of f.layers job))) ≡ offered (offered plan (ranks_in_layer f host l)) (flat_map (ranks_in_layer f host) (drop (n + 1) (layers_of f.layers job)))
 job_step f host job n l plan kept it e = piece_step (ranks_in_layer f host) (layers_of f.layers job) n l plan (sym (layer_is f job n (layers_at f job kept it)) ∙ e)
 
 -- there is none any more
-pub job_end : (f : Farm) (host job n : ℕ) (plan : List Candidate) → IsKeptFarm f → IsPending f job → layer_at f job n ≡ None → length plan ≤ CANDIDATES_EACH
+pub job_end : (f : Farm) (host job n : ℕ) (plan : List Candidate) → KeepsRows f → IsPending f job → layer_at f job n ≡ None → length plan ≤ CANDIDATES_EACH
     → offered plan (flat_map (ranks_in_layer f host) (drop n (layers_of f.layers job))) ≡ plan
 job_end f host job n plan kept it e few = piece_end (ranks_in_layer f host) (layers_of f.layers job) n plan (sym (layer_is f job n (layers_at f job kept it)) ∙ e) ∙ offered_none plan few
 
@@ -136,7 +136,7 @@ past_last [] n h = refl
 past_last (x ∷ xs) zero h = absurd (omega arith)
 past_last (x ∷ xs) (suc n) h = past_last xs n (omega arith)
 
-pub job_past : (f : Farm) (host job : ℕ) (plan : List Candidate) → IsKeptFarm f → IsPending f job → length plan ≤ CANDIDATES_EACH → offered plan (flat_map (ranks_in_layer f host) (drop MOST_LAYERS (layers_of f.layers job))) ≡ plan
+pub job_past : (f : Farm) (host job : ℕ) (plan : List Candidate) → KeepsRows f → IsPending f job → length plan ≤ CANDIDATES_EACH → offered plan (flat_map (ranks_in_layer f host) (drop MOST_LAYERS (layers_of f.layers job))) ≡ plan
 job_past f host job plan kept it few =
     piece_end (ranks_in_layer f host) (layers_of f.layers job) MOST_LAYERS plan (past_last (layers_of f.layers job) MOST_LAYERS (layers_few f job kept it)) ∙ offered_none plan few
 

@@ -15,7 +15,7 @@ use Rattle.farm_types.specs.declared.limits.TheConstants.{CANDIDATES_EACH, LEAST
 use Rattle.farm_types.specs.Booking.{has_capacity, in_facility, takes_frames, within_burst}
 use Rattle.farm_types.specs.Dispatch.{plan_for}
 use Rattle.farm_types.specs.Farm.{Farm, for_some, job_at, layer_at, sub_at, sub_of}
-use Rattle.farm_types.specs.Kept.{IsKeptFarm}
+use Rattle.farm_types.specs.Kept.{KeepsRows}
 use Rattle.farm_types.specs.Step.{lists_of}
 use Rattle.farm_types.specs.Sums.{booked_in}
 use Rattle.farm_types.proofs.Lists.{for_some_true}
@@ -87,7 +87,7 @@ left_by f sub cores least h =
     let within = leb-true (booked_in f sub + cores) s.0.burst s.2 in
     for_some-there (sub_at f sub) (λ (s : SubRow). nat_le (booked_in f sub + LEAST_CORES) s.burst) s.0 s.1 (le-leb (booked_in f sub + LEAST_CORES) s.0.burst (omega (arith, within, least)))
 
-sub_left : (f : Farm) (host show sub : ℕ) (r : Rank) → IsKeptFarm f → IsShowBilled f host show sub → Has (ranks_in_show f host show) r → has_least_left f sub ≡ true
+sub_left : (f : Farm) (host show sub : ℕ) (r : Rank) → KeepsRows f → IsShowBilled f host show sub → Has (ranks_in_show f host show) r → has_least_left f sub ≡ true
 sub_left f host show sub r kept billed h =
     let from = flat_from (ranks_in_job f host) (ready_of (lists_of f) show) r h in
     let ready = ready_offered f host show sub from.there.place from.from kept billed from.there.at in
@@ -99,7 +99,7 @@ sub_left f host show sub r kept billed h =
     let there = find_has (λ (l : LayerRow). eqb l.job has.frame.job && eqb l.place has.frame.layer) f.layers has.layer has.layer_is in
     left_by f sub has.layer.cores (has_least f has.layer kept there).cores (subst (λ n. within_burst f n has.layer ≡ true) billed_so has.burst)
 
-pub show_unoffered : (f : Farm) (host show sub : ℕ) (plan : List Candidate) → IsKeptFarm f → IsShowBilled f host show sub → has_least_left f sub ≡ false → length plan ≤ CANDIDATES_EACH
+pub show_unoffered : (f : Farm) (host show sub : ℕ) (plan : List Candidate) → KeepsRows f → IsShowBilled f host show sub → has_least_left f sub ≡ false → length plan ≤ CANDIDATES_EACH
     → plan ≡ offered plan (ranks_in_show f host show)
 show_unoffered f host show sub plan kept billed reached few =
     none_offered plan (ranks_in_show f host show) (empty_by (ranks_in_show f host show) (λ r h. false≢true (sym reached ∙ sub_left f host show sub r kept billed h))) few

@@ -14,9 +14,9 @@ use Rattle.farm_types.specs.declared.slot_row.SlotRow.{SlotRow}
 use Rattle.farm_types.specs.declared.limits.TheConstants.{CANDIDATES_EACH, LEAST_CORES, LEAST_MEMORY, MOST_ALLOCS, MOST_COMMAND, MOST_CORES, MOST_FRAMES, MOST_LAYERS, MOST_MEMORY, MOST_SHOWS}
 use Rattle.farm_types.specs.Booking.{has_capacity}
 use Rattle.farm_types.specs.Dispatch.{plan_for, rank_of, ranks_from, sorted_ranks, with_found}
-use Rattle.farm_types.specs.Farm.{Farm, job_at, sub_of}
+use Rattle.farm_types.specs.Farm.{Farm, job_at, sub_of, layers_of}
 use Rattle.farm_types.specs.Forms.{is_between, is_command_text, is_name_text}
-use Rattle.farm_types.specs.Kept.{IsKeptFarm, are_tags, is_formed_job, is_formed_layer, layers_of}
+use Rattle.farm_types.specs.Kept.{KeepsRows, are_tags, is_formed_job, is_formed_layer}
 use Rattle.farm_types.specs.Ranges.{is_range_text, range_numbers}
 use Rattle.farm_types.specs.Sums.{used_cores, used_memory}
 use Rattle.farm_types.proofs.Lists.{and_both, list_all-at}
@@ -46,7 +46,7 @@ pub record IsOffered (f : Farm) (host show sub job : ℕ) : Type 0 where
   pub pending : IsPending f job
   pub billed : IsBilled f host job sub
 
-pub ready_offered : (f : Farm) (host show sub n job : ℕ) → IsKeptFarm f → IsShowBilled f host show sub → slice_get (ready_of (lists_of f) show) n ≡ Some job → IsOffered f host show sub job
+pub ready_offered : (f : Farm) (host show sub n job : ℕ) → KeepsRows f → IsShowBilled f host show sub → slice_get (ready_of (lists_of f) show) n ≡ Some job → IsOffered f host show sub job
 ready_offered f host show sub n job kept billed at =
     let row = mapped_at (λ (j : JobRow). j.job) (ready_jobs f show) n job at in
     let ready = ready_job f host (length f.shows) f.next_finish kept.jobs show row.0 (record { place = n; at = row.1 }) in
@@ -61,7 +61,7 @@ ready_offered f host show sub n job kept billed at =
 -- ---- short layers
 
 -- a layer of a pending job says as many frames at most as a job has
-pub layer_short : (f : Farm) (job n : ℕ) (l : LayerRow) → IsKeptFarm f → IsPending f job → slice_get (layers_of f.layers job) n ≡ Some l → length (range_numbers l.range) ≤ MOST_FRAMES
+pub layer_short : (f : Farm) (job n : ℕ) (l : LayerRow) → KeepsRows f → IsPending f job → slice_get (layers_of f.layers job) n ≡ Some l → length (range_numbers l.range) ≤ MOST_FRAMES
 layer_short f job n l kept it at =
     let layers = kept.jobs.jobs_layered it.place it.job it.at it.pending in
     let there : slice_get (layers_of f.layers it.job.job) n ≡ Some l = ap (λ k. slice_get (layers_of f.layers k) n) it.number_is ∙ at in
@@ -95,7 +95,7 @@ layer_formed l h =
 -- ---- subscriptions
 
 -- those to the host's allocation
-pub subs_billed : (f : Farm) (host : ℕ) (row : HostRow) → IsKeptFarm f → slice_get f.hosts host ≡ Some row → AreBilled f host (sorted_subs f (subs_to f row.alloc))
+pub subs_billed : (f : Farm) (host : ℕ) (row : HostRow) → KeepsRows f → slice_get f.hosts host ≡ Some row → AreBilled f host (sorted_subs f (subs_to f row.alloc))
 subs_billed f host row kept hosted n s at =
     let to = sub_to f kept.shows (length f.allocs) kept.subs row.alloc s (record { place = n; at = at }) in
     let alloc = to.alloc_is in
@@ -106,20 +106,20 @@ subs_billed f host row kept hosted n s at =
           omega (arith, same, alloc);
     }
 
-alloc_within : (f : Farm) (host : ℕ) (row : HostRow) → IsKeptFarm f → slice_get f.hosts host ≡ Some row → row.alloc < MOST_ALLOCS
+alloc_within : (f : Farm) (host : ℕ) (row : HostRow) → KeepsRows f → slice_get f.hosts host ≡ Some row → row.alloc < MOST_ALLOCS
 alloc_within f host row kept hosted =
     let there = ltb-true row.alloc (length f.allocs) (list_all-at (λ (z : HostRow). nat_lt z.alloc (length f.allocs)) f.hosts host row kept.hosts.allocated hosted) in
     let count = kept.allocs.count in
     omega (arith, there, count)
 
 -- as they are read show by show
-pub subs_read : (f : Farm) (host : ℕ) (row : HostRow) → IsKeptFarm f → slice_get f.hosts host ≡ Some row → subs_from f row.alloc 0 MOST_SHOWS ≡ subs_to f row.alloc
+pub subs_read : (f : Farm) (host : ℕ) (row : HostRow) → KeepsRows f → slice_get f.hosts host ≡ Some row → subs_from f row.alloc 0 MOST_SHOWS ≡ subs_to f row.alloc
 subs_read f host row kept hosted = subs_from_is f row.alloc kept (alloc_within f host row kept hosted)
 
 -- ---- the plan
 
 -- what is offered of all subscriptions is the plan
-pub plan_is : (f : Farm) (host : ℕ) (row : HostRow) → IsKeptFarm f → slice_get f.hosts host ≡ Some row
+pub plan_is : (f : Farm) (host : ℕ) (row : HostRow) → KeepsRows f → slice_get f.hosts host ≡ Some row
     → offered [] (flat_map (λ (s : SubRow). ranks_in_show f host (show_of s)) (sorted_subs f (subs_from f row.alloc 0 MOST_SHOWS))) ≡ plan_for f host
 unfolding offered
 plan_is f host row kept hosted =
@@ -156,7 +156,7 @@ pub record HasLeast (l : LayerRow) : Type 0 where
   pub cores : LEAST_CORES ≤ l.cores
   pub memory : LEAST_MEMORY ≤ l.memory
 
-pub has_least : (f : Farm) (l : LayerRow) → IsKeptFarm f → Has f.layers l → HasLeast l
+pub has_least : (f : Farm) (l : LayerRow) → KeepsRows f → Has f.layers l → HasLeast l
 has_least f l kept h =
     let formed = layer_formed l (list_all-at is_formed_layer f.layers h.place l kept.jobs.layers_formed h.at) in
     record { cores = formed.0; memory = formed.1 }
@@ -170,7 +170,7 @@ full_by f host row l least h =
     let b = least.memory in
     both_true (le-leb (used_cores f host + LEAST_CORES) row.cores (omega (arith, cores, a))) (le-leb (used_memory f host + LEAST_MEMORY) row.memory (omega (arith, memory, b)))
 
-pub plan_full : (f : Farm) (host : ℕ) (row : HostRow) → IsKeptFarm f → slice_get f.hosts host ≡ Some row → has_least_free f host row ≡ false → plan_for f host ≡ []
+pub plan_full : (f : Farm) (host : ℕ) (row : HostRow) → KeepsRows f → slice_get f.hosts host ≡ Some row → has_least_free f host row ≡ false → plan_for f host ≡ []
 plan_full f host row kept hosted full =
     no_plan f host
     (λ slot s r at e.

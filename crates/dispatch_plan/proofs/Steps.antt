@@ -12,9 +12,8 @@ use Rattle.farm_types.specs.declared.slot_row.SlotRow.{SlotRow}
 use Rattle.farm_types.specs.declared.limits.TheConstants.{CANDIDATES_EACH}
 use Rattle.farm_types.specs.Booking.{may_book}
 use Rattle.farm_types.specs.Dispatch.{rank_of, with_found}
-use Rattle.farm_types.specs.Farm.{Farm, for_some, layer_at, sub_of}
-use Rattle.farm_types.specs.Jobs.{is_placed}
-use Rattle.farm_types.specs.Kept.{IsKeptFarm}
+use Rattle.farm_types.specs.Farm.{Farm, for_some, layer_at, sub_of, is_placed}
+use Rattle.farm_types.specs.Kept.{KeepsRows}
 use Rattle.farm_types.specs.Ranges.{range_numbers}
 use Rattle.farm_types.specs.Step.{lists_of}
 use Rattle.farm_types.proofs.Lists.{found_is}
@@ -59,7 +58,7 @@ found_offered f host slot sub s x plan rest true may at framed billed room =
     ∙ ap (λ c. offered (plan ++ c ∷ []) rest) is))
 
 -- one step: the layer's next waiting frame is offered
-pub offer_step : (f : Farm) (host job layer sub from slot : ℕ) (l : LayerRow) (s : SlotRow) (x : Frame) (plan : List Candidate) → IsKeptFarm f → layer_at f job layer ≡ Some l → IsBilled f host job sub
+pub offer_step : (f : Farm) (host job layer sub from slot : ℕ) (l : LayerRow) (s : SlotRow) (x : Frame) (plan : List Candidate) → KeepsRows f → layer_at f job layer ≡ Some l → IsBilled f host job sub
     → IsFirstWaiting (lists_of f) job layer from slot → slice_get f.slots slot ≡ Some s → s.frame ≡ Some x → length plan + 1 ≤ CANDIDATES_EACH
     → (from ≤ x.position) × (x.position < length (range_numbers l.range))
     × (offered plan (ranks_at f host job layer from (length (range_numbers l.range) - from))

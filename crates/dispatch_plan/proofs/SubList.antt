@@ -9,7 +9,7 @@ use Rattle.farm_types.specs.declared.rows.SubRow.{SubRow}
 use Rattle.farm_types.specs.declared.limits.TheConstants.{MOST_ALLOCS, MOST_SHOWS, SUB_NUMBERS}
 use Rattle.farm_types.specs.Dispatch.{with_found}
 use Rattle.farm_types.specs.Farm.{Farm, sub_at, sub_of}
-use Rattle.farm_types.specs.Kept.{IsKeptFarm}
+use Rattle.farm_types.specs.Kept.{KeepsRows}
 use Rattle.farm_types.specs.Rising.{IsRising, sub_key}
 use Rattle.farm_types.proofs.Lists.{found_is}
 use Rattle.dispatch_law.specs.ByIndex.{insert_sub, sorted_subs, sub_cmp, subs_to}
@@ -85,11 +85,11 @@ rising_below low high (x ∷ xs) s up h =
     ]
 
 -- its show is one that there can be
-pub show_below : (f : Farm) (s : SubRow) → IsKeptFarm f → Has f.subs s → s.sub / MOST_ALLOCS < MOST_SHOWS
+pub show_below : (f : Farm) (s : SubRow) → KeepsRows f → Has f.subs s → s.sub / MOST_ALLOCS < MOST_SHOWS
 show_below f s kept h = (let below = rising_below 0 SUB_NUMBERS f.subs s kept.subs.rise h in omega (arith, below))
 
 -- read show by show they are those to the allocation
-pub subs_from_is : (f : Farm) (alloc : ℕ) → IsKeptFarm f → alloc < MOST_ALLOCS → subs_from f alloc 0 MOST_SHOWS ≡ subs_to f alloc
+pub subs_from_is : (f : Farm) (alloc : ℕ) → KeepsRows f → alloc < MOST_ALLOCS → subs_from f alloc 0 MOST_SHOWS ≡ subs_to f alloc
 subs_from_is f alloc kept within =
     let rise = subs_rise f kept.shows (length f.allocs) kept.subs in
     strict_same (λ (x y : SubRow). nat_cmp x.sub y.sub) (on_total (λ (x : SubRow). x.sub) nat_cmp_total) (subs_from f alloc 0 MOST_SHOWS) (subs_to f alloc) (from_strict f alloc 0 MOST_SHOWS)

@@ -10,7 +10,7 @@ use Rattle.farm_types.specs.declared.slot_row.SlotRow.{SlotRow}
 use Rattle.farm_types.specs.declared.limits.TheConstants.{CANDIDATES_EACH}
 use Rattle.farm_types.specs.Booking.{is_waiting, may_book}
 use Rattle.farm_types.specs.Farm.{Farm, for_some, layer_at}
-use Rattle.farm_types.specs.Kept.{IsKeptFarm}
+use Rattle.farm_types.specs.Kept.{KeepsRows}
 use Rattle.farm_types.specs.Ranges.{range_numbers}
 use Rattle.farm_types.specs.Step.{lists_of}
 use Rattle.job_book.specs.declared.frame_view.FrameView.{FrameView}
@@ -57,7 +57,7 @@ IsOffer f host job layer sub from slot count plan v =
     (ranks_at f host job layer (v.position + 1) (count - (v.position + 1))))
 
 -- one step: the frame is offered
-pub view_step : (f : Farm) (host job layer sub from slot : ℕ) (l : LayerRow) (v : FrameView) (plan : List Candidate) → IsKeptFarm f → layer_at f job layer ≡ Some l → IsBilled f host job sub
+pub view_step : (f : Farm) (host job layer sub from slot : ℕ) (l : LayerRow) (v : FrameView) (plan : List Candidate) → KeepsRows f → layer_at f job layer ≡ Some l → IsBilled f host job sub
     → IsFirstWaiting (lists_of f) job layer from slot → frame_at (lists_of f) slot ≡ Some v → length plan + 1 ≤ CANDIDATES_EACH
     → IsOffer f host job layer sub from slot (length (range_numbers l.range)) plan v
 view_step f host job layer sub from slot l v plan kept layered billed first shown room =

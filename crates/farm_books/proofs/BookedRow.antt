@@ -14,9 +14,10 @@ use Rattle.farm_types.specs.declared.slot_row.Frame.{Frame}
 use Rattle.farm_types.specs.declared.slot_row.SlotRow.{SlotRow}
 use Rattle.farm_types.specs.declared.states.FrameState.TheVariants.{Running}
 use Rattle.farm_types.specs.Booking.{may_book, may_place, may_record, tags_match, within_burst}
+use Rattle.farm_types.specs.Depends.{groups_of}
 use Rattle.farm_types.specs.Farm.{Farm, for_some, job_at, layer_at, sub_at, sub_of}
 use Rattle.farm_types.specs.Run.{live_at}
-use Rattle.farm_types.specs.Step.{booked_row, new_proc, proc_of, with_proc}
+use Rattle.farm_types.specs.Step.{at_moment, booked_row, new_proc, proc_of, with_proc}
 use Rattle.farm_types.specs.Sums.{booked_in}
 use Rattle.farm_types.proofs.Changed.{changed_at_is}
 use Rattle.farm_types.proofs.Lists.{and_both}
@@ -126,3 +127,8 @@ module _ (f : Farm) (slot host moment : ℕ) (row : SlotRow) where
 -- a frame whose booking may be recorded, and whose tags match, may be booked
 pub may_be_booked : (f : Farm) (slot host : ℕ) → may_record f slot host ≡ true → tags_match f slot host ≡ true → may_book f slot host ≡ true
 may_be_booked f slot host allowed tagged = ap (λ (b : Bool). b && tags_match f slot host) allowed ∙ tagged
+
+-- the moment that the farm is at decides nothing of a booking
+pub booked_at_moment : (f : Farm) (slot host moment since : ℕ) → booked_at (at_moment f moment) slot host since ≡ booked_at f slot host since
+unfolding groups_of
+booked_at_moment f slot host moment since = refl

@@ -4,7 +4,7 @@ use Rattle.farm_types.specs.Farm.{Farm}
 use Rattle.farm_books.specs.declared.books.Books.TheInside.{Inside}
 use Rattle.farm_books.specs.Install.{procs_of}
 
--- its books and counters, and no depends: no entry of today makes one
+-- its books and counters; depends have a book of their own, and none stand here
 abbrev pub farm_of : Inside → Farm
 farm_of a =
     record {
@@ -18,7 +18,7 @@ farm_of a =
       depends = [];
       met = [];
       next_job = a.jobs.next_job;
-      next_depend = a.next_depend;
+      next_depend = 1;
       next_finish = a.next_finish;
       moment = a.moment;
       recorded = a.recorded;

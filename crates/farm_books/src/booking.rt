@@ -136,7 +136,7 @@ impl Books {
         }
     }
 
-    /// Whether the frame in the slot waits for no other. The farm has no depends yet.
+    /// Whether the frame in the slot waits for no other. In these books none does: depends stand in a book of their own.
     pub fn is_open(&self, slot: Slot) -> bool
         ensures { result ≡ is_open self.now slot }
     {

@@ -1,6 +1,6 @@
 //! What the books say before a row is put in: whether it may be, and which hosts are silent.
 
-ghost use Rattle.std.specs.Prelude.{◌≡◌, ◌≤◌, ◌<◌, length, slice_get};
+ghost use Rattle.std.specs.Prelude.{◌≡◌, ◌≤◌, ◌<◌, false, length, slice_get};
 ghost use Rattle.alloc_tags.specs.Book.{check_of};
 ghost use Rattle.farm_types.specs.Farm.{alloc_name};
 ghost use Rattle.farm_types.specs.Hosts.{count_unheard};
@@ -74,6 +74,13 @@ impl Books {
         ensures { result ≡ count_unheard moment self.now.hosts }
     {
         self.hosts.count_expired(moment)
+    }
+
+    /// Whether a host may be silent at the moment: `false` at once where the book of hosts knows that none is. After `true` there may still be none.
+    pub fn may_be_silent(&self, moment: u64) -> bool
+        ensures { result ≡ false → count_unheard moment self.now.hosts ≡ 0 }
+    {
+        self.hosts.may_expire(moment)
     }
 
     /// Whether the host is silent at the moment.

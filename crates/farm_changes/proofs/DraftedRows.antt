@@ -5,7 +5,7 @@ use Rattle.farm_types.specs.declared.boot.BootLine.{BootLine}
 use Rattle.farm_types.specs.declared.slot_row.SlotRow.{SlotRow}
 use Rattle.farm_types.specs.Farm.{Farm, changed_at, host_named}
 use Rattle.farm_types.specs.Hosts.{heard_row}
-use Rattle.farm_types.specs.Kept.{IsKeptFarm}
+use Rattle.farm_types.specs.Kept.{KeepsRows}
 use Rattle.farm_types.specs.Step.{at_moment, end_all, expire, is_silent}
 use Rattle.farm_draft.specs.Drafted.{Drafted, with_farm, with_hosts, with_slots}
 use Rattle.farm_draft.specs.Ends.{AreFramed, OnlyEnds}
@@ -21,19 +21,19 @@ begun f moment = record { base = f; moment = moment; farm = at_moment f moment }
 abbrev pub silenced_draft : Farm → ℕ → Drafted
 silenced_draft f moment = with_farm (begun f moment) (expire (at_moment f moment) moment)
 
-pub framed_begun : (f : Farm) (moment : ℕ) (d : Drafted) → IsKeptFarm f → d ≡ begun f moment → AreFramed d.base.slots
+pub framed_begun : (f : Farm) (moment : ℕ) (d : Drafted) → KeepsRows f → d ≡ begun f moment → AreFramed d.base.slots
 framed_begun f moment d kept is = subst (λ (x : Drafted). AreFramed x.base.slots) (sym is) (framed_sound f kept.sound)
 
 pub silenced_is : (f : Farm) (moment : ℕ) (d e : Drafted) → d ≡ begun f moment → e ≡ with_farm d (expire d.farm d.moment) → e ≡ silenced_draft f moment
 silenced_is f moment d e is next = next ∙ ap (λ (x : Drafted). with_farm x (expire x.farm x.moment)) is
 
-silenced_lost : (f : Farm) (moment : ℕ) → IsKeptFarm f → OnlyEnds f.slots (expire (at_moment f moment) moment).slots
+silenced_lost : (f : Farm) (moment : ℕ) → KeepsRows f → OnlyEnds f.slots (expire (at_moment f moment) moment).slots
 silenced_lost f moment kept = ends_lost (is_silent (at_moment f moment) moment) f.slots (framed_sound f kept.sound)
 
-pub silenced_ends : (f : Farm) (moment : ℕ) (d : Drafted) → IsKeptFarm f → d ≡ silenced_draft f moment → OnlyEnds d.base.slots d.farm.slots
+pub silenced_ends : (f : Farm) (moment : ℕ) (d : Drafted) → KeepsRows f → d ≡ silenced_draft f moment → OnlyEnds d.base.slots d.farm.slots
 silenced_ends f moment d kept is = subst (λ (x : Drafted). OnlyEnds x.base.slots x.farm.slots) (sym is) (silenced_lost f moment kept)
 
-pub heard_ends : (f : Farm) (moment host boot seq : ℕ) (done : List DoneItem) (d e g : Drafted) → IsKeptFarm f → d ≡ silenced_draft f moment
+pub heard_ends : (f : Farm) (moment host boot seq : ℕ) (done : List DoneItem) (d e g : Drafted) → KeepsRows f → d ≡ silenced_draft f moment
     → e ≡ with_hosts d (changed_at d.farm.hosts host (heard_row seq d.moment)) → g ≡ with_farm e (end_all e.farm host boot done) → OnlyEnds g.base.slots g.farm.slots
 heard_ends f moment host boot seq done d e g kept is heard ended =
     let heard_is = heard ∙ ap (λ (x : Drafted). with_hosts x (changed_at x.farm.hosts host (heard_row seq x.moment))) is in
@@ -46,7 +46,7 @@ ended_ends : (base slots : List SlotRow) (o : Option ℕ) → AreFramed base →
 ended_ends base slots None framed ends = ends
 ended_ends base slots (Some host) framed ends = ends_lose (λ n. eqb n host) base slots framed ends
 
-pub lost_ends : (f : Farm) (moment : ℕ) (o : Option ℕ) (d e : Drafted) → IsKeptFarm f → d ≡ silenced_draft f moment → e ≡ with_slots d (slots_ended o d.farm.slots) → OnlyEnds e.base.slots e.farm.slots
+pub lost_ends : (f : Farm) (moment : ℕ) (o : Option ℕ) (d e : Drafted) → KeepsRows f → d ≡ silenced_draft f moment → e ≡ with_slots d (slots_ended o d.farm.slots) → OnlyEnds e.base.slots e.farm.slots
 lost_ends f moment o d e kept is next =
     let all = next ∙ ap (λ (x : Drafted). with_slots x (slots_ended o x.farm.slots)) is in
     subst (λ (x : Drafted). OnlyEnds x.base.slots x.farm.slots) (sym all) (ended_ends f.slots (expire (at_moment f moment) moment).slots o (framed_sound f kept.sound) (silenced_lost f moment kept))

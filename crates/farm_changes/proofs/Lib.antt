@@ -1,8 +1,9 @@
 mod CountedHosts
 mod DraftedRows
 pub mod FreeSlots
+mod HeardAlone
 mod HostsStay
 mod LostLives
 mod MadeChanges
-mod PlannedBoots
 mod OwnAttempts
+mod PlannedBoots

@@ -1,6 +1,7 @@
 -- Changes that make what entries make: in general, and those of subscriptions, boots and bookings.
-use Rattle.std.proofs.Common.{◌≡◌, ℕ, ◌<◌, ◌≤◌, max, true, false, List, [], ◌∷◌, length, Option, Some, None, refl, sym, ap, subst, ◌∙◌, arith}
+use Rattle.std.proofs.Common.{◌≡◌, ℕ, ◌<◌, ◌≤◌, max, true, false, List, [], ◌∷◌, length, Option, Some, None, map, nat_eq, refl, sym, ap, subst, ◌∙◌, arith}
 use Rattle.std.specs.Prelude.{Result, Ok, Err, All}
+use Rattle.std.specs.List.{IsDistinct}
 use Rattle.std.proofs.lemmas.List.Elements.{All-nil}
 use Rattle.farm_types.specs.declared.answer.Answer.TheVariants as answer
 use Rattle.farm_types.specs.declared.boot.BootLine.{BootLine}
@@ -10,9 +11,8 @@ use Rattle.farm_types.specs.declared.entry.Entry.{Entry}
 use Rattle.farm_types.specs.declared.slot_row.SlotRow.{SlotRow}
 use Rattle.farm_types.specs.declared.sub_line.SubLine.{SubLine}
 use Rattle.farm_types.specs.declared.limits.TheConstants.{SUB_NUMBERS}
-use Rattle.farm_types.specs.EntryAnswers.{answer_at}
 use Rattle.farm_types.specs.Farm.{Farm, alloc_named, show_named, sub_of}
-use Rattle.farm_types.specs.Kept.{IsKeptFarm, alloc_label, show_label}
+use Rattle.farm_types.specs.Kept.{KeepsRows, alloc_label, show_label}
 use Rattle.farm_types.specs.Booking.{may_record}
 use Rattle.farm_types.specs.Step.{act_refusal, after_act, after_boot, at_moment, expire, moment_of, new_proc, with_proc}
 use Rattle.farm_types.specs.Sums.{booked_in}
@@ -20,11 +20,11 @@ use Rattle.farm_law.proofs.KeptNames.{named_within}
 use Rattle.host_book.specs.Book.{alloc_of, plan_of}
 use Rattle.host_book.specs.declared.boots.BootPlan.{BootPlan}
 use Rattle.host_book.specs.declared.life.HostLife.{HostLife}
-use Rattle.farm_books.proofs.BookedRow.{booked_row_installs, booked_row_leaves}
+use Rattle.farm_books.proofs.BookedRow.{booked_at_moment, booked_row_installs, booked_row_leaves}
 use Rattle.farm_books.specs.Bookings.{booked_at}
-use Rattle.farm_draft.specs.Rows.{AreInstallable, AreReady, installed, put_lives, put_slots}
+use Rattle.farm_draft.specs.Rows.{AreInstallable, AreReady, installed, put_lives, put_slots, slot_of}
 use Rattle.farm_draft.specs.declared.rows.Rows.{Rows}
-use Rattle.farm_changes.specs.Change.{FitsMore, HasHeard, Makes, Prepares, after_change, boot_in, with_more, with_rows}
+use Rattle.farm_changes.specs.Change.{AnswersAct, FitsMore, HasHeard, Makes, Prepares, after_change, boot_in, with_more, with_rows}
 use Rattle.farm_changes.specs.RowsOf.{lives_ended}
 use Rattle.farm_changes.specs.declared.change.Change.{Change}
 use Rattle.farm_changes.specs.declared.change.More.TheVariants as more
@@ -46,7 +46,7 @@ makes_later f e moment change is makes =
       ready = makes.ready;
       unreserved = makes.unreserved;
       farm = makes.farm ∙ ap (λ (m : ℕ). after_act (at_moment f m) m e.act) same;
-      answer = makes.answer ∙ ap (λ (m : ℕ). answer_at f m e.act) same;
+      answer = subst (λ (m : ℕ). AnswersAct f m e.act change.answer) same makes.answer;
     }
 
 -- and so is a refusal
@@ -56,8 +56,8 @@ prepares_later f e a moment (Err (Refused why)) is same p = ap (act_refusal f) s
 prepares_later f e a moment (Err NoMemory) is same p = tt
 
 -- the change's parts
-pub makes : (f : Farm) (moment : ℕ) (a : Act) (change : Change) → f.moment ≤ moment → act_refusal f a ≡ None → HasHeard f a → AreReady f change.rows → FitsMore (with_rows f change) change.more
-    → change.reserved ≡ false → after_change f change ≡ after_act (at_moment f moment) moment a → change.answer ≡ answer_at f moment a → Makes f (record { moment = moment; act = a }) change
+pub makes : (f : Farm) (moment : ℕ) (a : Act) (change : Change) → f.moment ≤ moment → act_refusal f a ≡ None → HasHeard f a change.heard → AreReady f change.rows → FitsMore (with_rows f change) change.more
+    → change.reserved ≡ false → after_change f change ≡ after_act (at_moment f moment) moment a → AnswersAct f moment a change.answer → Makes f (record { moment = moment; act = a }) change
 makes f moment a change ahead accepted heard rows fits unreserved farm answer =
     let later : moment ≡ max f.moment moment = omega arith in
     record {
@@ -66,7 +66,7 @@ makes f moment a change ahead accepted heard rows fits unreserved farm answer =
       ready = record { rows = rows; more = fits };
       unreserved = unreserved;
       farm = farm ∙ ap (λ (m : ℕ). after_act (at_moment f m) m a) later;
-      answer = answer ∙ ap (λ (m : ℕ). answer_at f m a) later;
+      answer = subst (λ (m : ℕ). AnswersAct f m a change.answer) later answer;
     }
 
 -- ---- subscriptions
@@ -81,15 +81,24 @@ bare_installed f rows bare =
     ap (λ (es : List (ℕ × HostLife)). record f { hosts = put_lives f.hosts es; slots = put_slots f.slots rows.slots.items }) bare.hosts
     ∙ ap (λ (es : List (ℕ × SlotRow)). record f { slots = put_slots f.slots es }) bare.slots
 
-bare_ready : (f : Farm) (rows : Rows) → IsBare rows → AreReady f rows
+pub none_distinct : IsDistinct nat_eq []
+unfolding IsDistinct
+none_distinct = tt
+
+one_distinct : (slot : ℕ) → IsDistinct nat_eq (slot ∷ [])
+unfolding IsDistinct
+one_distinct slot = (tt, tt)
+
+pub bare_ready : (f : Farm) (rows : Rows) → IsBare rows → AreReady f rows
 bare_ready f rows bare =
     record {
       hosts_there = subst (λ (es : List (ℕ × HostLife)). All (λ e. e.0 < length f.hosts) es) (sym bare.hosts) (All-nil _);
       slots_ready = subst (λ (es : List (ℕ × SlotRow)). AreInstallable f.subs f.slots es) (sym bare.slots) tt;
+      slots_differ = subst (λ (es : List (ℕ × SlotRow)). IsDistinct nat_eq (map slot_of es)) (sym bare.slots) none_distinct;
     }
 
 -- of a show and an allocation that are there the number is below the most
-pub sub_below : (f : Farm) (show_name alloc_name : List ℕ) (show alloc : ℕ) → IsKeptFarm f → show_named f show_name ≡ Some show → alloc_named f alloc_name ≡ Some alloc → sub_of show alloc < SUB_NUMBERS
+pub sub_below : (f : Farm) (show_name alloc_name : List ℕ) (show alloc : ℕ) → KeepsRows f → show_named f show_name ≡ Some show → alloc_named f alloc_name ≡ Some alloc → sub_of show alloc < SUB_NUMBERS
 sub_below f show_name alloc_name show alloc kept show_is alloc_is =
     let show_there : show < length f.shows = named_within show_label show_name f.shows show show_is in
     let alloc_there : alloc < length f.allocs = named_within alloc_label alloc_name f.allocs alloc alloc_is in
@@ -100,6 +109,7 @@ sub_change moment line sub booked rows =
     record {
       moment = moment;
       answer = answer.Sub booked line.burst line.size;
+      heard = None;
       rows = rows;
       more = more.Sub sub line.size line.burst;
       reserved = false;
@@ -121,17 +131,17 @@ sub_makes f line moment show alloc sub booked rows change ahead show_is alloc_is
 
 abbrev boot_change : ℕ → BootLine → BootPlan → ℕ → Rows → Change
 boot_change moment line plan boot rows =
-    record { moment = moment; answer = answer.Boot boot line.nonce; rows = rows; more = more.Boot plan line; reserved = false; memory = taken.None }
+    record { moment = moment; answer = answer.Boot boot line.nonce; heard = None; rows = rows; more = more.Boot plan line; reserved = false; memory = taken.None }
 
 pub boot_makes : (f : Farm) (line copy : BootLine) (moment alloc boot : ℕ) (plan : BootPlan) (rows : Rows) (change : Change) → f.moment ≤ moment → alloc_named f line.alloc ≡ Some alloc → plan_of f.hosts line alloc ≡ Ok plan
     → AreReady f rows → installed (at_moment f moment) rows ≡ lives_ended (expire (at_moment f moment) moment) line → boot ≡ boot_in plan → copy ≡ line
-    → change ≡ record { moment = moment; answer = answer.Boot boot line.nonce; rows = rows; more = more.Boot plan copy; reserved = false; memory = taken.None }
+    → change ≡ record { moment = moment; answer = answer.Boot boot line.nonce; heard = None; rows = rows; more = more.Boot plan copy; reserved = false; memory = taken.None }
     → Makes f (record { moment = moment; act = act.Boot line }) change
 boot_makes f line copy moment alloc boot plan rows change ahead alloc_is plan_is ready installs boot_is same is =
     let p = planned f line alloc plan plan_is in
     let g = expire (at_moment f moment) moment in
     let whole : change ≡ boot_change moment line plan (boot_in plan) rows =
-    is ∙ (ap (λ (l : BootLine). record { moment = moment; answer = answer.Boot boot line.nonce; rows = rows; more = more.Boot plan l; reserved = false; memory = taken.None }) same ∙ ap (λ (n : ℕ). boot_change moment line plan n rows) boot_is) in
+    is ∙ (ap (λ (l : BootLine). record { moment = moment; answer = answer.Boot boot line.nonce; heard = None; rows = rows; more = more.Boot plan l; reserved = false; memory = taken.None }) same ∙ ap (λ (n : ℕ). boot_change moment line plan n rows) boot_is) in
     let fits : plan_of (installed (at_moment f moment) rows).hosts line (alloc_of plan) ≡ Ok plan =
     ap (λ (h : Farm). plan_of h.hosts line (alloc_of plan)) installs ∙ (silenced_plan f.hosts moment line (alloc_of plan) ∙ (ap (λ (n : ℕ). plan_of f.hosts line n) p.alloc_is ∙ plan_is)) in
     subst (Makes f (record { moment = moment; act = act.Boot line })) (sym whole)
@@ -146,20 +156,21 @@ boot_refuses f line moment alloc NoMemory alloc_is h = tt
 -- ---- bookings
 
 abbrev book_change : ℕ → Rows → Change
-book_change moment rows = record { moment = moment; answer = answer.Booked; rows = rows; more = more.Nothing; reserved = false; memory = taken.None }
+book_change moment rows = record { moment = moment; answer = answer.Booked; heard = None; rows = rows; more = more.Nothing; reserved = false; memory = taken.None }
 
-pub book_makes : (f : Farm) (slot host moment : ℕ) (row : SlotRow) (rows : Rows) (change : Change) → IsKeptFarm f → f.moment ≤ moment → may_record f slot host ≡ true → booked_at f slot host moment ≡ Some row
+pub book_makes : (f : Farm) (slot host moment : ℕ) (row : SlotRow) (rows : Rows) (change : Change) → KeepsRows f → f.moment ≤ moment → may_record f slot host ≡ true → booked_at f slot host moment ≡ Some row
     → rows.hosts.items ≡ [] → rows.slots.items ≡ (slot, row) ∷ [] → change ≡ book_change moment rows → Makes f (record { moment = moment; act = act.Book slot host }) change
 book_makes f slot host moment row rows change kept ahead allowed booked hosts slots is =
     let can = booked_row_installs f slot host moment row booked (waiting_free f slot host kept.sound allowed) kept.hosts.count in
     let ready : AreReady f rows = record {
       hosts_there = subst (λ (es : List (ℕ × HostLife)). All (λ e. e.0 < length f.hosts) es) (sym hosts) (All-nil _);
       slots_ready = subst (λ (es : List (ℕ × SlotRow)). AreInstallable f.subs f.slots es) (sym slots) (can, tt);
+      slots_differ = subst (λ (es : List (ℕ × SlotRow)). IsDistinct nat_eq (map slot_of es)) (sym slots) (one_distinct slot);
     } in
     let g = at_moment f moment in
     let farm : installed g rows ≡ with_proc g slot (new_proc g slot host moment) =
     ap (λ (es : List (ℕ × HostLife)). record g { hosts = put_lives f.hosts es; slots = put_slots f.slots rows.slots.items }) hosts
     ∙ (ap (λ (es : List (ℕ × SlotRow)). record g { slots = put_slots f.slots es }) slots
-    ∙ booked_row_leaves g slot host moment row booked) in
+    ∙ booked_row_leaves g slot host moment row (booked_at_moment f slot host moment moment ∙ booked)) in
     subst (Makes f (record { moment = moment; act = act.Book slot host })) (sym is)
     (makes f moment (act.Book slot host) (book_change moment rows) ahead refl tt ready tt refl farm refl)

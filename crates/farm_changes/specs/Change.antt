@@ -1,15 +1,16 @@
 -- Changes that were prepared: what each does to the farm, and what it needs of it.
 use Rattle.std.specs.Prelude.{ℕ, ◌≡◌, ◌<◌, ◌++◌, ◌∷◌, [], true, false, List, length, Option, None, Some, Result, Ok, Err}
 use Rattle.alloc_tags.specs.Book.{check_of}
+use Rattle.farm_types.specs.declared.answer.Answer.{Answer}
 use Rattle.farm_types.specs.declared.entry.Entry.{Entry}
 use Rattle.farm_types.specs.declared.entry.Act.{Act}
 use Rattle.farm_types.specs.declared.entry.Act.TheVariants as act
 use Rattle.farm_types.specs.declared.refusal.Refusal.TheVariants.{Unknown}
-use Rattle.farm_types.specs.EntryAnswers.{answer_of as entry_answer}
+use Rattle.farm_types.specs.EntryAnswers.{answer_at}
 use Rattle.farm_types.specs.Farm.{Farm, host_named, alloc_name}
 use Rattle.farm_types.specs.Hosts.{booted}
 use Rattle.farm_types.specs.Jobs.{with_job}
-use Rattle.farm_types.specs.Step.{refusal_of, lists_of, with_lists, at_moment, after}
+use Rattle.farm_types.specs.Step.{act_refusal, acted, lists_of, with_lists, at_moment, moment_of}
 use Rattle.farm_types.specs.Subs.{with_sub}
 use Rattle.farm_types.specs.declared.limits.TheConstants.{MOST_SHOWS, SUB_NUMBERS}
 use Rattle.host_book.specs.Book.{alloc_of, plan_of}
@@ -83,30 +84,32 @@ boot_in (plan.Again boot alloc) = boot
 
 -- ---- preparing
 
--- the host is there
-abbrev pub IsThere : Farm → Option ℕ → Type 0
-IsThere f None = ⊥
-IsThere f (Some host) = host < length f.hosts
+-- the host that a report is of is told
+abbrev pub HasHeard : Farm → Act → Option ℕ → Type 0
+HasHeard f (act.Heard heard) None = ⊥
+HasHeard f (act.Heard heard) (Some host) = host_named f heard.host ≡ Some host
+HasHeard f other told = Unit {0}
 
--- the host that was heard is there
-abbrev pub HasHeard : Farm → Act → Type 0
-HasHeard f (act.Heard heard) = IsThere f (host_named f heard.host)
-HasHeard f other = Unit {0}
+-- The answer to the act at the moment. Of a depend that is added or dropped nothing is said here: the layer above answers it.
+abbrev pub AnswersAct : Farm → ℕ → Act → Answer → Type 0
+AnswersAct f moment (act.AddDepend spec) said = Unit {0}
+AnswersAct f moment (act.DropDepend depend) said = Unit {0}
+AnswersAct f moment other said = said ≡ answer_at f moment other
 
--- The farm doesn't refuse the entry. The change fits the farm, makes the farm that the entry makes, and has the entry's answer.
--- Its memory isn't taken yet.
+-- The farm doesn't refuse the entry's act. The change fits the farm, makes the farm that the act makes, has the act's answer, and tells
+-- the host of a report. Its memory isn't taken yet.
 pub record Makes (f : Farm) (e : Entry) (change : Change) : Type 0 where
-  pub accepted : refusal_of f e ≡ None
-  pub heard : HasHeard f e.act
+  pub accepted : act_refusal f e.act ≡ None
+  pub heard : HasHeard f e.act change.heard
   pub ready : IsReady f change
   pub unreserved : change.reserved ≡ false
-  pub farm : after_change f change ≡ after f e
-  pub answer : change.answer ≡ entry_answer f e
+  pub farm : after_change f change ≡ acted f e
+  pub answer : AnswersAct f (moment_of f e.moment) e.act change.answer
 
--- a change that makes the entry, or exactly the farm's refusal; running out of memory needs no cause
+-- a change that makes what the entry's act does, or exactly the farm's refusal of the act; running out of memory needs no cause
 abbrev pub Prepares : Farm → Entry → Result Change PrepareFault → Type 0
 Prepares f e (Ok change) = Makes f e change
-Prepares f e (Err (Refused why)) = refusal_of f e ≡ Some why
+Prepares f e (Err (Refused why)) = act_refusal f e.act ≡ Some why
 Prepares f e (Err NoMemory) = Unit {0}
 
 -- a refusal that nothing of that name is there, or out of memory

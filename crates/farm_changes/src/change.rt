@@ -4,16 +4,17 @@ ghost use Rattle.std.specs.Prelude.{◌≡◌};
 
 use alloc_tags::Spare;
 use farm_draft::Rows;
-use farm_types::{Answer, BootLine, Cores, JobSpec, SubNo, Text};
+use farm_types::{Answer, BootLine, Cores, HostNo, JobSpec, SlotRow, SubNo, Text};
 use host_book::{BootPlan, HostSpare};
 use job_book::{JobSpare, Placing};
 
-/// A change that was prepared for an entry, at its moment (seconds): the rows that it leaves, and what the farm answers once it is applied. It is
-/// applied once its memory is reserved.
+/// A change that was prepared for an entry, at its moment (seconds): the rows that it leaves, what the farm answers once it is applied, and the host
+/// that a report is of. It is applied once its memory is reserved.
 #[derive(Debug, Drop)]
 pub struct Change {
     pub(crate) moment: u64,
     pub(crate) answer: Answer,
+    pub(crate) heard: Option<HostNo>,
     pub(crate) rows: Rows,
     pub(crate) more: More,
     pub(crate) reserved: bool,
@@ -67,5 +68,26 @@ impl Change {
         ensures { result ≡ self.now.answer }
     {
         self.answer
+    }
+
+    /// The host that a report is of, and none for another act.
+    pub fn heard(&self) -> Option<HostNo>
+        ensures { result ≡ self.now.heard }
+    {
+        self.heard
+    }
+
+    /// Another answer is given once the change is applied.
+    pub fn set_answer(&mut self, answer: Answer)
+        ensures { self.new ≡ record self.old { answer = answer } }
+    {
+        self.answer = answer;
+    }
+
+    /// The slots that the change sets, in the order in which they are set, each with the row that it gets.
+    pub fn slot_rows(&self) -> &[(u32, SlotRow)]
+        ensures { result.now ≡ self.now.rows.slots.items }
+    {
+        self.rows.slots.as_slice()
     }
 }

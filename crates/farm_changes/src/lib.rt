@@ -4,10 +4,12 @@
 mod applying;
 mod change;
 mod fault;
+mod prepare_depend;
 mod prepare_host;
 mod prepare_slots;
 mod preparing;
 mod refused;
+mod reports;
 mod rows_of;
 
 pub use applying::{apply, record, reserve};

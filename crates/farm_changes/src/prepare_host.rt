@@ -1,21 +1,26 @@
 //! Prepares what hosts say and what is done to them: boots, reports, locks, and time that passed.
 
-ghost use Rattle.std.specs.Prelude.{◌≡◌, ◌≤◌, ◌==◌, slice_get};
-ghost use Rattle.farm_types.specs.Kept.{IsKeptFarm};
+ghost use Rattle.std.specs.Prelude.{◌≡◌, ◌≤◌, ◌==◌, false, slice_get, Some};
+ghost use Rattle.farm_types.specs.Kept.{KeepsRows};
 ghost use Rattle.farm_types.specs.Limits.{BootKeepsLimits};
 ghost use Rattle.farm_types.specs.Lost.{count_on};
 ghost use Rattle.farm_types.specs.Step.{is_silent, name_of_alloc};
+ghost use Rattle.farm_types.specs.declared.answer.Answer.TheVariants as answer;
 ghost use Rattle.farm_types.specs.declared.entry.Act.TheVariants as act;
 ghost use Rattle.farm_changes.specs.Change.{Prepares, boot_in};
 ghost use Rattle.farm_changes.specs.Refused.{IsBootFault, IsExisting};
 ghost use Rattle.farm_changes.specs.SilentCounts.{is_silent_one};
+ghost use Rattle.farm_changes.specs.declared.change.More.TheVariants as more;
+ghost use Rattle.farm_changes.specs.declared.change.Reserved.TheVariants as taken;
 
 use crate::change::{Change, More};
 use crate::fault::PrepareFault;
 use crate::preparing::change_of;
 use crate::refused::{existing, existing_alloc, full, unknown};
-use crate::rows_of::{boot_rows, expired_rows, heard_rows, locked_rows, opened_rows};
+use crate::reports::heard_rows;
+use crate::rows_of::{boot_rows, expired_rows, locked_rows, opened_rows};
 use farm_books::Books;
+use farm_draft::Rows;
 use farm_types::{
     AllocNo, Answer, BootLine, Counted, HeardAct, HostNo, LAST_BOOT, LockState, MOST_HOSTS, Text,
 };
@@ -28,7 +33,7 @@ pub(crate) fn prepare_opened(
     books: &Books,
     moment: u64,
 ) -> Result<Change, PrepareFault>
-    requires kept { IsKeptFarm books.now }
+    requires kept { KeepsRows books.now }
     requires ahead { books.now.moment ≤ moment }
     ensures { Prepares books.now (record { moment = moment; act = act.Opened }) result }
 {
@@ -43,7 +48,7 @@ pub(crate) fn prepare_boot(
     moment: u64,
     line: &BootLine,
 ) -> Result<Change, PrepareFault>
-    requires kept { IsKeptFarm books.now }
+    requires kept { KeepsRows books.now }
     requires ahead { books.now.moment ≤ moment }
     requires limits { BootKeepsLimits line.now }
     ensures { Prepares books.now (record { moment = moment; act = act.Boot line.now }) result }
@@ -103,7 +108,7 @@ pub(crate) fn prepare_heard(
     moment: u64,
     heard: &HeardAct,
 ) -> Result<Change, PrepareFault>
-    requires kept { IsKeptFarm books.now }
+    requires kept { KeepsRows books.now }
     requires ahead { books.now.moment ≤ moment }
     ensures { Prepares books.now (record { moment = moment; act = act.Heard heard.now }) result }
 {
@@ -112,7 +117,16 @@ pub(crate) fn prepare_heard(
     };
     books.check_heard(host, heard.boot, heard.seq)?;
     let rows = heard_rows(alloc, books, moment, host, heard)?;
-    Ok(change_of(moment, Answer::Heard, rows, More::Nothing))
+    Ok(report_change(moment, host, rows))
+}
+
+// The change of a host's report, which leaves those rows.
+fn report_change(moment: u64, host: HostNo, rows: Rows) -> Change
+    ensures { result ≡ record { moment = moment; answer = answer.Heard; heard = Some host; rows = rows; more = more.Nothing; reserved = false; memory = taken.None } }
+{
+    let mut change = change_of(moment, Answer::Heard, rows, More::Nothing);
+    change.heard = Some(host);
+    change
 }
 
 /// Prepares that a host's lock gets that state.
@@ -123,7 +137,7 @@ pub(crate) fn prepare_lock(
     host: &Text,
     lock: LockState,
 ) -> Result<Change, PrepareFault>
-    requires kept { IsKeptFarm books.now }
+    requires kept { KeepsRows books.now }
     requires ahead { books.now.moment ≤ moment }
     ensures { Prepares books.now (record { moment = moment; act = act.Lock host.now lock }) result }
 {
@@ -140,7 +154,7 @@ pub(crate) fn prepare_tick(
     books: &Books,
     moment: u64,
 ) -> Result<Change, PrepareFault>
-    requires kept { IsKeptFarm books.now }
+    requires kept { KeepsRows books.now }
     requires ahead { books.now.moment ≤ moment }
     ensures { Prepares books.now (record { moment = moment; act = act.Tick }) result }
 {

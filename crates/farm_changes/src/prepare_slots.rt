@@ -2,7 +2,7 @@
 
 ghost use Rattle.std.specs.Prelude.{◌≡◌, ◌≤◌, ◌∷◌, [], true, IfOk};
 ghost use Rattle.farm_types.specs.Booking.{may_record};
-ghost use Rattle.farm_types.specs.Kept.{IsKeptFarm};
+ghost use Rattle.farm_types.specs.Kept.{KeepsRows};
 ghost use Rattle.farm_types.specs.declared.entry.Act.TheVariants as act;
 ghost use Rattle.farm_changes.specs.Change.{Prepares};
 
@@ -22,7 +22,7 @@ pub(crate) fn prepare_book(
     slot: Slot,
     host: HostNo,
 ) -> Result<Change, PrepareFault>
-    requires kept { IsKeptFarm books.now }
+    requires kept { KeepsRows books.now }
     requires ahead { books.now.moment ≤ moment }
     requires allowed { may_record books.now slot host ≡ true }
     ensures { Prepares books.now (record { moment = moment; act = act.Book slot host }) result }

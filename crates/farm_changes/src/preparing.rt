@@ -1,10 +1,10 @@
 //! Prepares the change that an entry makes, or says why the farm refuses it.
 
-ghost use Rattle.std.specs.Prelude.{◌≡◌, ◌≤◌, false};
+ghost use Rattle.std.specs.Prelude.{◌≡◌, ◌≤◌, false, None};
 ghost use Rattle.farm_types.specs.Limits.{SubKeepsLimits};
 ghost use Rattle.farm_types.specs.SpecLimits.{JobKeepsLimits};
 ghost use Rattle.farm_types.specs.Formed.{IsFormed};
-ghost use Rattle.farm_types.specs.Kept.{IsKeptFarm};
+ghost use Rattle.farm_types.specs.Kept.{KeepsRows};
 ghost use Rattle.farm_types.specs.Step.{HasCondition};
 ghost use Rattle.farm_types.specs.declared.entry.Act.TheVariants as act;
 ghost use Rattle.farm_changes.specs.declared.change.Reserved.TheVariants as taken;
@@ -12,6 +12,7 @@ ghost use Rattle.farm_changes.specs.Change.{Prepares};
 
 use crate::change::{Change, More, Reserved};
 use crate::fault::PrepareFault;
+use crate::prepare_depend::{prepare_added, prepare_dropped};
 use crate::prepare_host::{
     prepare_boot, prepare_heard, prepare_lock, prepare_opened, prepare_tick,
 };
@@ -25,10 +26,10 @@ use farm_types::{
 };
 use std::alloc::Global;
 
-/// Prepares what the entry does, and changes nothing. The farm keeps what every farm keeps, the entry is within its forms and limits, and an entry
-/// to book is one whose booking may be recorded.
+/// Prepares what the entry's act does, and changes nothing. The farm keeps what every farm keeps of its rows, the entry is within its forms and
+/// limits, and an entry to book is one whose booking may be recorded. What follows of depends is known to the layer above.
 pub fn prepare(alloc: Global, books: &Books, entry: &Entry) -> Result<Change, PrepareFault>
-    requires kept { IsKeptFarm books.now }
+    requires kept { KeepsRows books.now }
     requires condition { HasCondition books.now entry.now.act }
     requires formed { IsFormed entry.now }
     ensures { Prepares books.now entry.now result }
@@ -42,19 +43,22 @@ pub fn prepare(alloc: Global, books: &Books, entry: &Entry) -> Result<Change, Pr
         Act::Boot(line) => prepare_boot(alloc, books, moment, line),
         Act::Heard(heard) => prepare_heard(alloc, books, moment, heard),
         Act::Submit(spec) => prepare_submit(alloc, books, moment, spec),
+        Act::AddDepend(spec) => prepare_added(alloc, books, moment, spec),
+        Act::DropDepend { depend } => prepare_dropped(alloc, books, moment, *depend),
         Act::Lock { host, lock } => prepare_lock(alloc, books, moment, host, *lock),
         Act::Tick => prepare_tick(alloc, books, moment),
         Act::Book { slot, host } => prepare_book(alloc, books, moment, *slot, *host),
     }
 }
 
-/// A change of those rows, at the moment. Its memory isn't taken yet.
+/// A change of those rows, at the moment, which is of no report. Its memory isn't taken yet.
 pub(crate) fn change_of(moment: u64, answer: Answer, rows: Rows, more: More) -> Change
-    ensures { result ≡ record { moment = moment; answer = answer; rows = rows; more = more; reserved = false; memory = taken.None } }
+    ensures { result ≡ record { moment = moment; answer = answer; heard = None; rows = rows; more = more; reserved = false; memory = taken.None } }
 {
     Change {
         moment,
         answer,
+        heard: None,
         rows,
         more,
         reserved: false,
@@ -116,7 +120,7 @@ fn prepare_sub(
     moment: u64,
     line: &SubLine,
 ) -> Result<Change, PrepareFault>
-    requires kept { IsKeptFarm books.now }
+    requires kept { KeepsRows books.now }
     requires ahead { books.now.moment ≤ moment }
     requires limits { SubKeepsLimits line.now }
     ensures { Prepares books.now (record { moment = moment; act = act.Sub line.now }) result }

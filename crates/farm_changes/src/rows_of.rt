@@ -1,16 +1,16 @@
-//! The rows that hosts' reports, boots, locks and silence leave, each by a draft.
+//! The rows that boots, locks and silence of hosts leave, each by a draft.
 
 ghost use Rattle.std.specs.Prelude.{◌≡◌, map, IfOk};
 ghost use Rattle.farm_types.specs.Farm.{changed_at, host_named};
 ghost use Rattle.farm_types.specs.Hosts.{locked_row, reopened_row};
-ghost use Rattle.farm_types.specs.Kept.{IsKeptFarm};
+ghost use Rattle.farm_types.specs.Kept.{KeepsRows};
 ghost use Rattle.farm_types.specs.Step.{at_moment, expire};
 ghost use Rattle.farm_draft.specs.Rows.{AreReady, installed};
-ghost use Rattle.farm_changes.specs.RowsOf.{ending_life, heard_farm, lives_ended};
+ghost use Rattle.farm_changes.specs.RowsOf.{ending_life, lives_ended};
 
 use farm_books::Books;
 use farm_draft::{Draft, Rows};
-use farm_types::{BootLine, HeardAct, HostNo, LockState};
+use farm_types::{BootLine, HostNo, LockState};
 use std::alloc::{AllocError, Global};
 
 /// Every host that is up counts as heard.
@@ -25,31 +25,12 @@ pub(crate) fn opened_rows(alloc: Global, books: &Books, moment: u64) -> Result<R
 
 /// Silent hosts go down, and the attempts on them are lost.
 pub(crate) fn expired_rows(alloc: Global, books: &Books, moment: u64) -> Result<Rows, AllocError>
-    requires kept { IsKeptFarm books.now }
+    requires kept { KeepsRows books.now }
     ensures farm { IfOk result (λ rows. installed (at_moment books.now moment) rows ≡ expire (at_moment books.now moment) moment) }
     ensures ready { IfOk result (λ rows. AreReady books.now rows) }
 {
     let mut draft = Draft::new(alloc, books, moment);
     draft.expire()?;
-    draft.into_rows(alloc)
-}
-
-/// A host is heard, once silent hosts went down, and its completions end attempts.
-pub(crate) fn heard_rows(
-    alloc: Global,
-    books: &Books,
-    moment: u64,
-    host: HostNo,
-    heard: &HeardAct,
-) -> Result<Rows, AllocError>
-    requires kept { IsKeptFarm books.now }
-    ensures farm { IfOk result (λ rows. installed (at_moment books.now moment) rows ≡ heard_farm (expire (at_moment books.now moment) moment) host moment heard.now) }
-    ensures ready { IfOk result (λ rows. AreReady books.now rows) }
-{
-    let mut draft = Draft::new(alloc, books, moment);
-    draft.expire()?;
-    draft.hear(host, heard.seq)?;
-    draft.end_all(host, heard.boot, heard.done.as_slice())?;
     draft.into_rows(alloc)
 }
 
@@ -76,7 +57,7 @@ pub(crate) fn boot_rows(
     moment: u64,
     line: &BootLine,
 ) -> Result<Rows, AllocError>
-    requires kept { IsKeptFarm books.now }
+    requires kept { KeepsRows books.now }
     ensures farm { IfOk result (λ rows. installed (at_moment books.now moment) rows ≡ lives_ended (expire (at_moment books.now moment) moment) line.now) }
     ensures ready { IfOk result (λ rows. AreReady books.now rows) }
 {

@@ -7,7 +7,7 @@ use Rattle.std.proofs.lemmas.Option.{none-some}
 use Rattle.farm_types.proofs.Lists.{and_both, list_all-at, slice_get_below}
 use Rattle.farm_types.specs.Farm.{Farm}
 use Rattle.farm_types.specs.Forms.{is_between, is_name_text}
-use Rattle.farm_types.specs.Kept.{IsKeptFarm, are_tags, is_formed_host}
+use Rattle.farm_types.specs.Kept.{KeepsRows, are_tags, is_formed_host}
 use Rattle.farm_types.specs.Sums.{used_cores, used_memory}
 use Rattle.farm_types.specs.declared.limits.TheConstants.{LEAST_CORES, LEAST_MEMORY, MOST_CORES, MOST_MEMORY}
 use Rattle.farm_types.specs.declared.rows.HostRow.{HostRow}
@@ -30,7 +30,7 @@ host_most row formed =
       memory_within = leb-true row.memory MOST_MEMORY (and_both (nat_le LEAST_MEMORY row.memory) _ memory.0).1;
     }
 
-used_by : (f : Farm) (host : ℕ) (o : Option HostRow) → slice_get f.hosts host ≡ o → IsKeptFarm f → AreMost (used_cores f host) (used_memory f host)
+used_by : (f : Farm) (host : ℕ) (o : Option HostRow) → slice_get f.hosts host ≡ o → KeepsRows f → AreMost (used_cores f host) (used_memory f host)
 used_by f host None none k =
     let there = kept_hosts f k in
     let there_not : host < length f.hosts → ⊥ = λ below. let row = slice_get_below f.hosts host below in none-some row.0 (sym none ∙ row.1) in
@@ -44,5 +44,5 @@ used_by f host (Some row) at k =
     }
 
 -- the sums fit the row's types
-pub used_most : (f : Farm) (host : ℕ) → IsKeptFarm f → AreMost (used_cores f host) (used_memory f host)
+pub used_most : (f : Farm) (host : ℕ) → KeepsRows f → AreMost (used_cores f host) (used_memory f host)
 used_most f host k = used_by f host (slice_get f.hosts host) refl k

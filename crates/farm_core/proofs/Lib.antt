@@ -1,2 +1,6 @@
-mod Amounts
-mod KeptChanges
+pub mod Amounts
+pub mod Applying
+pub mod Bookings
+pub mod Kept
+pub mod Numbers
+pub mod Prepared

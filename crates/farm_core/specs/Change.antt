@@ -1,30 +1,57 @@
--- Changes that were prepared: what each needs of the farm, so that the farm that it makes keeps what every farm keeps.
-use Rattle.std.specs.Prelude.{◌≡◌, false, None, Some, Result, Ok, Err}
+-- Changes that were prepared: what each does to the farm, and what it needs of it, so that the farm that it makes keeps what every farm keeps.
+use Rattle.std.specs.Prelude.{◌≡◌, map, false, [], None, Some, Result, Ok, Err}
 use Rattle.farm_types.specs.declared.entry.Entry.{Entry}
 use Rattle.farm_types.specs.EntryAnswers.{answer_of as entry_answer}
 use Rattle.farm_types.specs.Farm.{Farm}
 use Rattle.farm_types.specs.Kept.{IsKeptFarm}
 use Rattle.farm_types.specs.Step.{refusal_of, after}
 use Rattle.farm_changes.specs.Change as books
-use Rattle.farm_changes.specs.Change.{after_change, HasHeard}
-use Rattle.farm_changes.specs.declared.change.Change.{Change}
+use Rattle.farm_changes.specs.Change.{HasHeard}
 use Rattle.farm_changes.specs.declared.fault.PrepareFault.{PrepareFault}
 use Rattle.farm_changes.specs.declared.fault.PrepareFault.TheVariants.{Refused, NoMemory}
+use Rattle.farm_depends.specs.Follow.{FollowFits, after_follow, follow_reserved, spare_for}
+use Rattle.farm_core.specs.declared.change.Change.{Change}
 
--- the change fits the farm, and the farm that it makes keeps what every farm keeps
+-- ---- what a change does
+
+-- the farm after the act, before what follows of depends
+abbrev pub after_act : Farm → Change → Farm
+after_act f change = books.after_change f change.act
+
+abbrev pub after_change : Farm → Change → Farm
+after_change f change = after_follow (after_act f change) change.follow
+
+-- ---- what it needs
+
+-- the change and what follows fit the farm, and the farm that it makes keeps what every farm keeps
 pub record IsReady (f : Farm) (change : Change) : Type 0 where
-  pub fits : books.IsReady f change
+  pub fits : books.IsReady f change.act
+  pub follows : FollowFits f (after_act f change) change.follow
   pub kept : IsKeptFarm (after_change f change)
+
+-- no memory was taken yet
+pub record IsUnreserved (change : Change) : Type 0 where
+  pub act : change.act.reserved ≡ false
+  pub follow : change.follow.spares ≡ []
+
+-- the memory that the change needs was taken
+pub record IsReserved (change : Change) : Type 0 where
+  pub act : books.IsReserved change.act
+  pub follow : change.follow.spares ≡ map spare_for change.follow.depends
+
+-- the same change, with its memory taken
+abbrev pub reserved_of : Change → Change
+reserved_of change = record { act = books.reserved_of change.act; follow = follow_reserved change.follow }
 
 -- The farm doesn't refuse the entry. The change fits the farm, makes the farm that the entry makes, and has the entry's answer.
 -- Its memory isn't taken yet.
 pub record Makes (f : Farm) (e : Entry) (change : Change) : Type 0 where
   pub accepted : refusal_of f e ≡ None
-  pub heard : HasHeard f e.act
+  pub heard : HasHeard f e.act change.act.heard
   pub ready : IsReady f change
-  pub unreserved : change.reserved ≡ false
+  pub unreserved : IsUnreserved change
   pub farm : after_change f change ≡ after f e
-  pub answer : change.answer ≡ entry_answer f e
+  pub answer : change.act.answer ≡ entry_answer f e
 
 -- a change that makes the entry, or exactly the farm's refusal; running out of memory needs no cause
 abbrev pub Prepares : Farm → Entry → Result Change PrepareFault → Type 0

@@ -30,7 +30,8 @@ impl Farm {
     pub fn is_open(&self, slot: Slot) -> bool
         ensures { result ≡ is_open self.now slot }
     {
-        self.books.is_open(slot)
+        self.depends.kept();
+        self.depends.unmet(slot) == 0
     }
 
     /// Whether frames of the job may be booked on the host, as far as host and job decide it: the host is up and open, and the job isn't paused and of

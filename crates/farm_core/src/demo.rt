@@ -8,8 +8,8 @@ ghost use Rattle.farm_types.specs.Step.{after};
 ghost use Rattle.farm_core.specs.Change.{Makes};
 ghost use Rattle.farm_law.specs.DemoRun.{demo_alloc, demo_boot, demo_layer_spec, demo_numbers, demo_show, demo_spec, demo_sub, demo_submit};
 
+use crate::change::Change;
 use crate::farm::Farm;
-use farm_changes::Change;
 use farm_types::{Act, BootLine, Cores, Entry, Items, JobSpec, Kb, LayerSpec, SubLine, Text};
 use std::alloc::{AllocError, Global};
 
@@ -135,6 +135,7 @@ fn spec_of(alloc: Global) -> Result<JobSpec, AllocError>
         auto_eat: false,
         paused: false,
         layers: Items::from_vec(Vec::from_array(alloc, [layer_of(alloc)?])?),
+        depends: Items::new(alloc),
     })
 }
 

@@ -2,12 +2,15 @@
 #![tactic(auto)]
 
 mod booking;
+mod change;
 mod demo;
 mod farm;
+mod following;
 mod look;
 mod read;
 mod record;
 
+pub use change::Change;
 pub use demo::demo_farm;
 pub use farm::Farm;
-pub use farm_changes::{Change, PrepareFault};
+pub use farm_changes::PrepareFault;

@@ -2,6 +2,8 @@
 
 ghost use Rattle.std.specs.Prelude.{◌≡◌, ◌≤◌, ℕ, length, slice_get, option_copied, All, IfSome, IfNone};
 ghost use Rattle.job_book.specs.Book.{IsLeastAbove};
+ghost use Rattle.farm_types.specs.DependActs.{depend_at};
+ghost use Rattle.farm_core.specs.Reads.{depend_after};
 ghost use Rattle.farm_types.specs.Farm.{job_at, layer_at, sub_at, sub_of};
 ghost use Rattle.farm_types.specs.Run.{live_at};
 ghost use Rattle.farm_types.specs.Step.{lists_of};
@@ -11,8 +13,8 @@ ghost use Rattle.farm_books.specs.Reads.{job_after};
 
 use crate::farm::Farm;
 use farm_types::{
-    AllocNo, AllocRow, HostNo, HostRow, JobNo, JobRow, LayerRow, ProcRow, ShowNo, ShowRow, Slot,
-    SlotRow, SubNo, SubRow,
+    AllocNo, AllocRow, DependNo, DependRow, HostNo, HostRow, JobNo, JobRow, LayerRow, ProcRow,
+    ShowNo, ShowRow, Slot, SlotRow, SubNo, SubRow,
 };
 use job_book::Jobs;
 use sub_ledger::Subs;
@@ -119,5 +121,19 @@ impl Farm {
         ensures { result ≡ live_at self.now slot }
     {
         self.books.live(slot)
+    }
+
+    /// The depend of that number.
+    pub fn depend(&self, depend: DependNo) -> Option<&DependRow>
+        ensures { option_copied result ≡ depend_at self.now depend }
+    {
+        self.depends.row(depend)
+    }
+
+    /// The depend with the least number above this one.
+    pub fn next_depend(&self, after: u32) -> Option<DependNo>
+        ensures { result ≡ depend_after self.now after }
+    {
+        self.depends.next(after)
     }
 }

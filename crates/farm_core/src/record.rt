@@ -5,11 +5,13 @@ ghost use Rattle.farm_types.specs.declared.entry.Act.TheVariants as act;
 ghost use Rattle.farm_types.specs.Booking.{may_book};
 ghost use Rattle.farm_types.specs.Formed.{IsFormed};
 ghost use Rattle.farm_types.specs.Step.{HasCondition, after};
-ghost use Rattle.farm_changes.specs.Change.{IsReserved, after_change, reserved_of};
-ghost use Rattle.farm_core.specs.Change.{IsReady, Prepares};
+ghost use Rattle.farm_core.specs.Change.{IsReady, IsReserved, Prepares, after_change, reserved_of};
 
+use crate::change::Change;
 use crate::farm::Farm;
-use farm_changes::{Change, PrepareFault, apply, prepare, record, reserve};
+use crate::following::with_follow;
+use farm_changes::{PrepareFault, apply, prepare, reserve};
+use farm_depends::{apply_follow, reserve_follow};
 use farm_types::{Answer, Entry, HostNo, Slot};
 use std::alloc::{AllocError, Global};
 
@@ -21,7 +23,8 @@ impl Farm {
         requires formed { IsFormed entry.now }
         ensures { Prepares self.now entry.now result }
     {
-        prepare(alloc, &self.books, entry)
+        let act = prepare(alloc, &self.books, entry)?;
+        with_follow(alloc, &self.books, &self.depends, entry, act)
     }
 
     /// Takes the memory that the change needs, so that applying it takes none. The farm is as before.
@@ -30,7 +33,10 @@ impl Farm {
         ensures ok { OnOk result (change.new ≡ reserved_of change.old) }
         ensures err { OnErr result (change.new ≡ change.old) }
     {
-        reserve(&mut self.books, alloc, change)
+        let spares = reserve_follow(&mut self.depends, alloc, &change.follow)?;
+        reserve(&mut self.books, alloc, &mut change.act)?;
+        change.follow.spares = spares;
+        Ok(())
     }
 
     /// Applies a change that fits the farm and whose memory was taken. It takes no memory.
@@ -38,10 +44,14 @@ impl Farm {
         requires ready { IsReady self.old change }
         requires reserved { IsReserved change }
         ensures farm { self.new ≡ after_change self.old change }
-        ensures answer { result ≡ change.answer }
+        ensures answer { result ≡ change.act.answer }
         ensures hosts { length self.old.hosts ≤ length self.new.hosts }
     {
-        apply(&mut self.books, change)
+        self.depends.kept();
+        let Change { act, follow } = change;
+        let answer = apply(&mut self.books, act);
+        apply_follow(&mut self.books, &mut self.depends, follow);
+        answer
     }
 
     /// Takes the memory that the change needs, and applies it. At an `Err`, where memory ran out, the farm is as before.
@@ -51,7 +61,10 @@ impl Farm {
         ensures err { OnErr result (self.new ≡ self.old) }
         ensures hosts { length self.old.hosts ≤ length self.new.hosts }
     {
-        record(&mut self.books, alloc, change)
+        let mut change = change;
+        self.reserve(alloc, &mut change)?;
+        self.apply(change);
+        Ok(())
     }
 
     /// Books the slot's frame on the host, at the later of the farm's moment and this one (seconds), where it may be booked, and says whether
@@ -60,6 +73,7 @@ impl Farm {
         ensures said { result ≡ may_book self.old slot host }
         ensures farm { self.new ≡ (if may_book self.old slot host then after self.old (record { moment = moment; act = act.Book slot host }) else self.old) }
     {
+        self.depends.kept();
         self.books.book_if(slot, host, moment)
     }
 }

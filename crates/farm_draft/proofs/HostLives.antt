@@ -9,11 +9,11 @@ use Rattle.farm_types.specs.Farm.{Farm, changed_at, for_some}
 use Rattle.farm_types.specs.Hosts.{down_row, is_unheard, reopened_row, silenced_row}
 use Rattle.farm_types.specs.Lost.{lose_on}
 use Rattle.farm_types.specs.Step.{is_silent}
-use Rattle.host_book.specs.Life.{life_of}
+use Rattle.host_book.specs.Life.{is_unheard_life, life_of}
 use Rattle.host_book.specs.declared.life.HostLife.{HostLife}
 use Rattle.farm_types.proofs.ChangedLists.{changed_at_kept}
 use Rattle.farm_types.proofs.Passes.{option_map-from}
-use Rattle.farm_draft.specs.Lost.{expired_one, is_unheard_life}
+use Rattle.farm_draft.specs.Lost.{expired_one}
 
 -- a host that is down isn't opened again
 pub stays_down : (moment host : ℕ) (hosts : List HostRow) (life : HostLife) → option_map life_of (slice_get hosts host) ≡ Some life → is_up life.state ≡ false → changed_at hosts host (reopened_row moment) ≡ hosts

@@ -1,5 +1,5 @@
 pub mod EndsLemmas
-mod Expired
+pub mod Expired
 pub mod FirstAttempts
 mod HostLives
 mod LaidRows

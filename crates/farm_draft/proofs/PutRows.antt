@@ -1,13 +1,13 @@
 -- Rows that are put in one after another, and the same rows laid over the list.
 use Rattle.std.proofs.Common.{◌≡◌, ◌≢◌, ◌⊎◌, inl, inr, ℕ, zero, suc, ◌+◌, ◌<◌, Bool, true, false, List, [], ◌∷◌, ◌++◌, length, Option, None, Some, slice_get, slice_set, All, nat_eq, eqb, refl, sym, ap, subst, ◌∙◌, append_assoc, arith}
 use Rattle.std.specs.Cmp.{nat_eq_equiv}
-use Rattle.std.specs.List.{IsDistinct}
+use Rattle.std.specs.List.{AllByRecursion, IsDistinct}
 use Rattle.std.specs.Map.{keys_of, lookup}
 use Rattle.std.proofs.lemmas.List.{append-nil}
 use Rattle.std.proofs.lemmas.List.Elements.{All-head, All-tail, All-nil, All-push, All-weaker, All-contains_itself}
 use Rattle.std.proofs.lemmas.Map.{lookup-none}
 use Rattle.std.proofs.lemmas.Map.Entries.{lookup_head, lookup_tail, none_past_head}
-use Rattle.std.proofs.lemmas.Map.Keys.{IsDistinct-tail}
+use Rattle.std.proofs.lemmas.Map.Keys.{IsDistinct-cons, IsDistinct-head, IsDistinct-tail}
 use Rattle.std.proofs.lemmas.Map.Views.{lookup-from_Contains}
 use Rattle.std.proofs.lemmas.Bool.{ne_eqb}
 use Rattle.std.proofs.lemmas.Bool.Decides.{eqb_tells}
@@ -94,12 +94,24 @@ put_idle {P} {X} put xs all [] e rest at e_at idle = ap (λ (ys : List X). put_a
 put_idle put xs all (d ∷ done) e rest at e_at idle =
     put_idle put (changed_at xs d.0 (put d.1)) all done e rest (All-tail (IsAt all) d done at) e_at (still_idle put xs all d e (All-head (IsAt all) d done at) e_at idle)
 
--- the entries that were kept, with those that are left, come to what all come to; those that were kept are of one kind, and all are at their numbers
+-- numbers of which one is left out stay distinct
+apart_without : {P : Type 0} (n : ℕ) (done : List (ℕ × P)) (e : ℕ × P) (rest : List (ℕ × P)) → AllByRecursion (λ k. nat_eq n k ≡ false) (keys_of (done ++ e ∷ rest)) → AllByRecursion (λ k. nat_eq n k ≡ false) (keys_of (done ++ rest))
+apart_without n [] e rest apart = apart.1
+apart_without n (d ∷ done) e rest apart = (apart.0, apart_without n done e rest apart.1)
+
+distinct_without : {P : Type 0} (done : List (ℕ × P)) (e : ℕ × P) (rest : List (ℕ × P)) → IsDistinct nat_eq (keys_of (done ++ e ∷ rest)) → IsDistinct nat_eq (keys_of (done ++ rest))
+distinct_without [] e rest distinct = IsDistinct-tail nat_eq e.0 (keys_of rest) distinct
+distinct_without (d ∷ done) e rest distinct =
+    IsDistinct-cons nat_eq d.0 (keys_of (done ++ rest)) (apart_without d.0 done e rest (IsDistinct-head nat_eq d.0 (keys_of (done ++ e ∷ rest)) distinct))
+    (distinct_without done e rest (IsDistinct-tail nat_eq d.0 (keys_of (done ++ e ∷ rest)) distinct))
+
+-- the entries that were kept, with those that are left, come to what all come to; those that were kept are of one kind, all are at their numbers, and no number stands twice
 pub record IsPicked {P X : Type 0} (put : P → X → X) (xs : List X) (Q : ℕ × P → Type 0) (all done rest : List (ℕ × P)) : Type 0 where
   pub same : put_all put xs (done ++ rest) ≡ put_all put xs all
   pub differ : All Q done
   pub at : All (IsAt all) done
   pub left : All (IsAt all) rest
+  pub distinct : IsDistinct nat_eq (keys_of (done ++ rest))
 
 module _ {P X : Type 0} (put : P → X → X) (xs : List X) (Q : ℕ × P → Type 0) (all : List (ℕ × P)) where
   pub picked_none : (done left : List (ℕ × P)) → done ≡ [] → left ≡ all → IsDistinct nat_eq (keys_of all) → IsPicked put xs Q all done left
@@ -109,6 +121,7 @@ module _ {P X : Type 0} (put : P → X → X) (xs : List X) (Q : ℕ × P → Ty
         differ = All-nil Q;
         at = All-nil (IsAt all);
         left = All-weaker _ (IsAt all) (λ e there. lookup-from_Contains nat_eq_equiv e.0 e.1 all distinct there) all (All-contains_itself all);
+        distinct = distinct;
       })
 
   -- one entry more is kept, or left out
@@ -120,6 +133,7 @@ module _ {P X : Type 0} (put : P → X → X) (xs : List X) (Q : ℕ × P → Ty
         differ = All-push Q done e p.differ q;
         at = All-push (IsAt all) done e p.at (All-head (IsAt all) e rest p.left);
         left = All-tail (IsAt all) e rest p.left;
+        distinct = subst (λ (es : List (ℕ × P)). IsDistinct nat_eq (keys_of es)) (sym (append_assoc done (e ∷ []) rest)) p.distinct;
       }
 
   pub picked_past : (done left : List (ℕ × P)) (e : ℕ × P) (rest : List (ℕ × P)) → left ≡ e ∷ rest → IsPicked put xs Q all done left → IsIdle put xs e → IsPicked put xs Q all done rest
@@ -130,6 +144,7 @@ module _ {P X : Type 0} (put : P → X → X) (xs : List X) (Q : ℕ × P → Ty
         differ = p.differ;
         at = p.at;
         left = All-tail (IsAt all) e rest p.left;
+        distinct = distinct_without done e rest p.distinct;
       }
 
   -- at the end, what was kept comes to all that is laid over the list
@@ -137,6 +152,11 @@ module _ {P X : Type 0} (put : P → X → X) (xs : List X) (Q : ℕ × P → Ty
   picked_all done left none picked distinct =
       let p = subst (λ (ls : List (ℕ × P)). IsPicked put xs Q all done ls) none picked in
       ap (put_all put xs) (sym (append-nil done)) ∙ p.same ∙ put_laid put xs all distinct
+
+  pub picked_distinct : (done left : List (ℕ × P)) → left ≡ [] → IsPicked put xs Q all done left → IsDistinct nat_eq (keys_of done)
+  picked_distinct done left none picked =
+      let p = subst (λ (ls : List (ℕ × P)). IsPicked put xs Q all done ls) none picked in
+      subst (λ (es : List (ℕ × P)). IsDistinct nat_eq (keys_of es)) (append-nil done) p.distinct
 
 -- ---- entries that change nothing, and others
 

@@ -1,21 +1,14 @@
 -- What is lost with one host.
-use Rattle.std.specs.Prelude.{ℕ, ◌==◌, ◌&&◌, ◌-◌, Bool, nat_lt, if◌then◌else◌}
+use Rattle.std.specs.Prelude.{ℕ, ◌==◌, Bool, if◌then◌else◌}
 use Rattle.farm_types.specs.declared.slot_row.SlotRow.{SlotRow}
-use Rattle.farm_types.specs.Booking.{is_up}
 use Rattle.farm_types.specs.Farm.{Farm, changed_at}
 use Rattle.farm_types.specs.Hosts.{silenced_row}
 use Rattle.farm_types.specs.Lost.{lose_on, lost_row, runs_on}
 use Rattle.farm_types.specs.Step.{is_silent}
-use Rattle.farm_types.specs.declared.limits.TheConstants.{SILENT_SECONDS}
-use Rattle.host_book.specs.declared.life.HostLife.{HostLife}
 
 -- the slot, without its attempt where that is on such a host
 abbrev pub lost_where : (ℕ → Bool) → SlotRow → SlotRow
 lost_where test s = if runs_on test s then lost_row s else s
-
--- a host of that life is up, and the moment is more than so many seconds past the one when it was last heard
-abbrev pub is_unheard_life : ℕ → HostLife → Bool
-is_unheard_life moment life = is_up life.state && nat_lt SILENT_SECONDS (moment - life.heard)
 
 -- the host goes down, if it is silent, and the attempts on it are lost
 abbrev pub expired_one : Farm → ℕ → ℕ → Farm

@@ -1,5 +1,6 @@
 -- Rows that are put in, one after another.
-use Rattle.std.specs.Prelude.{ℕ, ◌≡◌, ◌≢◌, ◌<◌, List, [], ◌∷◌, length, slice_get, slice_set, Option, None, Some, All}
+use Rattle.std.specs.Prelude.{ℕ, ◌≡◌, ◌≢◌, ◌<◌, List, [], ◌∷◌, map, length, nat_eq, slice_get, slice_set, Option, None, Some, All}
+use Rattle.std.specs.List.{IsDistinct}
 use Rattle.farm_types.specs.declared.rows.HostRow.{HostRow}
 use Rattle.farm_types.specs.declared.rows.SubRow.{SubRow}
 use Rattle.farm_types.specs.declared.slot_row.SlotRow.{SlotRow}
@@ -54,7 +55,11 @@ abbrev pub HasSameLife : Option HostRow → HostLife → Type 0
 HasSameLife None life = Unit {0}
 HasSameLife (Some row) life = life_of row ≡ life
 
--- the hosts are there, and each row of a slot may be put in
+abbrev pub slot_of : ℕ × SlotRow → ℕ
+slot_of e = e.0
+
+-- the hosts are there, each row of a slot may be put in, and no slot has two rows
 pub record AreReady (f : Farm) (rows : Rows) : Type 0 where
   pub hosts_there : All (λ e. e.0 < length f.hosts) rows.hosts.items
   pub slots_ready : AreInstallable f.subs f.slots rows.slots.items
+  pub slots_differ : IsDistinct nat_eq (map slot_of rows.slots.items)

@@ -81,7 +81,7 @@ impl<'a> Draft<'a> {
 }
 
 // Whether a host of that life is up.
-pub(crate) fn is_up(life: &HostLife) -> bool
+fn is_up(life: &HostLife) -> bool
     ensures { result ≡ is_up life.now.state }
 {
     matches!(life.state, HostState::Up)

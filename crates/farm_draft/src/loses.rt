@@ -7,11 +7,10 @@ ghost use Rattle.farm_types.specs.Step.{at_moment, expire};
 ghost use Rattle.farm_types.specs.declared.states.FrameState.TheVariants as frame_state;
 ghost use Rattle.farm_draft.specs.Drafted.{with_farm, with_slots};
 ghost use Rattle.farm_draft.specs.Ends.{AreFramed, OnlyEnds};
-ghost use Rattle.farm_draft.specs.Lost.{expired_one, is_unheard_life, lost_where};
+ghost use Rattle.farm_draft.specs.Lost.{expired_one, lost_where};
 
 use crate::draft::Draft;
-use crate::life::is_up;
-use farm_types::{Frame, FrameState, HostNo, HostState, SILENT_SECONDS, Slot, SlotRow};
+use farm_types::{Frame, FrameState, HostNo, HostState, Slot, SlotRow};
 use host_book::HostLife;
 use std::alloc::AllocError;
 
@@ -68,7 +67,7 @@ impl<'a> Draft<'a> {
         let Some(life) = self.life(host) else {
             return Ok(());
         };
-        if !is_unheard(&life, self.moment) {
+        if !life.is_silent(self.moment) {
             return Ok(());
         }
         self.lose(host)?;
@@ -82,13 +81,6 @@ impl<'a> Draft<'a> {
             },
         )
     }
-}
-
-// Whether a host of that life is up and unheard for more than 300 seconds.
-fn is_unheard(life: &HostLife, moment: u64) -> bool
-    ensures { result ≡ is_unheard_life moment life.now }
-{
-    is_up(life) && moment.saturating_sub(life.heard) > SILENT_SECONDS
 }
 
 // The slot without its attempt: its frame waits again.

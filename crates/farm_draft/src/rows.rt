@@ -1,12 +1,13 @@
 //! The rows that a draft has changed.
 
-ghost use Rattle.std.specs.Prelude.{◌≡◌, ◌↔◌, [], nat_eq, slice_get, Some, All, IfOk, IsTrue};
+ghost use Rattle.std.specs.Prelude.{◌≡◌, ◌↔◌, [], map, nat_eq, slice_get, Some, All, IfOk, IsTrue};
+ghost use Rattle.std.specs.List.{IsDistinct};
 ghost use Rattle.indexmap.specs.IndexMap.{get};
 ghost use Rattle.host_book.specs.Life.{with_life};
 ghost use Rattle.farm_draft.specs.Laid.{laid, whole};
 ghost use Rattle.farm_types.specs.Step.{at_moment};
 ghost use Rattle.farm_draft.specs.Ends.{OnlyEnds};
-ghost use Rattle.farm_draft.specs.Rows.{AreReady, HasSameLife, IsChanged, IsOtherLife, IsSameRow, installed, put_lives, put_slots};
+ghost use Rattle.farm_draft.specs.Rows.{AreReady, HasSameLife, IsChanged, IsOtherLife, IsSameRow, installed, put_lives, put_slots, slot_of};
 
 use crate::draft::Draft;
 use farm_books::Books;
@@ -27,6 +28,7 @@ impl Rows {
     pub fn none(alloc: Global) -> Rows
         ensures hosts { result.hosts.items ≡ [] }
         ensures slots { result.slots.items ≡ [] }
+        ensures numbers { IsDistinct nat_eq (map slot_of result.slots.items) }
     {
         Rows {
             hosts: Vec::new(alloc),
@@ -79,6 +81,7 @@ fn changed_slots(
     ensures all { IfOk result (λ entries. put_slots books.now.slots entries.items ≡ laid whole (get nat_eq over) books.now.slots) }
     ensures differ { IfOk result (λ entries. All (IsChanged books.now.slots) entries.items) }
     ensures over { IfOk result (λ entries. All (λ e. get nat_eq over e.0 ≡ Some e.1) entries.items) }
+    ensures numbers { IfOk result (λ entries. IsDistinct nat_eq (map slot_of entries.items)) }
 {
     let mut entries = Vec::new(alloc);
     for (slot, row) in over {

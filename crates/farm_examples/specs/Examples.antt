@@ -108,6 +108,7 @@ high =
       auto_eat = false;
       paused = false;
       layers = high_layer ∷ [];
+      depends = [];
     }
 
 -- the entry that submits a job

@@ -2,9 +2,11 @@
 #![tactic(auto)]
 
 mod examples;
+mod waiting;
 
 pub use examples::{
     burst_stops_at_four, higher_jobs_come_first, new_lives_lose_attempts,
     old_completions_count_nothing, silent_hosts_lose_attempts, stale_reports_are_refused,
     submits_are_refused_in_order, sums_follow_attempts, texts_of_the_demonstration,
 };
+pub use waiting::{depends_are_refused, jobs_wait_for_jobs};

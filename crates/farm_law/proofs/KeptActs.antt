@@ -8,7 +8,7 @@ use Rattle.std.proofs.lemmas.Option.{option_and_then_some}
 use Rattle.farm_types.proofs.Passes.{option_map-from}
 use Rattle.farm_types.specs.Booking.{may_record}
 use Rattle.farm_types.specs.declared.entry.Act.{Act}
-use Rattle.farm_types.specs.declared.entry.Act.TheVariants.{Opened, Show, Alloc, Sub, Boot, Heard, Submit, Lock, Tick, Book}
+use Rattle.farm_types.specs.declared.entry.Act.TheVariants.{Opened, Show, Alloc, Sub, Boot, Heard, Submit, AddDepend, DropDepend, Lock, Tick, Book}
 use Rattle.farm_types.specs.declared.job.JobSpec.{JobSpec}
 use Rattle.farm_types.specs.declared.states.LockState.{LockState}
 use Rattle.farm_types.specs.declared.sub_line.SubLine.{SubLine}
@@ -16,7 +16,7 @@ use Rattle.farm_types.specs.Farm.{Farm, alloc_named, changed_at, has_facility, h
 use Rattle.farm_types.specs.Formed.{IsFormedAct, IsFormedJob}
 use Rattle.farm_types.specs.Hosts.{locked_row, reopened_row}
 use Rattle.farm_types.specs.Jobs.{frames_of, job_refusal, layer_rows}
-use Rattle.farm_types.specs.Kept.{IsKeptFarm, KeepsJobs, alloc_label, show_label}
+use Rattle.farm_types.specs.Kept.{KeepsRows, KeepsJobs, alloc_label, show_label}
 use Rattle.farm_types.specs.Limits.{SubKeepsLimits}
 use Rattle.farm_types.specs.Step.{HasCondition, act_refusal, after_act, after_lock, after_sub, after_submit, booked_row, expire, lists_of, new_proc, proc_of, sub_named, sub_row, submit_refusal, with_proc}
 use Rattle.farm_law.proofs.ActLaws.{act_law}
@@ -37,7 +37,7 @@ use Rattle.farm_law.proofs.Placed.{job_waits, submit_law}
 -- ---- what names something that is there
 
 -- the subscription of a show and an allocation that are there
-subscribed : (f : Farm) (line : SubLine) (show alloc : ℕ) → show < length f.shows → alloc < length f.allocs → SubKeepsLimits line → IsKeptFarm f → IsKeptFarm (after_sub f line (Some (sub_of show alloc)))
+subscribed : (f : Farm) (line : SubLine) (show alloc : ℕ) → show < length f.shows → alloc < length f.allocs → SubKeepsLimits line → KeepsRows f → KeepsRows (after_sub f line (Some (sub_of show alloc)))
 subscribed f line show alloc of_show of_alloc limits k =
     let row = sub_row (sub_of show alloc) line in
     let g = after_sub f line (Some (sub_of show alloc)) in
@@ -53,16 +53,16 @@ subscribed f line show alloc of_show of_alloc limits k =
       sound = sound_by f g law k;
     }
 
-kept_sub : (f : Farm) (line : SubLine) (o : Option ℕ) → sub_named f line ≡ o → SubKeepsLimits line → IsKeptFarm f → IsKeptFarm (after_sub f line o)
+kept_sub : (f : Farm) (line : SubLine) (o : Option ℕ) → sub_named f line ≡ o → SubKeepsLimits line → KeepsRows f → KeepsRows (after_sub f line o)
 kept_sub f line None is limits k = k
 kept_sub f line (Some sub) is limits k =
-    option_and_then_some {P = IsKeptFarm (after_sub f line (Some sub))} (λ show. option_map (λ alloc. sub_of show alloc) (alloc_named f line.alloc)) (show_named f line.show) sub is
+    option_and_then_some {P = KeepsRows (after_sub f line (Some sub))} (λ show. option_map (λ alloc. sub_of show alloc) (alloc_named f line.alloc)) (show_named f line.show) sub is
     (λ show of_show rest.
     let alloc = option_map-from (λ alloc. sub_of show alloc) (alloc_named f line.alloc) sub rest in
-    subst (λ (n : ℕ). IsKeptFarm (after_sub f line (Some n))) alloc.2
+    subst (λ (n : ℕ). KeepsRows (after_sub f line (Some n))) alloc.2
     (subscribed f line show alloc.0 (named_within show_label line.show f.shows show of_show) (named_within alloc_label line.alloc f.allocs alloc.0 alloc.1) limits k))
 
-kept_submit : (f : Farm) (spec : JobSpec) (o : Option ℕ) → show_named f spec.show ≡ o → submit_refusal f spec o ≡ None → IsFormedJob spec → IsKeptFarm f → IsKeptFarm (after_submit f spec o)
+kept_submit : (f : Farm) (spec : JobSpec) (o : Option ℕ) → show_named f spec.show ≡ o → submit_refusal f spec o ≡ None → IsFormedJob spec → KeepsRows f → KeepsRows (after_submit f spec o)
 kept_submit f spec None is accepted formed k = k
 kept_submit f spec (Some show) is accepted formed k =
     let g = after_submit f spec (Some show) in
@@ -81,7 +81,7 @@ kept_submit f spec (Some show) is accepted formed k =
       sound = sound_by f g law k;
     }
 
-kept_lock : (f : Farm) (lock : LockState) (o : Option ℕ) → IsKeptFarm f → IsKeptFarm (after_lock f lock o)
+kept_lock : (f : Farm) (lock : LockState) (o : Option ℕ) → KeepsRows f → KeepsRows (after_lock f lock o)
 kept_lock f lock None k = k
 kept_lock f lock (Some host) k =
     let g = after_lock f lock (Some host) in
@@ -99,7 +99,7 @@ kept_lock f lock (Some host) k =
 
 -- ---- bookings
 
-kept_book : (f : Farm) (slot host moment : ℕ) → may_record f slot host ≡ true → moment ≤ f.moment → IsKeptFarm f → IsKeptFarm (with_proc f slot (new_proc f slot host moment))
+kept_book : (f : Farm) (slot host moment : ℕ) → may_record f slot host ≡ true → moment ≤ f.moment → KeepsRows f → KeepsRows (with_proc f slot (new_proc f slot host moment))
 kept_book f slot host moment allowed now k =
     let found = can_book f slot host allowed in
     let r = found.0 in
@@ -107,7 +107,7 @@ kept_book f slot host moment allowed now k =
     let g = record f { slots = changed_at f.slots slot (booked_row (proc_of slot host moment r.slot r.job r.layer r.host)) } in
     let makes = booking_makes f slot host moment r can in
     let law = subst (KeepsLaw f) makes (book_law f slot host moment allowed) in
-    subst IsKeptFarm (sym makes)
+    subst KeepsRows (sym makes)
     (record {
       moment_within = k.moment_within;
       shows = k.shows;
@@ -121,7 +121,7 @@ kept_book f slot host moment allowed now k =
 
 -- ---- each act
 
-pub kept_act : (f : Farm) (moment : ℕ) (act : Act) → IsFormedAct act → act_refusal f act ≡ None → HasCondition f act → moment ≤ f.moment → IsKeptFarm f → IsKeptFarm (after_act f moment act)
+pub kept_act : (f : Farm) (moment : ℕ) (act : Act) → IsFormedAct act → act_refusal f act ≡ None → HasCondition f act → moment ≤ f.moment → KeepsRows f → KeepsRows (after_act f moment act)
 kept_act f moment Opened formed accepted allowed now k =
     let g = after_act f moment Opened in
     let law = opened_law f moment in
@@ -167,6 +167,8 @@ kept_act f moment (Sub line) formed accepted allowed now k = kept_sub f line (su
 kept_act f moment (Boot line) formed accepted allowed now k = kept_boot f line moment (alloc_named f line.alloc) refl accepted formed now k
 kept_act f moment (Heard heard) formed accepted allowed now k = kept_report (expire f moment) heard moment (host_named f heard.host) formed now (kept_expire f moment k)
 kept_act f moment (Submit spec) formed accepted allowed now k = kept_submit f spec (show_named f spec.show) refl accepted formed k
+kept_act f moment (AddDepend spec) formed accepted allowed now k = k
+kept_act f moment (DropDepend depend) formed accepted allowed now k = k
 kept_act f moment (Lock host lock) formed accepted allowed now k = kept_lock f lock (host_named f host) k
 kept_act f moment Tick formed accepted allowed now k = kept_expire f moment k
 kept_act f moment (Book slot host) formed accepted allowed now k = kept_book f slot host moment allowed now k

@@ -12,7 +12,7 @@ use Rattle.farm_types.specs.declared.slot_row.SlotRow.{SlotRow}
 use Rattle.farm_types.specs.Farm.{Farm, alloc_named, changed_at, host_named}
 use Rattle.farm_types.specs.Formed.{IsFormedBoot, IsFormedHeard}
 use Rattle.farm_types.specs.Hosts.{heard_row, silenced, silenced_row}
-use Rattle.farm_types.specs.Kept.{IsKeptFarm, KeepsJobs, alloc_label, for_any, is_on_host}
+use Rattle.farm_types.specs.Kept.{KeepsRows, KeepsJobs, alloc_label, for_any, is_on_host}
 use Rattle.farm_types.specs.Run.{HasItsHosts, IsSound, OnHostOf}
 use Rattle.farm_types.specs.Step.{after_boot, after_heard, at_moment, boot_refusal, end_all, end_attempt, ended_row, expire, is_live, is_silent, lists_of}
 use Rattle.farm_law.proofs.Booted.{boot_law, boot_slots}
@@ -38,11 +38,11 @@ on_host hosts (Some p) on =
     slice_get_within hosts p.host row.0 row.1
 
 -- it has its hosts
-pub kept_hosts : (f : Farm) → IsKeptFarm f → HasItsHosts f
+pub kept_hosts : (f : Farm) → KeepsRows f → HasItsHosts f
 kept_hosts f k i s at = on_host f.hosts s.proc (list_all-at (λ (s : SlotRow). for_any s.proc (is_on_host f.hosts)) f.slots i s k.attempts.hosted at)
 
 -- it is sound after a change that keeps the law
-pub sound_by : (f g : Farm) → KeepsLaw f g → IsKeptFarm f → IsSound g
+pub sound_by : (f g : Farm) → KeepsLaw f g → KeepsRows f → IsSound g
 sound_by f g law k = law.sound k.sound (kept_hosts f k)
 
 -- rows stay for attempts where no layer, no subscription and no moment changes
@@ -57,7 +57,7 @@ named_by f g rows layers subs moment =
 
 -- ---- the moment
 
-pub kept_later : (f : Farm) (moment : ℕ) → f.moment ≤ moment → moment < 2 ^ 64 → IsKeptFarm f → IsKeptFarm (at_moment f moment)
+pub kept_later : (f : Farm) (moment : ℕ) → f.moment ≤ moment → moment < 2 ^ 64 → KeepsRows f → KeepsRows (at_moment f moment)
 kept_later f moment rises within k =
     let law = moment_law f moment in
     record {
@@ -73,7 +73,7 @@ kept_later f moment rises within k =
 
 -- ---- silent hosts
 
-pub kept_expire : (f : Farm) (moment : ℕ) → IsKeptFarm f → IsKeptFarm (expire f moment)
+pub kept_expire : (f : Farm) (moment : ℕ) → KeepsRows f → KeepsRows (expire f moment)
 kept_expire f moment k =
     let law = expire_law f moment in
     record {
@@ -90,7 +90,7 @@ kept_expire f moment k =
 -- ---- boots
 
 -- the host of that name boots, or a new one
-kept_booted : (f : Farm) (line : BootLine) (moment alloc : ℕ) → IsFormedBoot line → HasRoom line f.hosts (host_named f line.host) → alloc < length f.allocs → moment ≤ f.moment → IsKeptFarm f → IsKeptFarm (after_boot f line moment (Some alloc))
+kept_booted : (f : Farm) (line : BootLine) (moment alloc : ℕ) → IsFormedBoot line → HasRoom line f.hosts (host_named f line.host) → alloc < length f.allocs → moment ≤ f.moment → KeepsRows f → KeepsRows (after_boot f line moment (Some alloc))
 kept_booted f line moment alloc formed room there now k =
     let g = after_boot f line moment (Some alloc) in
     let law = boot_law f line moment (Some alloc) in
@@ -107,7 +107,7 @@ kept_booted f line moment alloc formed room there now k =
     }
 
 -- a boot first sees which hosts are silent
-pub kept_boot : (f : Farm) (line : BootLine) (moment : ℕ) (o : Option ℕ) → alloc_named f line.alloc ≡ o → boot_refusal f line o ≡ None → IsFormedBoot line → moment ≤ f.moment → IsKeptFarm f → IsKeptFarm (after_boot (expire f moment) line moment o)
+pub kept_boot : (f : Farm) (line : BootLine) (moment : ℕ) (o : Option ℕ) → alloc_named f line.alloc ≡ o → boot_refusal f line o ≡ None → IsFormedBoot line → moment ≤ f.moment → KeepsRows f → KeepsRows (after_boot (expire f moment) line moment o)
 kept_boot f line moment None is accepted formed now k = kept_expire f moment k
 kept_boot f line moment (Some alloc) is accepted formed now k =
     let room = room_silenced line moment f.hosts (host_named f line.host) (boot_room f line alloc (host_named f line.host) accepted) in
@@ -118,7 +118,7 @@ kept_boot f line moment (Some alloc) is accepted formed now k =
 -- ---- reports
 
 -- the host of that number was heard
-kept_heard : (f : Farm) (host seq moment : ℕ) → seq < 2 ^ 64 → moment ≤ f.moment → IsKeptFarm f → IsKeptFarm (record f { hosts = changed_at f.hosts host (heard_row seq moment) })
+kept_heard : (f : Farm) (host seq moment : ℕ) → seq < 2 ^ 64 → moment ≤ f.moment → KeepsRows f → KeepsRows (record f { hosts = changed_at f.hosts host (heard_row seq moment) })
 kept_heard f host seq moment within now k =
     let g = record f { hosts = changed_at f.hosts host (heard_row seq moment) } in
     let law = heard_law f host seq moment in
@@ -134,7 +134,7 @@ kept_heard f host seq moment within now k =
     }
 
 -- a completion that counts, or nothing
-end_by : (f : Farm) (d : DoneItem) (live : Bool) → (let g : Farm = cond live (ended f d.attempt.slot d.exit) f in KeepsJobs (lists_of g) (length f.shows) f.next_finish → IsKeptFarm f → IsKeptFarm g)
+end_by : (f : Farm) (d : DoneItem) (live : Bool) → (let g : Farm = cond live (ended f d.attempt.slot d.exit) f in KeepsJobs (lists_of g) (length f.shows) f.next_finish → KeepsRows f → KeepsRows g)
 end_by f d true jobs k =
     let g = ended f d.attempt.slot d.exit in
     let law = ended_law f d.attempt.slot d.exit in
@@ -151,14 +151,14 @@ end_by f d true jobs k =
 end_by f d false jobs k = k
 
 -- completions in order
-pub kept_ends : (f : Farm) (host boot : ℕ) (ds : List DoneItem) → IsKeptFarm f → IsKeptFarm (end_all f host boot ds)
+pub kept_ends : (f : Farm) (host boot : ℕ) (ds : List DoneItem) → KeepsRows f → KeepsRows (end_all f host boot ds)
 kept_ends f host boot [] k = k
 kept_ends f host boot (d ∷ ds) k =
     kept_ends (end_attempt f host boot d) host boot ds
     (end_by f d (is_live f host boot d.attempt.slot d.attempt.version) (jobs_ended f host boot (d ∷ []) (length f.shows) f.next_finish k.jobs) k)
 
 -- a host is heard, and then its completions
-pub kept_report : (f : Farm) (heard : HeardAct) (moment : ℕ) (o : Option ℕ) → IsFormedHeard heard → moment ≤ f.moment → IsKeptFarm f → IsKeptFarm (after_heard f heard moment o)
+pub kept_report : (f : Farm) (heard : HeardAct) (moment : ℕ) (o : Option ℕ) → IsFormedHeard heard → moment ≤ f.moment → KeepsRows f → KeepsRows (after_heard f heard moment o)
 kept_report f heard moment None formed now k = k
 kept_report f heard moment (Some host) formed now k =
     kept_ends (record f { hosts = changed_at f.hosts host (heard_row heard.seq moment) }) host heard.boot heard.done (kept_heard f host heard.seq moment formed.seq_within.1 now k)

@@ -3,7 +3,7 @@ use Rattle.std.proofs.Common.{◌<◌, ◌^◌, ℕ, refl, subst, arith}
 use Rattle.std.proofs.lemmas.Option.{none-some}
 use Rattle.farm_types.specs.Demo.{demo_farm}
 use Rattle.farm_types.specs.Farm.{empty_farm}
-use Rattle.farm_types.specs.Kept.{IsKeptFarm, KeepsJobs}
+use Rattle.farm_types.specs.Kept.{KeepsRows, KeepsJobs}
 use Rattle.farm_types.specs.Run.{IsSound}
 use Rattle.farm_types.specs.Step.{lists_of}
 use Rattle.farm_law.proofs.DemoLegal.{demo_legal, demo_run}
@@ -38,7 +38,7 @@ jobs_none =
     }
 
 -- the farm that no entry has made
-pub kept_empty : IsKeptFarm empty_farm
+pub kept_empty : KeepsRows empty_farm
 kept_empty =
     record {
       moment_within = omega arith;
@@ -54,5 +54,5 @@ kept_empty =
 -- ---- the demonstration
 
 -- its farm is that of a legal run from there
-pub kept_demo : (moment : ℕ) → moment < 2 ^ 64 → IsKeptFarm (demo_farm moment)
-kept_demo moment within = subst IsKeptFarm (demo_run moment) (kept_run empty_farm (demo_entries moment) kept_empty (demo_legal moment within))
+pub kept_demo : (moment : ℕ) → moment < 2 ^ 64 → KeepsRows (demo_farm moment)
+kept_demo moment within = subst KeepsRows (demo_run moment) (kept_run empty_farm (demo_entries moment) kept_empty (demo_legal moment within))

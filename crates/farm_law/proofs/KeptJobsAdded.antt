@@ -16,10 +16,10 @@ use Rattle.farm_types.specs.declared.rows.LayerRow.{LayerRow}
 use Rattle.farm_types.specs.declared.slot_row.Frame.{Frame}
 use Rattle.farm_types.specs.declared.slot_row.SlotRow.{SlotRow}
 use Rattle.farm_types.specs.declared.limits.TheConstants.{LAST_JOB, LAST_VERSION, MOST_LAYERS}
-use Rattle.farm_types.specs.Farm.{for_some}
+use Rattle.farm_types.specs.Farm.{for_some, is_placed, layers_of}
 use Rattle.farm_types.specs.Formed.{IsFormedJob}
-use Rattle.farm_types.specs.Jobs.{JobLists, frames_in, free_in, is_pending_named, is_placed, job_refusal, job_row, layer_rows, layers_refusal, repeated_name, room_refusal}
-use Rattle.farm_types.specs.Kept.{AllDiffer, AreAtPlaces, HasItsLayers, for_any, frames_said, is_formed_job, is_kept_frame, is_kept_slot, is_of_pending, is_pending_job, job_label, layer_in, layer_label, layers_of}
+use Rattle.farm_types.specs.Jobs.{JobLists, frames_in, free_in, is_pending_named, job_refusal, job_row, layer_rows, layers_refusal, repeated_name, room_refusal}
+use Rattle.farm_types.specs.Kept.{AllDiffer, AreAtPlaces, HasItsLayers, for_any, frames_said, is_formed_job, is_kept_frame, is_kept_slot, is_of_pending, is_pending_job, job_label, layer_in, layer_label}
 use Rattle.farm_types.specs.Ranges.{range_numbers}
 use Rattle.farm_types.specs.Rising.{IsRising, job_key, layer_key}
 use Rattle.farm_types.proofs.Lists.{and_both, for_some_true, list_all-at, list_all-from_at}

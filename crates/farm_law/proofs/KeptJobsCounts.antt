@@ -8,8 +8,7 @@ use Rattle.std.proofs.lemmas.List.Sums.{sum_by-cons, get_or-le-sum_by}
 use Rattle.std.proofs.lemmas.Option.{none-some, same_Some, slice_get_within, get_or_from_slice_get}
 use Rattle.farm_types.specs.declared.slot_row.Frame.{Frame}
 use Rattle.farm_types.specs.declared.slot_row.SlotRow.{SlotRow}
-use Rattle.farm_types.specs.Farm.{for_some}
-use Rattle.farm_types.specs.Jobs.{is_placed, slot_from}
+use Rattle.farm_types.specs.Farm.{for_some, is_placed, slot_from}
 use Rattle.farm_types.specs.Kept.{EachOnce, is_same_place}
 use Rattle.farm_types.proofs.Lists.{and_both, for_some_true}
 use Rattle.farm_types.proofs.ListSums.{sum_by-each_zero}

@@ -11,9 +11,9 @@ use Rattle.std.proofs.lemmas.Option.{none-some, same_Some}
 use Rattle.farm_types.specs.declared.job.LayerSpec.{LayerSpec}
 use Rattle.farm_types.specs.declared.rows.LayerRow.{LayerRow}
 use Rattle.farm_types.specs.declared.slot_row.Frame.{Frame}
-use Rattle.farm_types.specs.Farm.{for_some}
+use Rattle.farm_types.specs.Farm.{for_some, is_placed}
 use Rattle.farm_types.specs.Formed.{IsFormedLayer}
-use Rattle.farm_types.specs.Jobs.{frames_from, frames_in, frames_of, is_placed, layer_row, layer_rows, new_frame}
+use Rattle.farm_types.specs.Jobs.{frames_from, frames_in, frames_of, layer_row, layer_rows, new_frame}
 use Rattle.farm_types.specs.Kept.{is_kept_frame, layer_in}
 use Rattle.farm_types.specs.Ranges.{range_numbers}
 use Rattle.farm_types.proofs.Passes.{for_some-there}

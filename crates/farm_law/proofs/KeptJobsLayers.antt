@@ -9,7 +9,8 @@ use Rattle.farm_types.specs.declared.rows.LayerRow.{LayerRow}
 use Rattle.farm_types.specs.declared.limits.TheConstants.{MOST_LAYERS}
 use Rattle.farm_types.specs.Formed.{IsFormedLayer}
 use Rattle.farm_types.specs.Jobs.{frames_in, layer_row, layer_rows}
-use Rattle.farm_types.specs.Kept.{AreAtPlaces, frames_said, is_formed_layer, layer_in, layer_label, layers_of}
+use Rattle.farm_types.specs.Kept.{AreAtPlaces, frames_said, is_formed_layer, layer_in, layer_label}
+use Rattle.farm_types.specs.Farm.{layers_of}
 use Rattle.farm_types.specs.Limits.{IsBetween}
 use Rattle.farm_types.specs.Forms.{is_between}
 use Rattle.farm_types.specs.Ranges.{range_numbers}

@@ -4,8 +4,8 @@ use Rattle.std.specs.List.{AllZip}
 use Rattle.std.proofs.lemmas.List.Elements.{length_all_zip}
 use Rattle.farm_types.specs.declared.rows.LayerRow.{LayerRow}
 use Rattle.farm_types.specs.declared.slot_row.SlotRow.{SlotRow}
-use Rattle.farm_types.specs.Farm.{for_some}
-use Rattle.farm_types.specs.Jobs.{JobLists, is_placed}
+use Rattle.farm_types.specs.Farm.{for_some, is_placed}
+use Rattle.farm_types.specs.Jobs.{JobLists}
 use Rattle.farm_types.specs.Kept.{EachOnce, EachThere, EndsUsed, KeepsJobs, is_kept_slot, is_used}
 use Rattle.farm_law.proofs.KeptJobsCounts.{count_at, counts_frame, count_from_once, once_from_count, count_there, there_counts}
 use Rattle.farm_law.proofs.KeptJobsZip.{zip_all, zip_sum}

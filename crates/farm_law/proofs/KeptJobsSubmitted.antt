@@ -13,7 +13,8 @@ use Rattle.farm_types.specs.declared.slot_row.Frame.{Frame}
 use Rattle.farm_types.specs.declared.slot_row.SlotRow.{SlotRow}
 use Rattle.farm_types.specs.declared.limits.TheConstants.{MOST_LAYERS, SLOT_LIMIT}
 use Rattle.farm_types.specs.Formed.{IsFormedJob}
-use Rattle.farm_types.specs.Jobs.{JobLists, frames_of, is_placed, job_row, layer_rows, new_frame, place_frames, with_job}
+use Rattle.farm_types.specs.Jobs.{JobLists, frames_of, job_row, layer_rows, new_frame, place_frames, with_job}
+use Rattle.farm_types.specs.Farm.{is_placed}
 use Rattle.farm_types.specs.Kept.{EachOnce, EachThere, HasItsLayers, KeepsJobs, is_formed_job, is_formed_layer, is_kept_slot, is_of_pending, is_pending_job}
 use Rattle.farm_types.specs.Ranges.{range_numbers}
 use Rattle.farm_types.specs.Rising.{IsRising, job_key, layer_key}

@@ -1,19 +1,47 @@
--- Every legal run from a farm that keeps all ends in such a farm.
-use Rattle.std.proofs.Common.{List, [], ◌∷◌, arith}
+-- Every legal run from a farm that keeps its rows ends in such a farm.
+use Rattle.std.proofs.Common.{◌≡◌, List, [], ◌∷◌, Option, Some, None, refl, sym, arith}
+use Rattle.std.proofs.lemmas.Option.{none-some}
 use Rattle.farm_law.proofs.KeptActs.{kept_act}
 use Rattle.farm_law.proofs.KeptChanges.{kept_later}
+use Rattle.farm_law.proofs.KeptFollowed.{kept_followed}
+use Rattle.farm_law.proofs.SafeRuns.{allowed_later}
+use Rattle.farm_types.specs.DependActs.{or_else}
 use Rattle.farm_types.specs.Farm.{Farm}
-use Rattle.farm_types.specs.Kept.{IsKeptFarm}
+use Rattle.farm_types.specs.Formed.{IsFormed}
+use Rattle.farm_types.specs.Kept.{KeepsRows}
 use Rattle.farm_types.specs.Run.{IsLegal, IsLegalStep, run_of}
-use Rattle.farm_types.specs.Step.{after, at_moment, moment_of}
+use Rattle.farm_types.specs.Step.{HasCondition, act_refusal, acted, after, at_moment, follow_refusal, moment_of}
 use Rattle.farm_types.specs.declared.entry.Entry.{Entry}
 
-pub kept_step : (f : Farm) (e : Entry) → IsLegalStep f e → IsKeptFarm f → IsKeptFarm (after f e)
-kept_step f e legal k =
-    let moment = moment_of f e.moment in
-    let now = kept_later f moment (omega arith) (omega (arith, k.moment_within, legal.formed.moment_within)) k in
-    kept_act (at_moment f moment) moment e.act legal.formed.act_formed legal.accepted legal.condition (omega arith) now
+-- ---- refusals
 
-pub kept_run : (f : Farm) (es : List Entry) → IsKeptFarm f → IsLegal f es → IsKeptFarm (run_of f es)
+-- where neither of two gives anything, the first doesn't, nor the second
+pub neither : {X : Type 0} (first second : Option X) → or_else first second ≡ None → (first ≡ None) × (second ≡ None)
+neither None second none = (refl, none)
+neither (Some x) second none = absurd (none-some x (sym none))
+
+-- what a legal entry isn't refused: its act, and what follows of depends
+pub act_accepted : (f : Farm) (e : Entry) → IsLegalStep f e → act_refusal f e.act ≡ None
+act_accepted f e legal = (neither (act_refusal f e.act) (follow_refusal f e.act) legal.accepted).0
+
+pub follow_accepted : (f : Farm) (e : Entry) → IsLegalStep f e → follow_refusal f e.act ≡ None
+follow_accepted f e legal = (neither (act_refusal f e.act) (follow_refusal f e.act) legal.accepted).1
+
+-- ---- one entry
+
+-- the act alone
+pub kept_acted : (f : Farm) (e : Entry) → IsFormed e → act_refusal f e.act ≡ None → HasCondition f e.act → KeepsRows f → KeepsRows (acted f e)
+kept_acted f e formed accepted allowed k =
+    let moment = moment_of f e.moment in
+    let now = kept_later f moment (omega arith) (omega (arith, k.moment_within, formed.moment_within)) k in
+    kept_act (at_moment f moment) moment e.act formed.act_formed accepted (allowed_later f moment e.act allowed) (omega arith) now
+
+-- the act, and then what follows of it
+pub kept_step : (f : Farm) (e : Entry) → IsLegalStep f e → KeepsRows f → KeepsRows (after f e)
+kept_step f e legal k = kept_followed e.act (acted f e) (kept_acted f e legal.formed (act_accepted f e legal) legal.condition k)
+
+-- ---- a run
+
+pub kept_run : (f : Farm) (es : List Entry) → KeepsRows f → IsLegal f es → KeepsRows (run_of f es)
 kept_run f [] k legal = k
 kept_run f (e ∷ es) k legal = kept_run (after f e) es (kept_step f e legal.0 k) legal.1

@@ -4,6 +4,8 @@ pub mod Booted
 pub mod CanBook
 pub mod DemoLegal
 pub mod Ended
+pub mod FollowLaws
+pub mod Follows
 pub mod Hosts
 pub mod KeepsLaw
 pub mod KeptActs
@@ -12,6 +14,7 @@ pub mod KeptBooked
 pub mod KeptBoots
 pub mod KeptChanges
 pub mod KeptFirst
+pub mod KeptFollowed
 pub mod KeptHosts
 pub mod KeptJobs
 pub mod KeptJobsAdded

@@ -1,12 +1,16 @@
 -- Every legal run from a sound farm is safe, and ends in a sound farm.
 use Rattle.std.proofs.Common.{ℕ, List, [], ◌∷◌, refl}
 use Rattle.farm_law.proofs.ActLaws.{act_law, act_safely, act_counts}
+use Rattle.farm_law.proofs.FollowLaws.{followed_counts, followed_law, followed_safely}
 use Rattle.farm_law.proofs.KeepsLaw.{KeepsLaw, law_same, law_then, law_of_same_rows}
 use Rattle.farm_law.proofs.Once.{CountsOnce, counts_none, counts_then}
 use Rattle.farm_law.proofs.Spent.{spent_stays}
+use Rattle.farm_types.specs.Depends.{groups_of}
 use Rattle.farm_types.specs.Farm.{Farm}
 use Rattle.farm_types.specs.Run.{IsSound, HasItsHosts, IsLegal, IsLegalStep, IsSafe, EachStepSafe, ActsSafely, counted, counted_by, run_of}
-use Rattle.farm_types.specs.Step.{at_moment, moment_of, after}
+use Rattle.farm_types.specs.Step.{HasCondition, acted, after, at_moment, moment_of}
+use Rattle.farm_types.specs.declared.entry.Act.{Act}
+use Rattle.farm_types.specs.declared.entry.Act.TheVariants.{Book}
 use Rattle.farm_types.specs.declared.entry.Entry.{Entry}
 
 -- ---- one entry
@@ -15,21 +19,34 @@ use Rattle.farm_types.specs.declared.entry.Entry.{Entry}
 pub moment_law : (f : Farm) (moment : ℕ) → KeepsLaw f (at_moment f moment)
 moment_law f moment = law_of_same_rows f (at_moment f moment) refl refl refl refl
 
-pub step_law : (f : Farm) (e : Entry) → IsLegalStep f e → KeepsLaw f (after f e)
-step_law f e legal =
+-- nor what a booking asks
+pub allowed_later : (f : Farm) (moment : ℕ) (act : Act) → HasCondition f act → HasCondition (at_moment f moment) act
+unfolding groups_of
+allowed_later f moment (Book slot host) allowed = allowed
+allowed_later f moment act allowed = tt
+
+-- the act alone
+pub acted_law : (f : Farm) (e : Entry) → HasCondition f e.act → KeepsLaw f (acted f e)
+acted_law f e allowed =
     let moment = moment_of f e.moment in
-    law_then f (at_moment f moment) (after f e) (moment_law f moment) (act_law (at_moment f moment) moment e.act legal.condition)
+    law_then f (at_moment f moment) (acted f e) (moment_law f moment) (act_law (at_moment f moment) moment e.act (allowed_later f moment e.act allowed))
+
+-- the act, and then what follows of it
+pub step_law : (f : Farm) (e : Entry) → IsLegalStep f e → KeepsLaw f (after f e)
+step_law f e legal = law_then f (acted f e) (after f e) (acted_law f e legal.condition) (followed_law e.act (acted f e))
 
 step_safely : (f : Farm) (e : Entry) → IsLegalStep f e → IsSound f → HasItsHosts f → ActsSafely (at_moment f (moment_of f e.moment)) (after f e) e.act
 step_safely f e legal ok there =
     let moment = moment_of f e.moment in
-    act_safely (at_moment f moment) moment e.act legal.condition ((moment_law f moment).sound ok there)
+    followed_safely (at_moment f moment) (acted f e) e.act (act_safely (at_moment f moment) moment e.act (allowed_later f moment e.act legal.condition) ((moment_law f moment).sound ok there))
 
 step_counts : (f : Farm) (e : Entry) → IsSound f → HasItsHosts f → CountsOnce f (after f e) (counted_by (at_moment f (moment_of f e.moment)) (moment_of f e.moment) e.act)
 step_counts f e ok there =
     let moment = moment_of f e.moment in
     let law = moment_law f moment in
-    let counts = act_counts (at_moment f moment) moment e.act (law.sound ok there) (law.hosts ok there) in
+    let ended = counted_by (at_moment f moment) moment e.act in
+    let acts = act_counts (at_moment f moment) moment e.act (law.sound ok there) (law.hosts ok there) in
+    let counts = followed_counts e.act (at_moment f moment) (acted f e) ended acts in
     record { none = counts.none; spent = counts.spent; differ = counts.differ }
 
 -- ---- a run

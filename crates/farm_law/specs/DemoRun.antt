@@ -41,6 +41,7 @@ demo_spec =
       auto_eat = false;
       paused = false;
       layers = demo_layer_spec ∷ [];
+      depends = [];
     }
 
 abbrev pub demo_show : ℕ → Entry

@@ -8,7 +8,7 @@ ghost use Rattle.farm_types.specs.Booking.{suits, version_at};
 ghost use Rattle.farm_types.specs.Demo.{demo_farm};
 ghost use Rattle.farm_types.specs.Dispatch.{candidate_suits, plan_for};
 ghost use Rattle.farm_types.specs.Farm.{Farm, empty_farm};
-ghost use Rattle.farm_types.specs.Kept.{IsKeptFarm};
+ghost use Rattle.farm_types.specs.Kept.{KeepsRows};
 ghost use Rattle.farm_types.specs.Run.{IsSound, HasItsHosts, IsLegal, IsSafe, run_of};
 ghost use Rattle.farm_law.specs.DemoRun.{demo_entries};
 
@@ -42,12 +42,12 @@ pub fn suits_stays()
     ensures { (f : Farm) (es : List Entry) (slot version host sub : ℕ) → IsLegal f es → suits f slot version host sub ≡ true → version_at (run_of f es) slot ≡ version → version < LAST_VERSION → suits (run_of f es) slot version host sub ≡ true }
 {}
 
-/// What every farm of the program keeps: the empty farm and the demonstration's do, and so does every legal run from a
-/// farm that does.
-pub fn legal_runs_keep_farms()
-    ensures empty { IsKeptFarm empty_farm }
-    ensures demo { (moment : ℕ) → moment < 2 ^ 64 → IsKeptFarm (demo_farm moment) }
-    ensures runs { (f : Farm) (es : List Entry) → IsKeptFarm f → IsLegal f es → IsKeptFarm (run_of f es) }
+/// What every farm of the program keeps of all rows but those of depends: the empty farm and the demonstration's do, and
+/// so does every legal run from a farm that does.
+pub fn legal_runs_keep_rows()
+    ensures empty { KeepsRows empty_farm }
+    ensures demo { (moment : ℕ) → moment < 2 ^ 64 → KeepsRows (demo_farm moment) }
+    ensures runs { (f : Farm) (es : List Entry) → KeepsRows f → IsLegal f es → KeepsRows (run_of f es) }
 {}
 
 /// The demonstration's farm is that of a legal run from the farm of no rows.

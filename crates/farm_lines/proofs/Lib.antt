@@ -1,4 +1,5 @@
 pub mod AmountLemmas
+pub mod DependLemmas
 pub mod FieldLemmas
 pub mod PointLemmas
 pub mod RequestLemmas

@@ -9,7 +9,7 @@ use Rattle.cue_json.specs.Fields.{Fault, ◌>>=◌, of_kind, object_at, others_a
 use Rattle.cue_json.specs.Lines.{object_in}
 use Rattle.farm_types.specs.declared.job.JobSpec.{JobSpec}
 use Rattle.farm_types.specs.declared.rows.AllocRow.{AllocRow}
-use Rattle.farm_types.specs.Formed.{AreFree, IsFormed, IsFormedAct, IsFormedBoot, IsFormedDone, IsFormedJob, IsFormedSub}
+use Rattle.farm_types.specs.Formed.{AreFree, IsFormed, IsFormedAct, IsFormedBoot, IsFormedDepend, IsFormedDone, IsFormedJob, IsFormedSub}
 use Rattle.farm_types.specs.Forms.{is_name_text, is_tag_text}
 use Rattle.farm_types.specs.Limits.{IsBetween}
 use Rattle.farm_lines.specs.declared.boot_form.BootForm.{BootForm}
@@ -17,14 +17,16 @@ use Rattle.farm_lines.specs.declared.report.Report.{Report}
 use Rattle.farm_lines.specs.declared.request.Request.{Request}
 use Rattle.farm_lines.specs.declared.request.Request.TheVariants as request
 use Rattle.farm_lines.specs.declared.sub_form.SubForm.{SubForm}
+use Rattle.farm_lines.specs.DependLines.{depend_at}
 use Rattle.farm_lines.specs.Fields.{name_at, list_of, optional_whole_at}
 use Rattle.farm_lines.specs.Points.{before_point, after_point}
-use Rattle.farm_lines.specs.Request.{LockLine, attempt_at, done_at, done_keys, report_at, report_keys, show_at, name_keys, alloc_parts, alloc_of_name, alloc_name_at, alloc_at, sub_form_at, sub_keys, boot_keys, lock_keys, lock_at, sub_line_of, sub_line_at, boot_form_at, boot_line_of, boot_line_at, lock_line_at, tick_keys, submit_keys, after_others, submit_at, asked, judged, asks_alloc, asks_lock, asks_tick, by_op, after_op, request_in, request_of}
+use Rattle.farm_lines.specs.Request.{LockLine, attempt_at, done_at, done_keys, report_at, report_keys, show_at, name_keys, alloc_parts, alloc_of_name, alloc_name_at, alloc_at, sub_form_at, sub_keys, boot_keys, lock_keys, lock_at, sub_line_of, sub_line_at, boot_form_at, boot_line_of, boot_line_at, lock_line_at, tick_keys, drop_at, drop_keys, submit_keys, after_others, submit_at, asked, judged, asks_alloc, asks_lock, asks_tick, by_op, after_op, request_in, request_of}
 use Rattle.farm_lines.specs.Spec.{SpecError, Field, Range, Amount, formed, number_at, tags_at, within, spec_at}
 use Rattle.farm_lines.specs.Transcript.{act_of, entry_of}
+use Rattle.farm_lines.proofs.DependLemmas.{depend_formed}
 use Rattle.farm_lines.proofs.FieldLemmas.{step, step_any, ok_at, either, kind_formed, name_formed, whole_formed, tags_formed, list_formed}
 use Rattle.farm_lines.proofs.SpecLemmas.{form_first, spec_formed, within_formed}
-use Rattle.farm_types.specs.declared.limits.TheConstants.{LAST_BOOT, LAST_SLOT, LAST_VERSION, LEAST_CORES, LEAST_MEMORY, MOST_BURST, MOST_CORES, MOST_MEMORY, MOST_TAGS}
+use Rattle.farm_types.specs.declared.limits.TheConstants.{LAST_BOOT, LAST_DEPEND, LAST_SLOT, LAST_VERSION, LEAST_CORES, LEAST_MEMORY, MOST_BURST, MOST_CORES, MOST_MEMORY, MOST_TAGS}
 
 -- ---- reports
 
@@ -174,6 +176,14 @@ unfolding submit_at
 submit_formed ms =
     others_formed (formed (object_at (codes "job") ms) >>= spec_at) (others_at submit_keys ms) (step_any IsFormedJob (formed (object_at (codes "job") ms)) spec_at spec_formed)
 
+-- ---- the drop of a depend
+
+drop_formed : (ms : Members) → IfOk (drop_at ms) (IsBetween 1 LAST_DEPEND)
+unfolding drop_at
+drop_formed ms =
+    step (IsBetween 1 LAST_DEPEND) (IsBetween 1 LAST_DEPEND) (whole_at (codes "depend") 1 LAST_DEPEND ms) _ (whole_formed (codes "depend") 1 LAST_DEPEND ms) (λ depend numbered.
+    step_any (IsBetween 1 LAST_DEPEND) (others_at drop_keys ms) _ (λ none. numbered))
+
 -- ---- a line
 
 -- the act of what is asked is within its forms and limits
@@ -201,8 +211,10 @@ by_op_formed ms op =
     (either AsksFormed (bytes_eq op (codes "sub")) _ _ (judged_formed IsFormedSub request.Sub (sub_line_at ms) (sub_formed ms) (λ line h. h))
     (either AsksFormed (bytes_eq op (codes "host")) _ _ (asked_formed IsLock asks_lock (lock_line_at ms) (lock_formed ms) (λ line h. h))
     (either AsksFormed (bytes_eq op (codes "submit")) _ _ (judged_formed IsFormedJob request.Submit (submit_at ms) (submit_formed ms) (λ spec h. h))
+    (either AsksFormed (bytes_eq op (codes "depend")) _ _ (asked_formed IsFormedDepend request.Depend (depend_at ms) (depend_formed ms) (λ spec h. h))
+    (either AsksFormed (bytes_eq op (codes "drop")) _ _ (asked_formed (IsBetween 1 LAST_DEPEND) request.Drop (drop_at ms) (drop_formed ms) (λ depend h. h))
     (either AsksFormed (bytes_eq op (codes "tick")) _ _ (asked_formed (λ none. Unit {0}) asks_tick (others_at tick_keys ms) (any_formed (others_at tick_keys ms)) (λ none h. h))
-    tt)))))))
+    tt)))))))))
 
 after_op_formed : (ms : Members) (op : Result (List ℕ) Fault) → IfOk (after_op ms op) AsksFormed
 after_op_formed ms (Ok op) = by_op_formed ms op

@@ -15,7 +15,7 @@ use Rattle.frame_range.proofs.AgainLemmas.{read_again, read_set}
 use Rattle.frame_range.proofs.DistinctLemmas.{numbers_distinct, numbers_some}
 use Rattle.frame_range.proofs.LengthLemmas.{printed_short}
 use Rattle.farm_types.specs.declared.job.LayerSpec.{LayerSpec}
-use Rattle.farm_types.specs.Formed.{IsFormedJob, IsFormedLayer}
+use Rattle.farm_types.specs.Formed.{IsFormedJob, IsFormedLayer, IsFormedOwn}
 use Rattle.farm_types.specs.Forms.{is_between, is_command_text, is_name_or_empty, is_name_text, is_tag_text}
 use Rattle.farm_types.specs.Jobs.{frames_in}
 use Rattle.farm_types.specs.Limits.{IsBetween}
@@ -23,9 +23,11 @@ use Rattle.farm_types.specs.Ranges.{is_range_text, prints_as, range_numbers, sec
 use Rattle.farm_types.specs.SpecLimits.{LayerKeepsLimits}
 use Rattle.farm_lines.specs.declared.job_form.JobForm.{JobForm}
 use Rattle.farm_lines.specs.declared.job_form.LayerForm.{LayerForm}
-use Rattle.farm_lines.specs.Fields.{name_at, list_of}
+use Rattle.farm_lines.specs.DependLines.{own_depend_at, own_depends}
+use Rattle.farm_lines.specs.Fields.{name_at, list_of, or_default}
 use Rattle.farm_lines.specs.Points.{cores_of}
-use Rattle.farm_lines.specs.Spec.{SpecError, Amount, text_of, number_at, or_default, tags_at, no_items_at, layer_keys, job_keys, layer_form_at, job_form_at, within, range_of, layer_cores, layer_with, layer_of, layers_of, job_of, formed, spec_at}
+use Rattle.farm_lines.specs.Spec.{SpecError, Amount, text_of, number_at, tags_at, layer_keys, job_keys, layer_form_at, job_form_at, within, range_of, layer_cores, layer_with, layer_of, layers_of, job_of, formed, spec_at}
+use Rattle.farm_lines.proofs.DependLemmas.{own_formed}
 use Rattle.farm_lines.proofs.FieldLemmas.{step, step_any, name_formed, text_formed, tags_formed, list_formed, default_formed}
 use Rattle.farm_types.specs.declared.limits.TheConstants.{LEAST_CORES, LEAST_MEMORY, MOST_COMMAND, MOST_CORES, MOST_FRAMES, MOST_LAYERS, MOST_MEMORY, MOST_PRIORITY, MOST_RANGE, MOST_RETRIES, MOST_TAGS}
 
@@ -49,7 +51,7 @@ layer_form_formed ms =
     step_any IsLayerForm (others_at layer_keys ms) _ (λ none.
     record { name = named; command = commanded; tags = tagged })))))))
 
--- the texts of a job are of their forms, its layers' too
+-- the texts of a job are of their forms, its layers' and its depends' too
 pub record IsJobForm (form : JobForm) : Type 0 where
   pub name : is_name_text form.name ≡ true
   pub show : is_name_text form.show ≡ true
@@ -57,9 +59,14 @@ pub record IsJobForm (form : JobForm) : Type 0 where
   pub shot : is_name_or_empty form.shot ≡ true
   pub user : is_name_or_empty form.user ≡ true
   pub each_layer : All IsLayerForm form.layers
+  pub each_depend : All (IsFormedOwn form.name) form.depends
 
 or_empty : (field : List ℕ) (ms : Members) → IfOk (or_default [] (text_of is_name_or_empty) field ms) (λ text. is_name_or_empty text ≡ true)
 or_empty field ms = default_formed (λ text. is_name_or_empty text ≡ true) [] (text_of is_name_or_empty) field ms refl (text_formed is_name_or_empty field ms)
+
+depends_formed : (own : List ℕ) (field : List ℕ) (ms : Members) → is_name_text own ≡ true → IfOk (or_default [] (own_depends own) field ms) (All (IsFormedOwn own))
+depends_formed own field ms named =
+    default_formed (All (IsFormedOwn own)) [] (own_depends own) field ms (All-nil (IsFormedOwn own)) (list_formed (IsFormedOwn own) field (own_depend_at own) (own_formed own named) ms)
 
 job_form_formed : (ms : Members) → IfOk (job_form_at ms) IsJobForm
 unfolding job_form_at
@@ -74,9 +81,9 @@ job_form_formed ms =
     step_any IsJobForm (or_default false flag_at (codes "auto_eat") ms) _ (λ auto_eat.
     step_any IsJobForm (or_default false flag_at (codes "paused") ms) _ (λ paused.
     step (All IsLayerForm) IsJobForm (list_of (codes "layers") layer_form_at ms) _ (list_formed IsLayerForm (codes "layers") layer_form_at layer_form_formed ms) (λ layers layered.
-    step_any IsJobForm (or_default tt no_items_at (codes "depends") ms) _ (λ depends.
+    step (All (IsFormedOwn name)) IsJobForm (or_default [] (own_depends name) (codes "depends") ms) _ (depends_formed name (codes "depends") ms named) (λ depends depending.
     step_any IsJobForm (others_at job_keys ms) _ (λ none.
-    record { name = named; show = shown; facility = placed; shot = shot_formed; user = user_formed; each_layer = layered }))))))))))))
+    record { name = named; show = shown; facility = placed; shot = shot_formed; user = user_formed; each_layer = layered; each_depend = depending }))))))))))))
 
 -- ---- amounts
 
@@ -183,6 +190,7 @@ job_formed form ok =
         each_layer = All-weaker IsFormedLayer LayerKeepsLimits (λ layer h. h.limits) layers made.0;
       };
       each_layer = made.0;
+      each_depend = ok.each_depend;
     })))))
 
 -- ---- a spec

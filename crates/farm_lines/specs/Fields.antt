@@ -1,4 +1,4 @@
--- Fields that hold names, and fields that hold lists of objects.
+-- Fields that hold names, fields that may be left out, and fields that hold lists of objects.
 use Rattle.std.specs.Prelude.{ℕ, List, [], ◌∷◌, Option, None, Some, Result, Ok, Err, if◌then◌else◌}
 use Rattle.serde_json.specs.Data.{Data, Items, no_items, item, Members}
 use Rattle.serde_json.specs.Find.{as_object}
@@ -12,6 +12,10 @@ name_at field ms = text_at field ms >>= λ name. if is_name_text name then Ok na
 -- a number that may be left out
 abbrev pub optional_whole_at : List ℕ → ℕ → ℕ → Members → Result (Option ℕ) Fault
 optional_whole_at field least most ms = if has_key field ms then (whole_at field least most ms >>= λ n. Ok (Some n)) else Ok None
+
+-- what is read of the field where it is there, and else its default
+abbrev pub or_default : {X : Type 0} → X → (List ℕ → Members → Result X Fault) → List ℕ → Members → Result X Fault
+or_default default read field ms = if has_key field ms then read field ms else Ok default
 
 -- an item of a list, an object; one of another kind is a fault of the list's field
 abbrev pub item_at : {X : Type 0} → List ℕ → (Members → Result X Fault) → Data → Result X Fault

@@ -1,6 +1,6 @@
+pub mod DependLines
 pub mod FieldFaults
 pub mod Fields
-pub mod Names
 pub mod Points
 pub mod Reply
 pub mod Request

@@ -15,7 +15,7 @@ use Rattle.farm_types.specs.declared.entry.Act.{Act}
 use Rattle.farm_types.specs.declared.entry.Act.TheVariants as act
 use Rattle.farm_lines.specs.declared.launch.Launch.{Launch}
 use Rattle.farm_types.specs.declared.refusal.Refusal.{Refusal}
-use Rattle.farm_types.specs.declared.refusal.Refusal.TheVariants.{Unknown, Exists, WrongBoot, Stale, FarmFull, Full}
+use Rattle.farm_types.specs.declared.refusal.Refusal.TheVariants.{Unknown, Exists, WrongBoot, Stale, FarmFull, Satisfied, SelfDepend, Started, Full}
 use Rattle.farm_types.specs.declared.refusal.Counted.{Counted}
 use Rattle.farm_types.specs.declared.refusal.Counted.TheVariants as counted
 use Rattle.farm_types.specs.declared.dispatch.Cut.{Cut}
@@ -28,7 +28,7 @@ use Rattle.farm_types.specs.declared.rows.LayerRow.{LayerRow}
 use Rattle.farm_types.specs.declared.slot_row.Frame.{Frame}
 use Rattle.farm_types.specs.declared.slot_row.SlotRow.{SlotRow}
 use Rattle.farm_types.specs.Farm.{Farm, job_at, layer_at}
-use Rattle.farm_lines.specs.Names.{frame_name, expanded}
+use Rattle.farm_types.specs.Names.{frame_name, expanded}
 use Rattle.farm_lines.specs.Request.{RequestError, BadLine, BadRange, BadAmount}
 use Rattle.farm_types.specs.Run.{is_same}
 use Rattle.farm_types.specs.Step.{is_live}
@@ -90,6 +90,9 @@ counted_word counted.Allocs = codes "allocs"
 counted_word counted.Hosts = codes "hosts"
 counted_word counted.Boots = codes "boots"
 counted_word counted.Jobs = codes "jobs"
+counted_word counted.Depends = codes "depends"
+counted_word counted.Groups = codes "groups"
+counted_word counted.DependNumbers = codes "depend_numbers"
 
 unfoldable pub refusal_data : Refusal → Data
 refusal_data (Unknown name) =
@@ -102,6 +105,12 @@ refusal_data (Stale last) =
     object (member (codes "code") (whole 6) (member (codes "last") (whole last) (member (codes "ok") (boolean false) (member (codes "why") (string (codes "stale")) no_members))))
 refusal_data (FarmFull free) =
     object (member (codes "code") (whole 9) (member (codes "free") (whole free) (member (codes "ok") (boolean false) (member (codes "why") (string (codes "farm_full")) no_members))))
+refusal_data Satisfied =
+    object (member (codes "code") (whole 11) (member (codes "ok") (boolean false) (member (codes "state") (string (codes "SATISFIED")) (member (codes "why") (string (codes "wrong_state")) no_members))))
+refusal_data (SelfDepend frame) =
+    object (member (codes "code") (whole 12) (member (codes "frame") (string frame) (member (codes "ok") (boolean false) (member (codes "why") (string (codes "self_depend")) no_members))))
+refusal_data (Started frame) =
+    object (member (codes "code") (whole 17) (member (codes "frame") (string frame) (member (codes "ok") (boolean false) (member (codes "why") (string (codes "started")) no_members))))
 refusal_data (Full limit what) =
     object (member (codes "code") (whole 18) (member (codes "limit") (whole limit) (member (codes "ok") (boolean false) (member (codes "what") (string (counted_word what))
     (member (codes "why") (string (codes "full")) no_members)))))
@@ -123,6 +132,12 @@ sub_data booked burst size =
 unfoldable pub boot_data : ℕ → ℕ → Data
 boot_data boot nonce = object (member (codes "boot") (whole boot) (member (codes "nonce") (whole nonce) (member (codes "ok") (boolean true) no_members)))
 
+unfoldable pub depend_data : ℕ → ℕ → Data
+depend_data depend unmet = object (member (codes "depend") (whole depend) (member (codes "ok") (boolean true) (member (codes "unmet") (whole unmet) no_members)))
+
+unfoldable pub dropped_data : ℕ → Data
+dropped_data opened = object (member (codes "ok") (boolean true) (member (codes "opened") (whole opened) no_members))
+
 unfoldable pub tick_data : ℕ → ℕ → Data
 tick_data down lost = object (member (codes "down") (whole down) (member (codes "lost") (whole lost) (member (codes "ok") (boolean true) no_members)))
 
@@ -136,6 +151,8 @@ abbrev pub ok_reply : Act → Answer → Reply
 ok_reply entry (answer.Sub booked burst size) = reply.Sub booked burst size
 ok_reply entry (answer.Boot boot nonce) = reply.Boot boot nonce
 ok_reply entry (answer.Submitted frames) = reply.Submitted frames (job_named entry)
+ok_reply entry (answer.DependAdded depend unmet) = reply.Depend depend unmet
+ok_reply entry (answer.DependDropped opened) = reply.Dropped opened
 ok_reply entry (answer.Tick down lost) = reply.Tick down lost
 ok_reply entry other = reply.Done
 
@@ -219,6 +236,8 @@ reply_data (reply.Sub booked burst size) = sub_data booked burst size
 reply_data (reply.Boot boot nonce) = boot_data boot nonce
 reply_data (reply.Tick down lost) = tick_data down lost
 reply_data (reply.Submitted frames job) = submit_data frames job
+reply_data (reply.Depend depend unmet) = depend_data depend unmet
+reply_data (reply.Dropped opened) = dropped_data opened
 reply_data (reply.Report r) = report_data r.boot r.seq (cut_text r.cut) r.acks r.kills r.launches
 reply_data (reply.BadLine field) = bad_line field
 reply_data reply.TooLong = too_long

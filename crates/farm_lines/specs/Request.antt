@@ -17,11 +17,12 @@ use Rattle.farm_types.specs.declared.states.LockState.{LockState}
 use Rattle.farm_types.specs.declared.states.LockState.TheVariants as lock_state
 use Rattle.farm_lines.specs.declared.sub_form.SubForm.{SubForm}
 use Rattle.farm_types.specs.declared.sub_line.SubLine.{SubLine}
+use Rattle.farm_lines.specs.DependLines.{depend_at}
 use Rattle.farm_lines.specs.Fields.{name_at, optional_whole_at, list_of}
 use Rattle.farm_types.specs.Forms.{is_tag_text}
 use Rattle.farm_lines.specs.Points.{before_point, after_point}
 use Rattle.farm_lines.specs.Spec.{SpecError, Field, Range, Amount, formed, number_at, tags_at, within, spec_at}
-use Rattle.farm_types.specs.declared.limits.TheConstants.{LAST_BOOT, LAST_SLOT, LAST_VERSION, LEAST_CORES, LEAST_MEMORY, MOST_BURST, MOST_CORES, MOST_MEMORY, MOST_TAGS}
+use Rattle.farm_types.specs.declared.limits.TheConstants.{LAST_BOOT, LAST_DEPEND, LAST_SLOT, LAST_VERSION, LEAST_CORES, LEAST_MEMORY, MOST_BURST, MOST_CORES, MOST_MEMORY, MOST_TAGS}
 
 -- the first fault of a malformed line: the field at fault, empty where the line is no JSON object; a layer's range has a fault; or the amount of a field
 -- is outside its limits
@@ -171,6 +172,15 @@ after_others read (Err fault) = Err (Field fault)
 unfoldable pub submit_at : Members → Result JobSpec SpecError
 submit_at ms = after_others (formed (object_at (codes "job") ms) >>= spec_at) (others_at submit_keys ms)
 
+-- ---- the drop of a depend
+
+abbrev pub drop_keys : List (List ℕ)
+drop_keys = codes "depend" ∷ codes "op" ∷ []
+
+-- the depend's number
+unfoldable pub drop_at : Members → Result ℕ Fault
+drop_at ms = whole_at (codes "depend") 1 LAST_DEPEND ms >>= λ depend. others_at drop_keys ms >>= λ none. Ok depend
+
 -- ---- a line
 
 -- what is asked, or the name of the field at fault
@@ -207,8 +217,10 @@ by_op ms op =
     else (if bytes_eq op (codes "sub") then judged request.Sub (sub_line_at ms)
     else (if bytes_eq op (codes "host") then asked asks_lock (lock_line_at ms)
     else (if bytes_eq op (codes "submit") then judged request.Submit (submit_at ms)
+    else (if bytes_eq op (codes "depend") then asked request.Depend (depend_at ms)
+    else (if bytes_eq op (codes "drop") then asked request.Drop (drop_at ms)
     else (if bytes_eq op (codes "tick") then asked asks_tick (others_at tick_keys ms)
-    else Err (BadLine (codes "op")))))))))
+    else Err (BadLine (codes "op")))))))))))
 
 abbrev pub after_op : Members → Result (List ℕ) Fault → Result Request RequestError
 after_op ms (Ok op) = by_op ms op

@@ -2,7 +2,7 @@
 use Rattle.std.specs.Prelude.{ℕ, Bool, false, List, [], ◌∷◌, codes, length, Option, None, Some, Result, Ok, Err, ⊤, if◌then◌else◌}
 use Rattle.serde_json.specs.Data.{Data, Items, no_items, item, Members}
 use Rattle.serde_json.specs.Find.{as_str}
-use Rattle.cue_json.specs.Fields.{Fault, WrongKind, ◌>>=◌, of_kind, text_at, whole_at, flag_at, list_at, others_at, has_key}
+use Rattle.cue_json.specs.Fields.{Fault, WrongKind, ◌>>=◌, of_kind, text_at, whole_at, flag_at, list_at, others_at}
 use Rattle.frame_range.specs.declared.fault.RangeFault.{RangeFault}
 use Rattle.frame_range.specs.declared.section.Section.{Section}
 use Rattle.frame_range.specs.Printed.{printed}
@@ -15,7 +15,8 @@ use Rattle.farm_types.specs.Jobs.{frames_in}
 use Rattle.farm_types.specs.declared.limits.TheConstants.{LEAST_CORES, LEAST_MEMORY, MOST_COMMAND, MOST_CORES, MOST_FRAMES, MOST_LAYERS, MOST_MEMORY, MOST_PRIORITY, MOST_RANGE, MOST_RETRIES, MOST_TAGS}
 use Rattle.farm_types.specs.Forms.{is_command_text, is_name_or_empty, is_tag_text, is_between}
 use Rattle.farm_lines.specs.Points.{cores_of}
-use Rattle.farm_lines.specs.Fields.{name_at, list_of}
+use Rattle.farm_lines.specs.DependLines.{own_depends}
+use Rattle.farm_lines.specs.Fields.{name_at, list_of, or_default}
 
 -- why a spec isn't taken: a field is missing or not of its form, a layer's range has a fault, or the amount of a field is outside its limits
 pub data SpecError : Type 0 where
@@ -50,18 +51,6 @@ tags_in field (item d ds) = tag_item field d >>= λ tag. tags_in field ds >>= λ
 abbrev pub tags_at : List ℕ → Members → Result (List (List ℕ)) Fault
 tags_at field ms = list_at field ms >>= tags_in field
 
--- what is read of the field where it is there, and else its default
-abbrev pub or_default : {X : Type 0} → X → (List ℕ → Members → Result X Fault) → List ℕ → Members → Result X Fault
-or_default default read field ms = if has_key field ms then read field ms else Ok default
-
--- a list without items: depends can't be asked for yet
-abbrev pub none_of : List ℕ → Items → Result ⊤ Fault
-none_of field no_items = Ok tt
-none_of field (item d ds) = Err (WrongKind field)
-
-abbrev pub no_items_at : List ℕ → Members → Result ⊤ Fault
-no_items_at field ms = list_at field ms >>= none_of field
-
 -- ---- the form of a spec
 
 abbrev pub layer_keys : List (List ℕ)
@@ -81,7 +70,7 @@ job_keys =
     codes "auto_eat" ∷ codes "depends" ∷ codes "facility" ∷ codes "layers" ∷ codes "max_retries" ∷ codes "name" ∷ codes "paused" ∷ codes "priority"
     ∷ codes "shot" ∷ codes "show" ∷ codes "user" ∷ []
 
--- a job: its fields in order, each layer with its field, and no others
+-- a job: its fields in order, each layer and each depend with its field, and no others
 unfoldable pub job_form_at : Members → Result JobForm Fault
 job_form_at ms =
     name_at (codes "name") ms >>= λ name. name_at (codes "show") ms >>= λ show.
@@ -89,7 +78,7 @@ job_form_at ms =
     or_default [] (text_of is_name_or_empty) (codes "user") ms >>= λ user. or_default 100 number_at (codes "priority") ms >>= λ priority.
     or_default 3 number_at (codes "max_retries") ms >>= λ max_retries. or_default false flag_at (codes "auto_eat") ms >>= λ auto_eat.
     or_default false flag_at (codes "paused") ms >>= λ paused. list_of (codes "layers") layer_form_at ms >>= λ layers.
-    or_default tt no_items_at (codes "depends") ms >>= λ depends. others_at job_keys ms >>= λ none.
+    or_default [] (own_depends name) (codes "depends") ms >>= λ depends. others_at job_keys ms >>= λ none.
     Ok (record {
       name = name;
       show = show;
@@ -101,6 +90,7 @@ job_form_at ms =
       auto_eat = auto_eat;
       paused = paused;
       layers = layers;
+      depends = depends;
     })
 
 -- ---- amounts
@@ -161,6 +151,7 @@ job_of form =
       auto_eat = form.auto_eat;
       paused = form.paused;
       layers = layers;
+      depends = form.depends;
     })
 
 -- ---- a spec

@@ -77,6 +77,8 @@ act_of (request.Boot line) = act.Boot line
 act_of (request.Report report) = act.Heard (record { host = report.host; boot = report.boot; seq = report.seq; done = report.done })
 act_of (request.Lock host lock) = act.Lock host lock
 act_of (request.Submit spec) = act.Submit spec
+act_of (request.Depend spec) = act.AddDepend spec
+act_of (request.Drop depend) = act.DropDepend depend
 act_of request.Tick = act.Tick
 
 abbrev pub entry_of : Request → ℕ → Entry

@@ -1,9 +1,9 @@
 //! What a job spec says, before its amounts are judged.
 
-use farm_types::{Items, Text};
+use farm_types::{DependSpec, Items, Text};
 
 /// The fields of a job spec, defaults in the place of those that were left out: names, words and flags are of
-/// their form, and numbers are any of 64 bits.
+/// their form, and numbers are any of 64 bits. In each of the depends the job itself waits.
 #[derive(Debug, Drop)]
 pub struct JobForm {
     pub name: Text,
@@ -16,6 +16,7 @@ pub struct JobForm {
     pub auto_eat: bool,
     pub paused: bool,
     pub layers: Items<LayerForm>,
+    pub depends: Items<DependSpec>,
 }
 
 /// The fields of a layer: the range, the command and the cores are texts of any length.

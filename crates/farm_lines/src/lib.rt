@@ -21,7 +21,7 @@ pub use cores_text::read_cores;
 pub use job_form::{JobForm, LayerForm};
 pub use launch::Launch;
 pub use laws::requests_are_formed;
-pub use limits::{LAUNCHES_EACH, LINE_LIMIT};
+pub use limits::{LAUNCHES_EACH, LEAST_FRAME, LINE_LIMIT, MOST_FRAME};
 pub use name_field::read_name;
 pub use points::split_at_point;
 pub use reply::{Reply, ReportReply};

@@ -5,3 +5,9 @@ pub const LINE_LIMIT: u32 = 1_048_576;
 
 /// How many attempts a reply launches at most.
 pub const LAUNCHES_EACH: u32 = 64;
+
+/// The least number of a frame.
+pub const LEAST_FRAME: i64 = -9_999_999;
+
+/// The greatest number of a frame.
+pub const MOST_FRAME: i64 = 9_999_999;

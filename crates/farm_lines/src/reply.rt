@@ -1,7 +1,7 @@
 //! What is replied to a line.
 
 use crate::launch::Launch;
-use farm_types::{Attempt, Cores, Cut, Items, Refusal, Text};
+use farm_types::{Attempt, Cores, Cut, DependNo, Items, Refusal, Text};
 use frame_range::RangeFault;
 
 /// A reply: one variant for each set of keys of an ok reply, and for each refusal.
@@ -25,6 +25,15 @@ pub enum Reply {
     Submitted {
         frames: u32,
         job: Text,
+    },
+    /// The depend's number, and how many frames wait in those of its groups that aren't met.
+    Depend {
+        depend: DependNo,
+        unmet: u32,
+    },
+    /// How many frames wait for no other any more, and are ready to run.
+    Dropped {
+        opened: u32,
     },
     Report(ReportReply),
     BadLine {

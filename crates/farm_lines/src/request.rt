@@ -1,13 +1,13 @@
 //! What a line asks.
 
 use crate::report::Report;
-use farm_types::{BootLine, JobSpec, LockState, SubLine, Text};
+use farm_types::{BootLine, DependNo, DependSpec, JobSpec, LockState, SubLine, Text};
 use frame_range::RangeFault;
 use std::alloc::AllocError;
 use std::fmt;
 
 /// What a line asks: that a show or an allocation be added, a subscription set, a host's boot or report taken, a host
-/// locked or opened, a job submitted, or that time be seen to have passed.
+/// locked or opened, a job submitted, a depend added or dropped, or that time be seen to have passed.
 #[derive(Debug, Drop)]
 pub enum Request {
     Show { name: Text },
@@ -17,6 +17,8 @@ pub enum Request {
     Report(Report),
     Lock { host: Text, lock: LockState },
     Submit(JobSpec),
+    Depend(DependSpec),
+    Drop { depend: DependNo },
     Tick,
 }
 

@@ -5,4 +5,5 @@ pub mod ListSums
 pub mod Lists
 pub mod Passes
 pub mod Ranges
+pub mod Searched
 pub mod Stays

@@ -1,72 +1,87 @@
 -- Depends: who waits for whom, what is met, and which frames are open.
-use Rattle.std.specs.Prelude.{ℕ, ℤ, ◌==◌, ◌&&◌, ◌||◌, ◌+◌, Bool, true, not, List, [], ◌∷◌, ◌++◌, Option, None, Some, find, bytes_eq, if◌then◌else◌}
+use Rattle.std.specs.Prelude.{ℕ, ℤ, ◌==◌, ◌&&◌, ◌||◌, ◌+◌, Bool, true, false, not, List, [], ◌∷◌, map, length, sum_by, Option, None, Some, slice_get, if◌then◌else◌}
 use Rattle.std.specs.List.{list_any, list_all}
-use Rattle.std.specs.Ordering.{int_eq}
-use Rattle.farm_types.specs.declared.depend.DependKind.{DependKind}
-use Rattle.farm_types.specs.declared.depend.DependKind.TheVariants.{FrameByFrame, PreviousFrame}
-use Rattle.farm_types.specs.declared.depend.DependEnd.{DependEnd}
 use Rattle.farm_types.specs.declared.depend.DependRow.{DependRow}
-use Rattle.farm_types.specs.declared.slot_row.Frame.{Frame}
+use Rattle.farm_types.specs.declared.depend.Group.{Group}
+use Rattle.farm_types.specs.declared.depend.LayerShape.{LayerShape}
+use Rattle.farm_types.specs.declared.depend.Shape.{Shape}
+use Rattle.farm_types.specs.declared.rows.LayerRow.{LayerRow}
 use Rattle.farm_types.specs.declared.slot_row.SlotRow.{SlotRow}
-use Rattle.farm_types.specs.Farm.{Farm, for_some}
+use Rattle.farm_types.specs.declared.states.FrameState.{FrameState}
+use Rattle.farm_types.specs.declared.states.FrameState.TheVariants as frame_state
+use Rattle.farm_types.specs.Farm.{Farm, for_some, is_placed, layers_of, slot_from}
+use Rattle.farm_types.specs.Groups.{groups_by, part_at}
+use Rattle.farm_types.specs.Ranges.{range_numbers}
 
--- frames that wait, and frames that they wait for, by slot; a group is named by its position among those of its depend
-pub record Group : Type 0 where
-  pub position : ℕ
-  pub waiters : List ℕ
-  pub targets : List ℕ
+-- ---- groups
 
--- the slots, numbered from a place, whose frame passes a test
-abbrev pub slots_from : ℕ → (Frame → Bool) → List SlotRow → List ℕ
-slots_from place test [] = []
-slots_from place test (s ∷ ss) = if for_some s.frame test then place ∷ slots_from (place + 1) test ss else slots_from (place + 1) test ss
+abbrev pub or_first : Option ℕ → ℕ
+or_first None = 0
+or_first (Some slot) = slot
 
--- whether a job's layer at this place has the name, where one is asked for
-abbrev pub is_layer : Farm → ℕ → Option (List ℕ) → ℕ → Bool
-is_layer f job None place = true
-is_layer f job (Some name) place = for_some (find (λ l. l.job == job && bytes_eq l.name name) f.layers) (λ l. l.place == place)
+-- the slot of the frame at a position of a job's layer
+abbrev pub slot_placed : List SlotRow → ℕ → ℕ → ℕ → ℕ
+slot_placed slots job layer position = or_first (slot_from 0 (is_placed job layer position) slots)
 
--- whether a frame has the number, where one is asked for
-abbrev pub is_number : Option ℤ → ℤ → Bool
-is_number None number = true
-is_number (Some wanted) number = int_eq wanted number
+-- a slot for each of the numbers of a layer, counted from a position
+abbrev pub slots_placed : List SlotRow → ℕ → ℕ → ℕ → List ℤ → List ℕ
+slots_placed slots job layer position [] = []
+slots_placed slots job layer position (n ∷ ns) = slot_placed slots job layer position ∷ slots_placed slots job layer (position + 1) ns
 
--- whether a frame is among those that an end of a depend names
-abbrev pub is_at : Farm → DependEnd → Frame → Bool
-is_at f e frame = frame.job == e.job && is_layer f e.job e.layer frame.layer && is_number e.frame frame.number
+abbrev pub layer_shape : List SlotRow → LayerRow → LayerShape
+layer_shape slots l =
+    record { name = l.name; numbers = range_numbers l.range; slots = slots_placed slots l.job l.place 0 (range_numbers l.range) }
 
-abbrev pub frames_at : Farm → DependEnd → List ℕ
-frames_at f e = slots_from 0 (is_at f e) f.slots
+-- the layers of a job with their frames, in range order
+abbrev pub shape_in : List LayerRow → List SlotRow → ℕ → Shape
+shape_in layers slots job = record { layers = map (layer_shape slots) (layers_of layers job) }
 
--- a group of its own for a waiting frame, where it has a target
-abbrev pub group_for : ℕ → Frame → List ℕ → List Group
-group_for slot frame [] = []
-group_for slot frame (t ∷ ts) = record { position = frame.position; waiters = slot ∷ []; targets = t ∷ ts } ∷ []
+abbrev pub shape_of : Farm → ℕ → Shape
+shape_of f job = shape_in f.layers f.slots job
 
--- one group for each waiting frame, with the target frames that are paired with it
-abbrev pub group_at : Farm → DependRow → (Frame → Frame → Bool) → ℕ → Option Frame → List Group
-group_at f d pairs slot None = []
-group_at f d pairs slot (Some frame) =
-    if is_at f d.waiter frame then group_for slot frame (slots_from 0 (λ target. is_at f d.target target && pairs frame target) f.slots) else []
+-- the groups of a depend
+abbrev pub groups_in : List LayerRow → List SlotRow → DependRow → List Group
+groups_in layers slots d =
+    groups_by d.kind d.any (part_at d.waiter) (part_at d.target) (shape_in layers slots d.waiter.job) (shape_in layers slots d.target.job)
 
-abbrev pub paired_groups : Farm → DependRow → (Frame → Frame → Bool) → ℕ → List SlotRow → List Group
-paired_groups f d pairs place [] = []
-paired_groups f d pairs place (s ∷ ss) = group_at f d pairs place s.frame ++ paired_groups f d pairs (place + 1) ss
+unfoldable pub groups_of : Farm → DependRow → List Group
+groups_of f d = groups_in f.layers f.slots d
 
--- Frame by frame, each frame waits for the one of its number. By the previous frame, each waits for the one at the position before
--- its own. Of every other kind there is one group: all waiting frames wait for all target frames.
-abbrev pub groups_by : Farm → DependRow → DependKind → List Group
-groups_by f d FrameByFrame = paired_groups f d (λ frame target. int_eq frame.number target.number) 0 f.slots
-groups_by f d PreviousFrame = paired_groups f d (λ frame target. frame.position == target.position + 1) 0 f.slots
-groups_by f d kind = record { position = 0; waiters = frames_at f d.waiter; targets = frames_at f d.target } ∷ []
+-- how many groups the depends have together that aren't satisfied
+abbrev pub groups_left : Farm → ℕ
+groups_left f = sum_by (λ (d : DependRow). if d.met_all then 0 else length (groups_of f d)) f.depends
 
-abbrev pub groups_of : Farm → DependRow → List Group
-groups_of f d = groups_by f d d.kind
+-- ---- what is done
+
+abbrev pub is_done_state : FrameState → Bool
+is_done_state frame_state.Succeeded = true
+is_done_state frame_state.Eaten = true
+is_done_state other = false
+
+-- the frame in the slot is done
+abbrev pub is_done : List SlotRow → ℕ → Bool
+is_done slots slot = for_some (slice_get slots slot) (λ (s : SlotRow). for_some s.frame (λ x. is_done_state x.state))
+
+-- all targets of the group are done, or one of them where any is enough
+abbrev pub are_done : (ℕ → Bool) → Group → Bool
+are_done done g = if g.any then list_any done g.targets else list_all done g.targets
+
+-- ---- what is met
+
+-- a group was marked as met
+abbrev pub is_marked : Farm → DependRow → Group → Bool
+is_marked f d g = list_any (λ m. m.depend == d.depend && m.position == g.position) f.met
 
 -- a group is met for good once it was marked so, and so are all groups of a satisfied depend
 abbrev pub is_met : Farm → DependRow → Group → Bool
-is_met f d g = d.met_all || list_any (λ m. m.depend == d.depend && m.position == g.position) f.met
+is_met f d g = d.met_all || is_marked f d g
+
+-- ---- open frames
+
+-- the frame in the slot waits in the group
+abbrev pub waits_in : ℕ → Group → Bool
+waits_in slot g = list_any (λ w. w == slot) g.waiters
 
 -- a frame is open where it waits in no unmet group
 abbrev pub is_open : Farm → ℕ → Bool
-is_open f slot = list_all (λ d. list_all (λ g. is_met f d g || not (list_any (λ w. w == slot) g.waiters)) (groups_of f d)) f.depends
+is_open f slot = list_all (λ d. list_all (λ g. is_met f d g || not (waits_in slot g)) (groups_of f d)) f.depends

@@ -7,10 +7,12 @@ use Rattle.farm_types.specs.declared.entry.Entry.{Entry}
 use Rattle.farm_types.specs.declared.entry.Act.{Act}
 use Rattle.farm_types.specs.declared.entry.Act.TheVariants as act
 use Rattle.farm_types.specs.declared.rows.HostRow.{HostRow}
+use Rattle.farm_types.specs.DependActs.{add_depend, dropped, unmet_of}
 use Rattle.farm_types.specs.Farm.{Farm, host_named}
 use Rattle.farm_types.specs.Hosts.{count_unheard, is_same_life}
 use Rattle.farm_types.specs.Lost.{count_on}
 use Rattle.farm_types.specs.Jobs.{frames_in}
+use Rattle.farm_types.specs.Settle.{opened_by, settle}
 use Rattle.farm_types.specs.Step.{is_silent, moment_of, sub_named}
 use Rattle.farm_types.specs.Sums.{booked_in}
 
@@ -36,6 +38,8 @@ answer_at f moment (act.Sub line) = answer.Sub (booked_of f (sub_named f line)) 
 answer_at f moment (act.Boot line) = answer.Boot (boot_number line (row_named f line)) line.nonce
 answer_at f moment (act.Heard heard) = answer.Heard
 answer_at f moment (act.Submit spec) = answer.Submitted (frames_in spec.layers)
+answer_at f moment (act.AddDepend spec) = answer.DependAdded f.next_depend (unmet_of (settle (add_depend f spec)) f.next_depend)
+answer_at f moment (act.DropDepend depend) = answer.DependDropped (opened_by (dropped f depend))
 answer_at f moment (act.Lock host lock) = answer.Lock
 answer_at f moment act.Tick = answer.Tick (count_unheard moment f.hosts) (count_on (is_silent f moment) f.slots)
 answer_at f moment (act.Book slot host) = answer.Booked

@@ -1,5 +1,5 @@
 -- The farm: plain lists, each in the order of its numbers.
-use Rattle.std.specs.Prelude.{ℕ, ◌==◌, ◌&&◌, ◌+◌, ◌*◌, Bool, false, List, [], ◌∷◌, ◌++◌, Option, None, Some, slice_get, slice_set, find, bytes_eq, if◌then◌else◌}
+use Rattle.std.specs.Prelude.{ℕ, ◌==◌, ◌&&◌, ◌+◌, ◌*◌, Bool, false, List, [], ◌∷◌, ◌++◌, filter, Option, None, Some, slice_get, slice_set, find, bytes_eq, if◌then◌else◌}
 use Rattle.std.specs.List.{list_any}
 use Rattle.farm_types.specs.declared.rows.ShowRow.{ShowRow}
 use Rattle.farm_types.specs.declared.rows.AllocRow.{AllocRow}
@@ -7,6 +7,7 @@ use Rattle.farm_types.specs.declared.rows.SubRow.{SubRow}
 use Rattle.farm_types.specs.declared.rows.HostRow.{HostRow}
 use Rattle.farm_types.specs.declared.rows.JobRow.{JobRow}
 use Rattle.farm_types.specs.declared.rows.LayerRow.{LayerRow}
+use Rattle.farm_types.specs.declared.slot_row.Frame.{Frame}
 use Rattle.farm_types.specs.declared.slot_row.SlotRow.{SlotRow}
 use Rattle.farm_types.specs.declared.depend.DependRow.{DependRow}
 use Rattle.farm_types.specs.declared.depend.MetRow.{MetRow}
@@ -52,6 +53,19 @@ job_at f job = find (λ j. j.job == job) f.jobs
 
 abbrev pub layer_at : Farm → ℕ → ℕ → Option LayerRow
 layer_at f job place = find (λ l. l.job == job && l.place == place) f.layers
+
+-- the layers of a job, in order
+abbrev pub layers_of : List LayerRow → ℕ → List LayerRow
+layers_of layers job = filter (λ (l : LayerRow). l.job == job) layers
+
+-- whether the frame is that of the job, its layer and its position
+abbrev pub is_placed : ℕ → ℕ → ℕ → Frame → Bool
+is_placed job layer position x = x.job == job && x.layer == layer && x.position == position
+
+-- the first slot with a frame that passes the test, counted from a place
+abbrev pub slot_from : ℕ → (Frame → Bool) → List SlotRow → Option ℕ
+slot_from place test [] = None
+slot_from place test (s ∷ ss) = if for_some s.frame test then Some place else slot_from (place + 1) test ss
 
 -- the number of a show's subscription to an allocation
 abbrev pub sub_of : ℕ → ℕ → ℕ

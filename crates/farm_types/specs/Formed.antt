@@ -1,8 +1,12 @@
 -- The forms and limits of entries: each moment is a number of 64 bits, each text has its form, and each number is within its limits.
-use Rattle.std.specs.Prelude.{ℕ, ◌≡◌, ◌≤◌, ◌<◌, ◌^◌, true, Option, None, Some}
+use Rattle.std.specs.Prelude.{ℕ, ◌≡◌, ◌≤◌, ◌<◌, ◌^◌, Bool, true, false, List, Option, None, Some, is_some}
 use Rattle.std.specs.List.{All, list_all}
 use Rattle.farm_types.specs.declared.attempt.DoneItem.{DoneItem}
 use Rattle.farm_types.specs.declared.boot.BootLine.{BootLine}
+use Rattle.farm_types.specs.declared.depend.DependKind.{DependKind}
+use Rattle.farm_types.specs.declared.depend.DependKind.TheVariants.{JobOnJob, JobOnLayer, JobOnFrame, LayerOnJob, LayerOnFrame, FrameOnJob, FrameOnLayer, FrameOnFrame}
+use Rattle.farm_types.specs.declared.depend.DependSpec.{DependSpec}
+use Rattle.farm_types.specs.declared.depend.Place.{Place}
 use Rattle.farm_types.specs.declared.entry.Act.{Act}
 use Rattle.farm_types.specs.declared.entry.Act.TheVariants as act
 use Rattle.farm_types.specs.declared.entry.Entry.{Entry}
@@ -14,7 +18,7 @@ use Rattle.farm_types.specs.Forms.{is_command_text, is_name_or_empty, is_name_te
 use Rattle.farm_types.specs.Limits.{IsBetween, BootKeepsLimits, SubKeepsLimits}
 use Rattle.farm_types.specs.Ranges.{is_range_text, range_numbers}
 use Rattle.farm_types.specs.SpecLimits.{JobKeepsLimits, LayerKeepsLimits}
-use Rattle.farm_types.specs.declared.limits.TheConstants.{LAST_BOOT, LAST_SLOT, LAST_VERSION, MOST_CORES, MOST_EXIT}
+use Rattle.farm_types.specs.declared.limits.TheConstants.{LAST_BOOT, LAST_DEPEND, LAST_SLOT, LAST_VERSION, MOST_CORES, MOST_EXIT}
 
 -- a subscription: the show's name has its form; the allocation's may be any text
 pub record IsFormedSub (line : SubLine) : Type 0 where
@@ -57,6 +61,57 @@ pub record IsFormedLayer (layer : LayerSpec) : Type 0 where
   pub tags : list_all is_tag_text layer.tags ≡ true
   pub limits : LayerKeepsLimits layer
 
+-- ---- depends
+
+-- whether a kind of depend names a layer of the waiting end, and a frame in it
+abbrev pub names_layer : DependKind → Bool
+names_layer JobOnJob = false
+names_layer JobOnLayer = false
+names_layer JobOnFrame = false
+names_layer other = true
+
+abbrev pub names_frame : DependKind → Bool
+names_frame FrameOnJob = true
+names_frame FrameOnLayer = true
+names_frame FrameOnFrame = true
+names_frame other = false
+
+-- whether it names a layer of the other end, and a frame in it
+abbrev pub names_target_layer : DependKind → Bool
+names_target_layer JobOnJob = false
+names_target_layer LayerOnJob = false
+names_target_layer FrameOnJob = false
+names_target_layer other = true
+
+abbrev pub names_target_frame : DependKind → Bool
+names_target_frame JobOnFrame = true
+names_target_frame LayerOnFrame = true
+names_target_frame FrameOnFrame = true
+names_target_frame other = false
+
+-- a name of a layer, where there is one
+abbrev pub is_layer_name : Option (List ℕ) → Bool
+is_layer_name None = true
+is_layer_name (Some name) = is_name_text name
+
+-- names of a job and, where the kind of depend has them, of a layer and a frame
+pub record IsFormedPlace (layered framed : Bool) (p : Place) : Type 0 where
+  pub job : is_name_text p.job ≡ true
+  pub layer : is_some p.layer ≡ layered
+  pub layer_name : is_layer_name p.layer ≡ true
+  pub frame : is_some p.frame ≡ framed
+
+pub record IsFormedDepend (d : DependSpec) : Type 0 where
+  pub waiter : IsFormedPlace (names_layer d.kind) (names_frame d.kind) d.waiter
+  pub target : IsFormedPlace (names_target_layer d.kind) (names_target_frame d.kind) d.target
+
+-- a depend of a spec, in which its own job waits
+pub record IsFormedOwn (job : List ℕ) (d : DependSpec) : Type 0 where
+  pub own : d.waiter.job ≡ job
+  pub depend : IsFormedDepend d
+
+-- ---- jobs
+
 -- a job; its shot and its user may be empty
 pub record IsFormedJob (spec : JobSpec) : Type 0 where
   pub name : is_name_text spec.name ≡ true
@@ -66,6 +121,7 @@ pub record IsFormedJob (spec : JobSpec) : Type 0 where
   pub user : is_name_or_empty spec.user ≡ true
   pub limits : JobKeepsLimits spec
   pub each_layer : All IsFormedLayer spec.layers
+  pub each_depend : All (IsFormedOwn spec.name) spec.depends
 
 -- what an entry does; of a booking its condition says more
 abbrev pub IsFormedAct : Act → Type 0
@@ -76,6 +132,8 @@ IsFormedAct (act.Sub line) = IsFormedSub line
 IsFormedAct (act.Boot line) = IsFormedBoot line
 IsFormedAct (act.Heard heard) = IsFormedHeard heard
 IsFormedAct (act.Submit spec) = IsFormedJob spec
+IsFormedAct (act.AddDepend spec) = IsFormedDepend spec
+IsFormedAct (act.DropDepend depend) = IsBetween 1 LAST_DEPEND depend
 IsFormedAct (act.Lock host lock) = is_name_text host ≡ true
 IsFormedAct act.Tick = Unit {0}
 IsFormedAct (act.Book slot host) = Unit {0}

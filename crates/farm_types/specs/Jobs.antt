@@ -1,5 +1,5 @@
 -- The farm's jobs, their layers and the frame slots, and what a submitted job makes of them.
-use Rattle.std.specs.Prelude.{ℕ, ℤ, ◌==◌, ◌+◌, ◌-◌, ◌&&◌, Bool, List, [], ◌∷◌, ◌++◌, length, map, sum_by, is_none, Option, None, Some, nat_lt, bytes_eq, if◌then◌else◌}
+use Rattle.std.specs.Prelude.{ℕ, ℤ, ◌+◌, ◌-◌, ◌&&◌, Bool, List, [], ◌∷◌, ◌++◌, length, map, sum_by, is_none, Option, None, Some, nat_lt, bytes_eq, if◌then◌else◌}
 use Rattle.std.specs.List.{list_any}
 use Rattle.farm_types.specs.declared.job.JobSpec.{JobSpec}
 use Rattle.farm_types.specs.declared.job.LayerSpec.{LayerSpec}
@@ -13,7 +13,6 @@ use Rattle.farm_types.specs.declared.slot_row.SlotRow.{SlotRow}
 use Rattle.farm_types.specs.declared.states.FrameState.TheVariants as frame_state
 use Rattle.farm_types.specs.declared.states.JobState.TheVariants as job_state
 use Rattle.farm_types.specs.Booking.{is_pending}
-use Rattle.farm_types.specs.Farm.{for_some}
 use Rattle.farm_types.specs.declared.limits.TheConstants.{LAST_JOB, LAST_VERSION, SLOT_LIMIT}
 
 -- jobs and layers in the order of their numbers, slots up to the last that was ever used, and the next job's number
@@ -111,17 +110,6 @@ with_job b show spec =
       slots = place_frames b.slots (frames_of b.next_job 0 spec.layers);
       next_job = b.next_job + 1;
     }
-
--- ---- where a frame stands
-
--- whether the frame is that of the job, its layer and its position
-abbrev pub is_placed : ℕ → ℕ → ℕ → Frame → Bool
-is_placed job layer position x = x.job == job && x.layer == layer && x.position == position
-
--- the first slot with a frame that passes the test, counted from a place
-abbrev pub slot_from : ℕ → (Frame → Bool) → List SlotRow → Option ℕ
-slot_from place test [] = None
-slot_from place test (s ∷ ss) = if for_some s.frame test then Some place else slot_from (place + 1) test ss
 
 -- ---- refusals
 

@@ -1,8 +1,10 @@
 -- What every farm of the program keeps: each legal run from the empty farm, or from a farm that keeps it, does.
-use Rattle.std.specs.Prelude.{ℕ, ◌≡◌, ◌≤◌, ◌<◌, ◌==◌, ◌&&◌, ◌||◌, ◌+◌, ◌*◌, ◌^◌, ◌/◌, ◌%◌, Bool, true, false, not, List, [], ◌∷◌, length, map, filter, sum_by, find, is_some, slice_get, nat_le, nat_lt, bytes_eq, Option, None, Some}
+use Rattle.std.specs.Prelude.{ℕ, ℤ, ◌≡◌, ◌≤◌, ◌<◌, ◌==◌, ◌&&◌, ◌||◌, ◌+◌, ◌*◌, ◌^◌, ◌/◌, ◌%◌, Bool, true, false, not, List, [], ◌∷◌, length, map, filter, sum_by, find, is_some, slice_get, nat_le, nat_lt, bytes_eq, Option, None, Some}
 use Rattle.std.specs.List.{IsDistinct, list_all}
 use Rattle.std.specs.Ordering.{int_eq}
 use Rattle.farm_types.specs.declared.attempt.ProcRow.{ProcRow}
+use Rattle.farm_types.specs.declared.depend.DependEnd.{DependEnd}
+use Rattle.farm_types.specs.declared.depend.DependRow.{DependRow}
 use Rattle.farm_types.specs.declared.rows.AllocRow.{AllocRow}
 use Rattle.farm_types.specs.declared.rows.HostRow.{HostRow}
 use Rattle.farm_types.specs.declared.rows.JobRow.{JobRow}
@@ -13,15 +15,18 @@ use Rattle.farm_types.specs.declared.slot_row.Frame.{Frame}
 use Rattle.farm_types.specs.declared.slot_row.SlotRow.{SlotRow}
 use Rattle.farm_types.specs.declared.states.FrameState.{FrameState}
 use Rattle.farm_types.specs.declared.states.FrameState.TheVariants as frame_state
-use Rattle.farm_types.specs.Booking.{is_pending, is_up}
-use Rattle.farm_types.specs.Farm.{Farm, for_some, alloc_name, sub_of}
+use Rattle.farm_types.specs.Booking.{is_pending, is_up, is_waiting}
+use Rattle.farm_types.specs.DependActs.{has_number, is_running}
+use Rattle.farm_types.specs.Depends.{groups_left, is_open}
+use Rattle.farm_types.specs.Farm.{Farm, for_some, alloc_name, sub_of, is_placed, slot_from, layers_of}
 use Rattle.farm_types.specs.Forms.{is_between, is_command_text, is_name_or_empty, is_name_text, is_tag_text}
-use Rattle.farm_types.specs.Jobs.{JobLists, is_placed, slot_from}
+use Rattle.farm_types.specs.Jobs.{JobLists}
 use Rattle.farm_types.specs.Ranges.{is_range_text, range_numbers}
-use Rattle.farm_types.specs.Rising.{IsRising, job_key, layer_key, sub_key}
+use Rattle.farm_types.specs.Rising.{IsRising, depend_key, job_key, layer_key, sub_key}
 use Rattle.farm_types.specs.Run.{IsSound}
+use Rattle.farm_types.specs.Settle.{opens, with_met}
 use Rattle.farm_types.specs.Step.{lists_of}
-use Rattle.farm_types.specs.declared.limits.TheConstants.{LAST_BOOT, LAST_JOB, LAST_VERSION, LEAST_CORES, LEAST_MEMORY, MOST_ALLOCS, MOST_BURST, MOST_COMMAND, MOST_CORES, MOST_FRAMES, MOST_HOSTS, MOST_LAYERS, MOST_MEMORY, MOST_PRIORITY, MOST_RETRIES, MOST_SHOWS, MOST_TAGS, SLOT_LIMIT, SUB_NUMBERS}
+use Rattle.farm_types.specs.declared.limits.TheConstants.{LAST_BOOT, LAST_DEPEND, LAST_JOB, LAST_VERSION, LEAST_CORES, LEAST_MEMORY, MOST_ALLOCS, MOST_BURST, MOST_COMMAND, MOST_CORES, MOST_DEPENDS, MOST_FRAMES, MOST_GROUPS, MOST_HOSTS, MOST_LAYERS, MOST_MEMORY, MOST_PRIORITY, MOST_RETRIES, MOST_SHOWS, MOST_TAGS, SLOT_LIMIT, SUB_NUMBERS}
 
 -- no name stands twice
 abbrev pub AllDiffer : {X : Type 0} → (X → List ℕ) → List X → Type 0
@@ -102,10 +107,6 @@ abbrev pub is_formed_layer : LayerRow → Bool
 is_formed_layer l =
     is_name_text l.name && (nat_lt l.place MOST_LAYERS && (is_range_text l.range && (is_between 1 MOST_COMMAND (length l.command) && (is_command_text l.command
     && (is_between LEAST_CORES MOST_CORES l.cores && (is_between LEAST_MEMORY MOST_MEMORY l.memory && are_tags 1 l.tags))))))
-
--- the layers of a job, in order
-abbrev pub layers_of : List LayerRow → ℕ → List LayerRow
-layers_of layers job = filter (λ (l : LayerRow). l.job == job) layers
 
 abbrev pub layer_label : LayerRow → List ℕ
 layer_label l = l.name
@@ -221,10 +222,10 @@ pub record KeepsAttempts (f : Farm) : Type 0 where
   pub subscribed : list_all (λ (s : SlotRow). for_any s.proc (is_subscribed f.subs)) f.slots ≡ true
   pub since : list_all (λ (s : SlotRow). for_any s.proc (λ (p : ProcRow). nat_le p.since f.moment)) f.slots ≡ true
 
--- ---- the farm
+-- ---- rows but for depends
 
 -- A group of facts for each kind of row. Where an act leaves the rows that a group speaks of as they are, it keeps the group.
-pub record IsKeptFarm (f : Farm) : Type 0 where
+pub record KeepsRows (f : Farm) : Type 0 where
   pub moment_within : f.moment < 2 ^ 64
   pub shows : KeepsShows f.shows
   pub allocs : KeepsAllocs f.allocs
@@ -233,3 +234,44 @@ pub record IsKeptFarm (f : Farm) : Type 0 where
   pub jobs : KeepsJobs (lists_of f) (length f.shows) f.next_finish
   pub attempts : KeepsAttempts f
   pub sound : IsSound f
+
+-- ---- depends
+
+-- the layer is there, and has the frame, where one is named
+abbrev pub has_frame_in : Option ℤ → LayerRow → Bool
+has_frame_in None l = true
+has_frame_in (Some number) l = has_number number l
+
+abbrev pub has_part : List LayerRow → Option (List ℕ) → Option ℤ → Bool
+has_part layers None frame = true
+has_part layers (Some name) frame = for_some (find (λ (l : LayerRow). bytes_eq l.name name) layers) (has_frame_in frame)
+
+-- the end's job is pending, and has what is named
+abbrev pub is_end_there : Farm → DependEnd → Bool
+is_end_there f e = is_of_pending f.jobs e.job && has_part (layers_of f.layers e.job) e.layer e.frame
+
+-- the ends of a depend that isn't satisfied are there
+abbrev pub is_kept_depend : Farm → DependRow → Bool
+is_kept_depend f d = d.met_all || (is_end_there f d.waiter && is_end_there f d.target)
+
+-- the slot's frame waits or runs, and isn't open
+abbrev pub runs_unmet : Farm → ℕ → SlotRow → Bool
+runs_unmet f slot s = for_some s.frame (λ x. is_waiting x.state || is_running x.state) && not (is_open f slot)
+
+-- Depends in the order of their numbers, within their limits, with their ends. Exactly what is met is marked, no blocked frame is open, and each
+-- frame that waits or runs is.
+pub record KeepsDepends (f : Farm) : Type 0 where
+  pub next_within : f.next_depend ≤ LAST_DEPEND + 1
+  pub rise : IsRising depend_key 1 f.depends f.next_depend
+  pub count : length f.depends ≤ MOST_DEPENDS
+  pub groups_within : groups_left f ≤ MOST_GROUPS
+  pub ends_there : list_all (is_kept_depend f) f.depends ≡ true
+  pub met : with_met f ≡ f
+  pub blocked : (slot : ℕ) (s : SlotRow) → slice_get f.slots slot ≡ Some s → opens f slot s ≡ false
+  pub free_to_run : (slot : ℕ) (s : SlotRow) → slice_get f.slots slot ≡ Some s → runs_unmet f slot s ≡ false
+
+-- ---- the farm
+
+pub record IsKeptFarm (f : Farm) : Type 0 where
+  pub rows : KeepsRows f
+  pub depends : KeepsDepends f

@@ -1,3 +1,4 @@
+pub mod DependActs
 pub mod EntryAnswers
 pub mod Booking
 pub mod Demo
@@ -6,15 +7,18 @@ pub mod Dispatch
 pub mod Farm
 pub mod Formed
 pub mod Forms
+pub mod Groups
 pub mod Hosts
 pub mod Jobs
 pub mod Kept
 pub mod Limits
 pub mod Lost
+pub mod Names
 pub mod Ranges
 pub mod Rising
 pub mod Run
 pub mod SpecLimits
+pub mod Settle
 pub mod Step
 pub mod Subs
 pub mod Sums

@@ -1,5 +1,6 @@
 -- Lists whose keys rise.
 use Rattle.std.specs.Prelude.{ℕ, ◌≤◌, ◌+◌, ◌*◌, List, [], ◌∷◌}
+use Rattle.farm_types.specs.declared.depend.DependRow.{DependRow}
 use Rattle.farm_types.specs.declared.rows.JobRow.{JobRow}
 use Rattle.farm_types.specs.declared.rows.LayerRow.{LayerRow}
 use Rattle.farm_types.specs.declared.rows.SubRow.{SubRow}
@@ -19,3 +20,6 @@ job_key j = j.job
 -- layers are in the order of their jobs, those of a job by their places, which are below the most that a job has
 abbrev pub layer_key : LayerRow → ℕ
 layer_key l = MOST_LAYERS * l.job + l.place
+
+abbrev pub depend_key : DependRow → ℕ
+depend_key d = d.depend

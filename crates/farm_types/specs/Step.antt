@@ -29,6 +29,8 @@ use Rattle.farm_types.specs.declared.verdict.Verdict.TheVariants as verdict
 use Rattle.farm_types.specs.Farm.{Farm, for_some, changed_at, job_at, layer_at, sub_of, host_named, show_named, has_facility, alloc_name, alloc_named}
 use Rattle.farm_types.specs.Verdict.{verdict_of}
 use Rattle.farm_types.specs.Booking.{may_record}
+use Rattle.farm_types.specs.DependActs.{after_depend, depend_at, depend_refusal, depends_refusal, drop_refusal, dropped, or_else, with_depends}
+use Rattle.farm_types.specs.Settle.{settle}
 use Rattle.farm_types.specs.Hosts.{heard_row, reopened_row, locked_row, is_unheard, silenced, is_same_life, booted}
 use Rattle.farm_types.specs.Jobs.{JobLists, with_job, job_refusal}
 use Rattle.farm_types.specs.Lost.{lose_on}
@@ -103,7 +105,7 @@ abbrev pub submit_refusal : Farm → JobSpec → Option ℕ → Option Refusal
 submit_refusal f spec None = Some (Unknown spec.show)
 submit_refusal f spec (Some show) = if has_facility f spec.facility then job_refusal (lists_of f) spec else Some (Unknown spec.facility)
 
--- the first refusal that the farm gives, or none
+-- the first refusal that the farm gives of hosts, shows, allocations, subscriptions and jobs, or none
 abbrev pub act_refusal : Farm → Act → Option Refusal
 act_refusal f act.Opened = None
 act_refusal f (act.Show name) = show_refusal f name
@@ -112,12 +114,11 @@ act_refusal f (act.Sub line) = sub_refusal f line (show_named f line.show)
 act_refusal f (act.Boot line) = boot_refusal f line (alloc_named f line.alloc)
 act_refusal f (act.Heard heard) = host_refusal f heard (host_named f heard.host)
 act_refusal f (act.Submit spec) = submit_refusal f spec (show_named f spec.show)
+act_refusal f (act.AddDepend spec) = None
+act_refusal f (act.DropDepend depend) = None
 act_refusal f (act.Lock host lock) = name_refusal host (host_named f host)
 act_refusal f act.Tick = None
 act_refusal f (act.Book slot host) = None
-
-abbrev pub refusal_of : Farm → Entry → Option Refusal
-refusal_of f e = act_refusal f e.act
 
 -- what a booking asks beside: that it may be recorded
 abbrev pub HasCondition : Farm → Act → Type 0
@@ -244,7 +245,7 @@ abbrev pub after_lock : Farm → LockState → Option ℕ → Farm
 after_lock f lock None = f
 after_lock f lock (Some host) = record f { hosts = changed_at f.hosts host (locked_row lock) }
 
--- A report, a boot and a tick first see which hosts are silent.
+-- What an act does to hosts, shows, allocations, subscriptions, jobs and attempts. A report, a boot and a tick first see which hosts are silent.
 abbrev pub after_act : Farm → ℕ → Act → Farm
 after_act f moment act.Opened = record f { hosts = map (reopened_row moment) f.hosts }
 after_act f moment (act.Show name) = record f { shows = f.shows ++ record { name = name } ∷ [] }
@@ -253,6 +254,8 @@ after_act f moment (act.Sub line) = after_sub f line (sub_named f line)
 after_act f moment (act.Boot line) = after_boot (expire f moment) line moment (alloc_named f line.alloc)
 after_act f moment (act.Heard heard) = after_heard (expire f moment) heard moment (host_named f heard.host)
 after_act f moment (act.Submit spec) = after_submit f spec (show_named f spec.show)
+after_act f moment (act.AddDepend spec) = f
+after_act f moment (act.DropDepend depend) = f
 after_act f moment (act.Lock host lock) = after_lock f lock (host_named f host)
 after_act f moment act.Tick = expire f moment
 after_act f moment (act.Book slot host) = with_proc f slot (new_proc f slot host moment)
@@ -261,6 +264,31 @@ after_act f moment (act.Book slot host) = with_proc f slot (new_proc f slot host
 abbrev pub at_moment : Farm → ℕ → Farm
 at_moment f moment = record f { moment = moment; recorded = true }
 
+abbrev pub acted : Farm → Entry → Farm
+acted f e = after_act (at_moment f (moment_of f e.moment)) (moment_of f e.moment) e.act
+
+-- ---- depends
+
+-- what the farm refuses of depends
+abbrev pub follow_refusal : Farm → Act → Option Refusal
+follow_refusal f (act.Submit spec) = depends_refusal (after_submit f spec (show_named f spec.show)) spec.depends
+follow_refusal f (act.AddDepend spec) = depend_refusal f spec
+follow_refusal f (act.DropDepend depend) = drop_refusal depend (depend_at f depend)
+follow_refusal f other = None
+
+-- the first refusal that the farm gives, or none
+abbrev pub refusal_of : Farm → Entry → Option Refusal
+refusal_of f e = or_else (act_refusal f e.act) (follow_refusal f e.act)
+
+-- What follows of depends: those that come or go, what completions meet, and which frames open. After every other act nothing follows: the
+-- farms of legal runs are settled (`KeepsDepends`).
+abbrev pub followed : Act → Farm → Farm
+followed (act.Heard heard) f = settle f
+followed (act.Submit spec) f = with_depends f spec.depends
+followed (act.AddDepend spec) f = after_depend f spec
+followed (act.DropDepend depend) f = settle (dropped f depend)
+followed other f = f
+
 -- the farm after an entry that it doesn't refuse
 abbrev pub after : Farm → Entry → Farm
-after f e = after_act (at_moment f (moment_of f e.moment)) (moment_of f e.moment) e.act
+after f e = followed e.act (acted f e)

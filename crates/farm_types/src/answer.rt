@@ -1,6 +1,6 @@
 //! What the farm answers to an entry.
 
-use crate::numbers::Cores;
+use crate::numbers::{Cores, DependNo};
 
 /// What the farm answers to an entry that it took: the numbers that the reply shows.
 #[derive(Clone, Copy, Debug, PartialEq, Eq)]
@@ -23,6 +23,15 @@ pub enum Answer {
     /// How many frames the job has.
     Submitted {
         frames: u32,
+    },
+    /// The depend's number, and how many frames wait in those of its groups that aren't met.
+    DependAdded {
+        depend: DependNo,
+        unmet: u32,
+    },
+    /// How many frames wait for no other any more, and are ready to run.
+    DependDropped {
+        opened: u32,
     },
     Lock,
     /// How many hosts went down, and how many attempts were lost.

@@ -2,9 +2,10 @@
 
 use crate::attempt::DoneItem;
 use crate::boot::BootLine;
+use crate::depend::DependSpec;
 use crate::items::Items;
 use crate::job::JobSpec;
-use crate::numbers::{HostNo, Slot};
+use crate::numbers::{DependNo, HostNo, Slot};
 use crate::states::LockState;
 use crate::sub_line::SubLine;
 use crate::text::Text;
@@ -17,8 +18,8 @@ pub struct Entry {
 }
 
 /// What an entry does: the scheduler was opened; a show or an allocation is added; a subscription is set; a host
-/// booted; a host was heard; a job is submitted; a host is locked or opened; time passed; or a waiting frame is
-/// booked on a host. Each amount is within its limits.
+/// booted; a host was heard; a job is submitted; a depend is added or dropped; a host is locked or opened; time passed; or a
+/// waiting frame is booked on a host. Each amount is within its limits.
 #[derive(Debug, Drop)]
 pub enum Act {
     Opened,
@@ -28,6 +29,8 @@ pub enum Act {
     Boot(BootLine),
     Heard(HeardAct),
     Submit(JobSpec),
+    AddDepend(DependSpec),
+    DropDepend { depend: DependNo },
     Lock { host: Text, lock: LockState },
     Tick,
     Book { slot: Slot, host: HostNo },

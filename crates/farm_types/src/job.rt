@@ -3,14 +3,15 @@
 ghost use Rattle.std.specs.Prelude.{◌≡◌, IfOk};
 ghost use Rattle.farm_types.specs.Jobs.{frames_in};
 
+use crate::depend::DependSpec;
 use crate::items::Items;
 use crate::numbers::{Cores, Kb};
 use crate::text::Text;
 use std::alloc::{AllocError, Global};
 
 /// A job: its name, show and facility, shot and user (empty where none is said), its priority from 1 to
-/// 1,000,000, its greatest number of retries from 0 to 16, and its layers, which have 1 to 10,000 frames
-/// together.
+/// 1,000,000, its greatest number of retries from 0 to 16, its layers, which have 1 to 10,000 frames
+/// together, and its depends, in each of which the job itself waits.
 #[derive(Debug, Drop)]
 pub struct JobSpec {
     pub name: Text,
@@ -23,6 +24,7 @@ pub struct JobSpec {
     pub auto_eat: bool,
     pub paused: bool,
     pub layers: Items<LayerSpec>,
+    pub depends: Items<DependSpec>,
 }
 
 /// A layer: its frame range as it is printed and the range's numbers in order, its command, and what each
@@ -54,6 +56,7 @@ impl JobSpec {
             auto_eat: self.auto_eat,
             paused: self.paused,
             layers: copies_of_layers(alloc, self.layers.as_slice())?,
+            depends: self.depends.copy(alloc)?,
         })
     }
 }

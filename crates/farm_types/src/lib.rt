@@ -23,16 +23,19 @@ mod verdict;
 pub use answer::Answer;
 pub use attempt::{Attempt, DoneItem, Exit, ProcRow};
 pub use boot::BootLine;
-pub use depend::{DependEnd, DependKind, DependRow, MetRow};
+pub use depend::{
+    DependEnd, DependKind, DependRow, DependSpec, Group, LayerShape, MetRow, Place, Shape,
+};
 pub use dispatch::{Candidate, Cut, Rank};
 pub use entry::{Act, Entry, HeardAct};
 pub use items::Items;
 pub use job::{JobSpec, LayerSpec};
 pub use limits::{
-    BOOKINGS_EACH, CANDIDATES_EACH, LAST_BOOT, LAST_JOB, LAST_SLOT, LAST_VERSION, LEAST_CORES,
-    LEAST_MEMORY, MOST_ALLOCS, MOST_BURST, MOST_COMMAND, MOST_CORES, MOST_EXIT, MOST_FRAMES,
-    MOST_HOSTS, MOST_LAYERS, MOST_MEMORY, MOST_NAME, MOST_PRIORITY, MOST_RANGE, MOST_RETRIES,
-    MOST_SHOWS, MOST_TAG, MOST_TAGS, SILENT_SECONDS, SLOT_LIMIT, SUB_NUMBERS,
+    BOOKINGS_EACH, CANDIDATES_EACH, LAST_BOOT, LAST_DEPEND, LAST_JOB, LAST_SLOT, LAST_VERSION,
+    LEAST_CORES, LEAST_MEMORY, MOST_ALLOCS, MOST_BURST, MOST_COMMAND, MOST_CORES, MOST_DEPENDS,
+    MOST_EXIT, MOST_FRAMES, MOST_GROUPS, MOST_HOSTS, MOST_LAYERS, MOST_MEMORY, MOST_NAME,
+    MOST_PRIORITY, MOST_RANGE, MOST_RETRIES, MOST_SHOWS, MOST_TAG, MOST_TAGS, SILENT_SECONDS,
+    SLOT_LIMIT, SUB_NUMBERS,
 };
 pub use names::{is_name, is_tag};
 pub use numbers::{AllocNo, Cores, DependNo, HostNo, JobNo, Kb, ShowNo, Slot, SubNo, Version};

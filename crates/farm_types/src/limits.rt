@@ -33,6 +33,15 @@ pub const LAST_BOOT: u32 = 4_294_967_295;
 /// The greatest number that is given to a job.
 pub const LAST_JOB: u32 = 4_294_967_295;
 
+/// How many depends are kept at most.
+pub const MOST_DEPENDS: u32 = 16_384;
+
+/// How many groups the depends that aren't satisfied have together at most.
+pub const MOST_GROUPS: u32 = 1_000_000;
+
+/// The greatest number that is given to a depend.
+pub const LAST_DEPEND: u32 = 4_294_967_295;
+
 /// The least cores of a host or a layer (hundredths of a core).
 pub const LEAST_CORES: u32 = 10;
 

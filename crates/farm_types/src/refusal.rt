@@ -16,6 +16,12 @@ pub enum Refusal {
     Stale { last: u64 },
     /// The job has more frames than there are free slots, of which there are so many.
     FarmFull { free: u32 },
+    /// The depend to be dropped is satisfied already.
+    Satisfied,
+    /// The frame of that name would wait for itself.
+    SelfDepend { frame: Text },
+    /// The frame of that name, which is to wait, runs already.
+    Started { frame: Text },
     /// The count of such things is at its limit.
     Full { limit: u64, what: Counted },
 }
@@ -28,13 +34,18 @@ impl fmt::Display for Refusal {
             Refusal::WrongBoot { boot } => write!(f, "the host is at boot {boot}"),
             Refusal::Stale { last } => write!(f, "the host's last report is {last}"),
             Refusal::FarmFull { free } => write!(f, "the farm has {free} free slots"),
+            Refusal::Satisfied => write!(f, "the depend is satisfied already"),
+            Refusal::SelfDepend { frame } => {
+                write!(f, "frame `{}` would wait for itself", frame.as_str())
+            }
+            Refusal::Started { frame } => write!(f, "frame `{}` runs already", frame.as_str()),
             Refusal::Full { limit, what } => write!(f, "there are {limit} {what} already"),
         }
     }
 }
 
-/// What is counted up to a limit: shows, allocations, hosts, a host's boot numbers, and the numbers that were given
-/// to jobs.
+/// What is counted up to a limit: shows, allocations, hosts, a host's boot numbers, the numbers that were given to jobs,
+/// depends, the groups of those that aren't satisfied, and the numbers that were given to depends.
 #[derive(Clone, Copy, Debug, PartialEq, Eq)]
 pub enum Counted {
     Shows,
@@ -42,6 +53,9 @@ pub enum Counted {
     Hosts,
     Boots,
     Jobs,
+    Depends,
+    Groups,
+    DependNumbers,
 }
 
 impl fmt::Display for Counted {
@@ -52,6 +66,9 @@ impl fmt::Display for Counted {
             Counted::Hosts => write!(f, "hosts"),
             Counted::Boots => write!(f, "boots"),
             Counted::Jobs => write!(f, "jobs"),
+            Counted::Depends => write!(f, "depends"),
+            Counted::Groups => write!(f, "groups of depends"),
+            Counted::DependNumbers => write!(f, "numbers of depends"),
         }
     }
 }

@@ -4,9 +4,10 @@ ghost use Rattle.std.specs.Prelude.{◌≡◌, ◌<◌, length, option_map, slic
 ghost use Rattle.std.specs.Vec.{vec_capacity};
 ghost use Rattle.farm_types.specs.Farm.{changed_at};
 ghost use Rattle.host_book.specs.Inside.{watched_in};
-ghost use Rattle.host_book.specs.Life.{life_of, with_life};
+ghost use Rattle.host_book.specs.Life.{is_unheard_life, life_of, with_life};
 
 use crate::hosts::Hosts;
+use crate::walk::is_past;
 use farm_types::{HostNo, HostRow, HostState, LockState};
 
 /// The part of a host's row that reports, silence and locks change: the moment when it was last heard in seconds, and the
@@ -17,6 +18,15 @@ pub struct HostLife {
     pub heard: u64,
     pub seq: u64,
     pub lock: LockState,
+}
+
+impl HostLife {
+    /// Whether a host of this life is silent at the moment (seconds): it is up, and was last heard more than 300 seconds before.
+    pub fn is_silent(&self, moment: u64) -> bool
+        ensures { result ≡ is_unheard_life moment self.now }
+    {
+        matches!(self.state, HostState::Up) && is_past(self.heard, moment)
+    }
 }
 
 impl Hosts {
@@ -40,7 +50,7 @@ impl Hosts {
 }
 
 // The life of a host.
-fn life_of(row: &HostRow) -> HostLife
+pub(crate) fn life_of(row: &HostRow) -> HostLife
     ensures { result ≡ life_of row.now }
 {
     HostLife {

@@ -1,13 +1,13 @@
 //! Which hosts are silent, and how many.
 
 ghost use Rattle.std.specs.Prelude.{◌≡◌, filter, length, slice_get};
-ghost use Rattle.farm_types.specs.Booking.{is_up};
 ghost use Rattle.farm_types.specs.Farm.{for_some};
 ghost use Rattle.farm_types.specs.Hosts.{count_unheard, is_unheard};
 ghost use Rattle.host_book.specs.Inside.{is_past};
 
 use crate::hosts::Hosts;
-use farm_types::{HostNo, HostState, SILENT_SECONDS};
+use crate::life::life_of;
+use farm_types::{HostNo, SILENT_SECONDS};
 
 impl Hosts {
     /// Whether the host is up, and `now` is more than 300 seconds past the moment when it was last heard.
@@ -16,7 +16,7 @@ impl Hosts {
     {
         match self.row(host) {
             None => false,
-            Some(row) => is_up(row.state) && is_past(row.heard, now),
+            Some(row) => life_of(row).is_silent(now),
         }
     }
 
@@ -29,13 +29,6 @@ impl Hosts {
         }
         count_past(self.watched.as_slice(), now) as u32
     }
-}
-
-// Whether the host is up.
-fn is_up(state: HostState) -> bool
-    ensures { result ≡ is_up state }
-{
-    matches!(state, HostState::Up)
 }
 
 // Whether more than 300 seconds have passed.

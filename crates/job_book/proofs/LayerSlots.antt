@@ -10,8 +10,7 @@ use Rattle.farm_types.specs.declared.slot_row.Frame.{Frame}
 use Rattle.farm_types.specs.declared.slot_row.SlotRow.{SlotRow}
 use Rattle.farm_types.specs.declared.states.FrameState.{FrameState}
 use Rattle.farm_types.specs.Booking.{is_waiting}
-use Rattle.farm_types.specs.Farm.{for_some, changed_at}
-use Rattle.farm_types.specs.Jobs.{is_placed, slot_from}
+use Rattle.farm_types.specs.Farm.{for_some, changed_at, is_placed, slot_from}
 use Rattle.farm_types.specs.Rising.{IsRising}
 use Rattle.farm_types.proofs.Changed.{places, changed_at_each, changed_at_other, changed_at_same}
 use Rattle.farm_types.proofs.ChangedLists.{map-changed_at_kept}
@@ -20,7 +19,7 @@ use Rattle.job_book.specs.Index.{waits_in}
 use Rattle.job_book.specs.Inside.{layer_key}
 use Rattle.job_book.specs.Layers.{LayerPlaces, KeepsLayers, KeepsWaiting, layer_position, marked, place_in, slots_of}
 use Rattle.job_book.proofs.InState.{IsInState, read_same, with_row}
-use Rattle.job_book.proofs.Searched.{rises}
+use Rattle.farm_types.proofs.Searched.{rises}
 
 -- ---- where a frame is found
 

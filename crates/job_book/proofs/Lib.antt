@@ -14,5 +14,7 @@ pub mod Places
 pub mod Putting
 pub mod ReadyKept
 pub mod ReadyLists
-pub mod Searched
+pub mod LayerKeys
 pub mod InState
+pub mod LayersOf
+pub mod FreePlaces

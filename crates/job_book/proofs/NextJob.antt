@@ -5,7 +5,7 @@ use Rattle.std.proofs.lemmas.Bool.{eq-eqb, ltb-true, ltb-false}
 use Rattle.farm_types.specs.declared.rows.JobRow.{JobRow}
 use Rattle.job_book.specs.Book.{IsLeastAbove}
 use Rattle.farm_types.specs.Rising.{IsRising, job_key}
-use Rattle.job_book.proofs.Searched.{at_least}
+use Rattle.farm_types.proofs.Searched.{at_least}
 
 all_cons : (P : JobRow → Type 0) (j : JobRow) (js : List JobRow) → P j → All P js → All P (j ∷ js)
 all_cons P j js here rest zero d within = here

@@ -11,8 +11,8 @@ use Rattle.farm_types.specs.declared.job.LayerSpec.{LayerSpec}
 use Rattle.farm_types.specs.declared.rows.LayerRow.{LayerRow}
 use Rattle.farm_types.specs.declared.slot_row.Frame.{Frame}
 use Rattle.farm_types.specs.declared.slot_row.SlotRow.{SlotRow}
-use Rattle.farm_types.specs.Farm.{for_some}
-use Rattle.farm_types.specs.Jobs.{is_free, slot_with, fresh_slot, place_frames, frames_from, frames_of, layer_rows, is_placed, slot_from}
+use Rattle.farm_types.specs.Farm.{for_some, is_placed, slot_from}
+use Rattle.farm_types.specs.Jobs.{is_free, slot_with, fresh_slot, place_frames, frames_from, frames_of, layer_rows}
 use Rattle.farm_types.specs.Rising.{IsRising}
 use Rattle.farm_types.proofs.Lists.{and_both, list_all-at}
 use Rattle.job_book.specs.Inside.{is_below, layer_key}
@@ -30,7 +30,7 @@ fails_is true h = absurd (false≢true h)
 fails_is false h = refl
 
 -- where the first frame that passes went
-abbrev picked : (Frame → Bool) → List Frame → List ℕ → Option ℕ
+abbrev pub picked : (Frame → Bool) → List Frame → List ℕ → Option ℕ
 picked test [] ns = None
 picked test (x ∷ xs) [] = None
 picked test (x ∷ xs) (n ∷ ns) = cond (test x) (Some n) (picked test xs ns)
@@ -242,7 +242,7 @@ abbrev is_layer : ℕ → ℕ → LayerRow → Bool
 is_layer job layer l = eqb l.job job && eqb l.place layer
 
 -- no layer of a job that wasn't placed
-no_layer : (job layer low high : ℕ) (ls : List LayerRow) → IsRising layer_key low ls high → high ≤ PLACE_LIMIT * job → list_any (is_layer job layer) ls ≡ false
+pub no_layer : (job layer low high : ℕ) (ls : List LayerRow) → IsRising layer_key low ls high → high ≤ PLACE_LIMIT * job → list_any (is_layer job layer) ls ≡ false
 no_layer job layer low high [] rise below = refl
 no_layer job layer low high (l ∷ ls) rise below =
     let within = rising_within layer_key (layer_key l + 1) ls high rise.1 in
@@ -255,7 +255,7 @@ no_row job layer next p [] apart = refl
 no_row job layer next p (l ∷ ls) apart = rw apart (no_row job layer next (p + 1) ls apart)
 
 -- no frame of a job that wasn't placed
-none_placed : (next layer position : ℕ) (slots : List SlotRow) → list_all (is_below next) slots ≡ true → list_all (λ (s : SlotRow). not (for_some s.frame (is_placed next layer position))) slots ≡ true
+pub none_placed : (next layer position : ℕ) (slots : List SlotRow) → list_all (is_below next) slots ≡ true → list_all (λ (s : SlotRow). not (for_some s.frame (is_placed next layer position))) slots ≡ true
 none_placed next layer position [] below = refl
 none_placed next layer position (s ∷ ss) below =
     let both = and_both (is_below next s) (list_all (is_below next) ss) below in

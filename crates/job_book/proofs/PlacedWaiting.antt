@@ -10,8 +10,8 @@ use Rattle.farm_types.specs.declared.rows.LayerRow.{LayerRow}
 use Rattle.farm_types.specs.declared.slot_row.Frame.{Frame}
 use Rattle.farm_types.specs.declared.slot_row.SlotRow.{SlotRow}
 use Rattle.farm_types.specs.Booking.{is_waiting}
-use Rattle.farm_types.specs.Farm.{for_some}
-use Rattle.farm_types.specs.Jobs.{is_free, place_frames, frames_of, layer_rows, is_placed}
+use Rattle.farm_types.specs.Farm.{for_some, is_placed}
+use Rattle.farm_types.specs.Jobs.{is_free, place_frames, frames_of, layer_rows}
 use Rattle.farm_types.specs.Rising.{IsRising}
 use Rattle.farm_types.proofs.Lists.{and_both, list_all-at}
 use Rattle.job_book.specs.Index.{waits_in}

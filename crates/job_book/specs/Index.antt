@@ -4,8 +4,8 @@ use Rattle.farm_types.specs.declared.rows.JobRow.{JobRow}
 use Rattle.farm_types.specs.declared.slot_row.SlotRow.{SlotRow}
 use Rattle.farm_types.specs.declared.states.FrameState.TheVariants as frame_state
 use Rattle.farm_types.specs.Booking.{is_pending, is_waiting}
-use Rattle.farm_types.specs.Farm.{for_some}
-use Rattle.farm_types.specs.Jobs.{JobLists, is_placed, slot_from}
+use Rattle.farm_types.specs.Farm.{for_some, is_placed, slot_from}
+use Rattle.farm_types.specs.Jobs.{JobLists}
 use Rattle.job_book.specs.Book.{count_in}
 
 -- ---- ready jobs

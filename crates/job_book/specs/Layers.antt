@@ -6,7 +6,8 @@ use Rattle.farm_types.specs.declared.job.LayerSpec.{LayerSpec}
 use Rattle.farm_types.specs.declared.rows.LayerRow.{LayerRow}
 use Rattle.farm_types.specs.declared.slot_row.Frame.{Frame}
 use Rattle.farm_types.specs.declared.slot_row.SlotRow.{SlotRow}
-use Rattle.farm_types.specs.Jobs.{is_free, is_placed, slot_from}
+use Rattle.farm_types.specs.Jobs.{is_free}
+use Rattle.farm_types.specs.Farm.{is_placed, slot_from}
 use Rattle.job_book.specs.Index.{waits_in}
 use Rattle.place_set.specs.Places.{first_from}
 

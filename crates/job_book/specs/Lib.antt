@@ -3,6 +3,7 @@ pub mod Counting
 pub mod Index
 pub mod Inside
 pub mod Layers
+pub mod Lowest
 pub mod Puts
 pub mod Ready
 pub mod Refused

@@ -49,6 +49,13 @@ impl LayerFrames {
         self.slots.get(position as usize).copied()
     }
 
+    /// The slots of the frames, in range order.
+    pub(crate) fn slots(&self) -> &[Slot]
+        ensures { result.now ≡ self.now.slots }
+    {
+        self.slots.as_slice()
+    }
+
     /// Whether the frame at the position waits is noted.
     pub(crate) fn mark(&mut self, position: u32, waits: bool)
         ensures { self.new ≡ marked position waits self.old }

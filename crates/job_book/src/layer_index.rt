@@ -1,6 +1,6 @@
 //! The index of layers: where the frames of each stand.
 
-ghost use Rattle.std.specs.Prelude.{◌≡◌, ◌≤◌, ◌+◌, ◌++◌, length, map, slice_get, option_and_then, IfOk};
+ghost use Rattle.std.specs.Prelude.{◌≡◌, ◌≤◌, ◌+◌, ◌++◌, ℕ, length, map, slice_get, option_and_then, IfOk};
 ghost use Rattle.std.specs.Vec.{vec_capacity};
 ghost use Rattle.farm_types.specs.Farm.{changed_at};
 ghost use Rattle.job_book.specs.Layers.{first_marked, fresh_places, marked, place_in, slots_of};
@@ -16,6 +16,16 @@ pub(crate) fn slot_in(index: &[LayerFrames], place: usize, position: u32) -> Opt
     match index.get(place) {
         None => None,
         Some(frames) => frames.at(position),
+    }
+}
+
+/// The slots of the layer at that place, none where there is no layer.
+pub(crate) fn slots_in(index: &[LayerFrames], place: usize) -> &[Slot]
+    ensures { (position : ℕ) → slice_get result.now position ≡ place_in (map slots_of index.now) place position }
+{
+    match index.get(place) {
+        None => &[],
+        Some(frames) => frames.slots(),
     }
 }
 

@@ -117,8 +117,8 @@ pub(crate) fn next_free(slots: &[SlotRow], from: usize) -> usize
     slots.len()
 }
 
-// Whether the slot has no frame and may still rise in version.
-fn is_free(row: &SlotRow) -> bool
+/// Whether the slot has no frame and may still rise in version.
+pub(crate) fn is_free(row: &SlotRow) -> bool
     ensures { result ≡ is_free row.now }
 {
     row.frame.is_none() && row.version.0 < LAST_VERSION

@@ -1,8 +1,7 @@
 //! What is read of the book.
 
 ghost use Rattle.std.specs.Prelude.{◌≡◌, ◌==◌, ◌&&◌, ◌≤◌, ◌<◌, length, slice_get, find, option_copied, option_map, true, All, IfNone, IfSome, Some};
-ghost use Rattle.farm_types.specs.Farm.{for_some};
-ghost use Rattle.farm_types.specs.Jobs.{is_placed, slot_from};
+ghost use Rattle.farm_types.specs.Farm.{for_some, is_placed, slot_from};
 ghost use Rattle.farm_types.specs.declared.limits.TheConstants.{MOST_SHOWS, SLOT_LIMIT};
 ghost use Rattle.job_book.specs.Book.{job_named, job_after, IsLeastAbove, frame_at, frame_view, state_at, has_frame, has_job, counts_of};
 ghost use Rattle.job_book.specs.Index.{WaitsFirst, ready_of};

@@ -1,15 +1,16 @@
 //! Fields that may be left out, each with its default.
 
 ghost use Rattle.std.specs.Prelude.{[], ◌∷◌, codes, false};
-ghost use Rattle.serde_json.specs.View.{items_view, members_view};
+ghost use Rattle.serde_json.specs.View.{members_view};
 ghost use Rattle.cue_json.specs.Fields.{Gives, flag_at, text_at};
 ghost use Rattle.farm_types.specs.Forms.{is_name_or_empty};
-ghost use Rattle.farm_lines.specs.Spec.{no_items_at, none_of, number_at, or_default, tags_at, text_of};
+ghost use Rattle.farm_lines.specs.Fields.{name_at, or_default};
+ghost use Rattle.farm_lines.specs.Spec.{number_at, tags_at, text_of};
 
 use crate::{tags, words};
 use cue_json::{FieldFault, Map};
+use farm_lines::read_name;
 use farm_types::{Items, Text};
-use serde_json::Value;
 use std::alloc::Global;
 
 /// A name, or the empty text: the field's, or the empty one.
@@ -67,33 +68,13 @@ pub fn tags(alloc: Global, object: &Map, field: &str) -> Result<Items<Text>, Fie
     }
 }
 
-/// Nothing where the field is left out or is a list without items.
-pub fn no_items(alloc: Global, object: &Map, field: &str) -> Result<(), FieldFault>
-    ensures { Gives (λ none. none) result (or_default tt no_items_at field.now (members_view object.now.entries)) }
+/// The name in the field, or the job's own.
+pub fn job(alloc: Global, object: &Map, field: &str, own: &Text) -> Result<Text, FieldFault>
+    ensures { Gives (λ name. name) result (or_default own.now name_at field.now (members_view object.now.entries)) }
 {
     if cue_json::has(object, field) {
-        empty_list(alloc, object, field)
+        read_name(alloc, object, field)
     } else {
-        Ok(())
-    }
-}
-
-// Nothing where the field is a list without items.
-fn empty_list(alloc: Global, object: &Map, field: &str) -> Result<(), FieldFault>
-    ensures { Gives (λ none. none) result (no_items_at field.now (members_view object.now.entries)) }
-{
-    let values = cue_json::list(alloc, object, field)?;
-    no_values(alloc, field, values)
-}
-
-// Nothing where the list of that field has no items.
-#[tactic(auto, using(crate::proofs::NoItems::none_of_empty, crate::proofs::NoItems::none_of_some))]
-fn no_values(alloc: Global, field: &str, values: &[Value]) -> Result<(), FieldFault>
-    ensures { Gives (λ none. none) result (none_of field.now (items_view values.now)) }
-{
-    if values.is_empty() {
-        Ok(())
-    } else {
-        Err(FieldFault::wrong_kind(alloc, field))
+        Ok(own.copy(alloc)?)
     }
 }

@@ -58,5 +58,6 @@ pub fn judge_job(alloc: Global, form: JobForm) -> Result<JobSpec, SpecFault>
         auto_eat: form.auto_eat,
         paused: form.paused,
         layers,
+        depends: form.depends,
     })
 }

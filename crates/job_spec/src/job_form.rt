@@ -4,13 +4,14 @@ ghost use Rattle.serde_json.specs.View.{members_view};
 ghost use Rattle.cue_json.specs.Fields.{Gives};
 ghost use Rattle.farm_lines.specs.Spec.{job_form_at};
 
+use crate::depend_line::read_depends;
 use crate::layer_form::read_layers;
 use crate::{defaults, words};
 use cue_json::{FieldFault, Map};
 use farm_lines::{JobForm, read_name};
 use std::alloc::Global;
 
-/// A job's fields in order, and no others. Depends can't be asked for yet.
+/// A job's fields in order, and no others. In each depend the job itself waits.
 #[tactic(auto, unfolding(farm_lines::specs::Spec::job_form_at))]
 pub fn read_job(alloc: Global, object: &Map) -> Result<JobForm, FieldFault>
     ensures { Gives (λ job. job) result (job_form_at (members_view object.now.entries)) }
@@ -25,7 +26,7 @@ pub fn read_job(alloc: Global, object: &Map) -> Result<JobForm, FieldFault>
     let auto_eat = defaults::flag(alloc, object, "auto_eat")?;
     let paused = defaults::flag(alloc, object, "paused")?;
     let layers = read_layers(alloc, object, "layers")?;
-    defaults::no_items(alloc, object, "depends")?;
+    let depends = read_depends(alloc, object, "depends", &name)?;
     cue_json::no_others(
         alloc,
         object,
@@ -54,5 +55,6 @@ pub fn read_job(alloc: Global, object: &Map) -> Result<JobForm, FieldFault>
         auto_eat,
         paused,
         layers,
+        depends,
     })
 }

@@ -3,6 +3,8 @@
 
 mod amounts;
 mod defaults;
+mod depend_kind;
+mod depend_line;
 mod fault;
 mod job_amounts;
 mod job_form;
@@ -13,6 +15,7 @@ mod tags;
 mod words;
 
 pub use amounts::within;
+pub use depend_line::read_depend;
 pub use fault::SpecFault;
 pub use spec::read_spec;
 pub use tags::read_tags;

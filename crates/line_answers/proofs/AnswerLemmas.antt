@@ -1,5 +1,5 @@
 -- The answer to a line, by cases.
-use Rattle.std.proofs.Common.{◌≡◌, ℕ, ◌<◌, ◌≤◌, cond, List, [], ◌∷◌, ◌++◌, length, take, refl, sym, ap, ◌∙◌, subst, None, Some, Result, Err, inl, inr}
+use Rattle.std.proofs.Common.{◌≡◌, ℕ, ◌<◌, ◌≤◌, cond, List, [], ◌∷◌, ◌++◌, length, take, refl, sym, ap, ◌∙◌, subst, Option, None, Some, Result, Err, inl, inr}
 use Rattle.std.proofs.lemmas.Bool.{le-ltb, lt-ltb}
 use Rattle.dispatch_plan.specs.Rounds.{IsRound}
 use Rattle.farm_types.specs.declared.entry.Entry.{Entry}
@@ -13,9 +13,10 @@ use Rattle.farm_lines.specs.declared.request.Request.{Request}
 use Rattle.farm_lines.specs.declared.request.Request.TheVariants as request
 use Rattle.farm_lines.specs.declared.request.RequestFault.{RequestFault}
 use Rattle.farm_lines.specs.declared.request.RequestFault.TheVariants as fault
-use Rattle.farm_changes.specs.Change.{after_change}
+use Rattle.farm_core.specs.Change.{after_change}
 use Rattle.farm_core.specs.Change.{Makes, Prepares}
-use Rattle.farm_changes.specs.declared.change.Change.{Change}
+use Rattle.farm_core.specs.declared.change.Change.{Change}
+use Rattle.farm_changes.specs.Change.{HasHeard}
 use Rattle.farm_changes.specs.declared.fault.PrepareFault.{PrepareFault}
 use Rattle.farm_changes.specs.declared.fault.PrepareFault.TheVariants as prepare
 use Rattle.farm_types.specs.EntryAnswers.{answer_of}
@@ -29,6 +30,7 @@ use Rattle.farm_lines.specs.Transcript.{Mark, Plain, Memory, CutAfter, LatePlain
 use Rattle.report_codec.specs.Reads.{Fails}
 use Rattle.line_answers.specs.LineAnswers.{AnswersEntry, AnswersReport, IsAnswer, IsRecorded, IsRoundAnswer, IsUnprepared, fault_reply}
 use Rattle.line_answers.specs.Lines.{IsLineOf}
+use Rattle.line_answers.specs.Reports.{IsTold}
 use Rattle.farm_lines.specs.declared.limits.TheConstants.{LINE_LIMIT}
 
 -- a line within the limit is answered by what it asks
@@ -87,6 +89,8 @@ asked_condition f (request.Boot line) = tt
 asked_condition f (request.Report report) = tt
 asked_condition f (request.Lock host lock) = tt
 asked_condition f (request.Submit spec) = tt
+asked_condition f (request.Depend spec) = tt
+asked_condition f (request.Drop depend) = tt
 asked_condition f request.Tick = tt
 
 asked_entry : (f : Farm) (moment : ℕ) (mark : Mark) (asked : Request) → ((report : Report) → asked ≡ request.Report report → ⊥)
@@ -98,6 +102,8 @@ asked_entry f moment mark (request.Boot line) other = refl
 asked_entry f moment mark (request.Report report) other = absurd (other report refl)
 asked_entry f moment mark (request.Lock host lock) other = refl
 asked_entry f moment mark (request.Submit spec) other = refl
+asked_entry f moment mark (request.Depend spec) other = refl
+asked_entry f moment mark (request.Drop depend) other = refl
 asked_entry f moment mark request.Tick other = refl
 
 -- a request but a report is answered by its entry
@@ -164,6 +170,15 @@ accepted_unless Memory f host report heard round answered e = refl
 accepted_unless (CutAfter k) f host report heard round answered e = e
 accepted_unless LatePlain f host report heard round answered e = e
 accepted_unless (LateCut k) f host report heard round answered e = e
+
+-- the host of a report is told
+pub told_there : (f : Farm) (report : Report) (moment : ℕ) (told : Option ℕ) → HasHeard f (heard_entry report moment).act told → IsTold told
+told_there f report moment None there = there
+told_there f report moment (Some host) there = tt
+
+pub told_host : (f : Farm) (report : Report) (moment : ℕ) (told : Option ℕ) (host : ℕ) → HasHeard f (heard_entry report moment).act told → told ≡ Some host → host_named f report.host ≡ Some host
+told_host f report moment None host there is = absurd there
+told_host f report moment (Some named) host there is = there ∙ is
 
 -- the farm accepts it: it is answered by what the mark says
 pub accepted_is : (f : Farm) (report : Report) (moment host : ℕ) (mark : Mark) → refusal_of f (heard_entry report moment) ≡ None → host_named f report.host ≡ Some host

@@ -99,6 +99,8 @@ asked_legal f moment mark (request.Sub line) formed = one f moment (request.Sub 
 asked_legal f moment mark (request.Boot line) formed = one f moment (request.Boot line) formed
 asked_legal f moment mark (request.Lock host lock) formed = one f moment (request.Lock host lock) formed
 asked_legal f moment mark (request.Submit spec) formed = one f moment (request.Submit spec) formed
+asked_legal f moment mark (request.Depend spec) formed = one f moment (request.Depend spec) formed
+asked_legal f moment mark (request.Drop depend) formed = one f moment (request.Drop depend) formed
 asked_legal f moment mark request.Tick formed = one f moment request.Tick formed
 
 request_legal : (f : Farm) (moment : ℕ) (mark : Mark) (read : Result Request RequestError) → ((asked : Request) → read ≡ Ok asked → IsFormed (entry_of asked moment))

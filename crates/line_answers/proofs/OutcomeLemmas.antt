@@ -6,6 +6,7 @@ use Rattle.farm_types.specs.declared.refusal.Refusal.{Refusal}
 use Rattle.farm_lines.specs.declared.report.Report.{Report}
 use Rattle.farm_lines.specs.declared.request.Request.{Request}
 use Rattle.farm_lines.specs.declared.request.Request.TheVariants as request
+use Rattle.farm_types.specs.DependActs.{or_else}
 use Rattle.farm_types.specs.Dispatch.{round_for}
 use Rattle.farm_types.specs.Farm.{Farm, host_named}
 use Rattle.farm_lines.specs.declared.reply.Reply.TheVariants as reply
@@ -22,7 +23,7 @@ use Rattle.farm_lines.specs.declared.limits.TheConstants.{LINE_LIMIT}
 host_of : (f : Farm) (report : Report) (moment : ℕ) (named : Option ℕ) → host_named f report.host ≡ named → refusal_of f (heard_entry report moment) ≡ None
     → (host : ℕ) × (host_named f report.host ≡ Some host)
 host_of f report moment None is accepted =
-    absurd (unknown (sym (ap (host_refusal f (record { host = report.host; boot = report.boot; seq = report.seq; done = report.done })) is) ∙ accepted))
+    absurd (unknown (sym (ap (λ n. or_else (host_refusal f (record { host = report.host; boot = report.boot; seq = report.seq; done = report.done }) n) None) is) ∙ accepted))
   where
     unknown : {why : Refusal} → Some why ≡ None → ⊥
     unknown e = true≢false (ap is_some e)
@@ -69,6 +70,8 @@ late_request f moment (Ok (request.Sub line)) = refl
 late_request f moment (Ok (request.Boot line)) = refl
 late_request f moment (Ok (request.Lock host lock)) = refl
 late_request f moment (Ok (request.Submit spec)) = refl
+late_request f moment (Ok (request.Depend spec)) = refl
+late_request f moment (Ok (request.Drop depend)) = refl
 late_request f moment (Ok request.Tick) = refl
 
 late_line : (f : Farm) (line : List ℕ) (moment : ℕ) → (answer_to f line moment LatePlain).entries ≡ (answer_to f line moment Plain).entries

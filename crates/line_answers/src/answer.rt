@@ -76,6 +76,8 @@ fn act_of(asked: Request) -> Act
         }),
         Request::Lock { host, lock } => Act::Lock { host, lock },
         Request::Submit(spec) => Act::Submit(spec),
+        Request::Depend(spec) => Act::AddDepend(spec),
+        Request::Drop { depend } => Act::DropDepend { depend },
         Request::Tick => Act::Tick,
     }
 }

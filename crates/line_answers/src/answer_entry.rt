@@ -1,8 +1,7 @@
 //! Answering a request of one entry.
 
 ghost use Rattle.std.specs.Prelude.{◌≡◌, ◌++◌, ◌∷◌, [], IfOk};
-ghost use Rattle.farm_changes.specs.Change.{after_change};
-ghost use Rattle.farm_core.specs.Change.{IsReady, Makes, Prepares};
+ghost use Rattle.farm_core.specs.Change.{IsReady, Makes, Prepares, after_change};
 ghost use Rattle.farm_lines.specs.Reply.{job_named, ok_reply, reply_text};
 ghost use Rattle.farm_types.specs.Formed.{IsFormed};
 ghost use Rattle.farm_types.specs.Step.{HasCondition};
@@ -94,6 +93,8 @@ fn ok_reply(alloc: Global, act: &Act, answer: Answer) -> Result<Reply, AllocErro
             frames,
             job: job_named(alloc, act)?,
         }),
+        Answer::DependAdded { depend, unmet } => Ok(Reply::Depend { depend, unmet }),
+        Answer::DependDropped { opened } => Ok(Reply::Dropped { opened }),
         Answer::Tick { down, lost } => Ok(Reply::Tick { down, lost }),
         _ => Ok(Reply::Done),
     }

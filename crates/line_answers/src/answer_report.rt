@@ -1,7 +1,6 @@
 //! Answering a report.
 
 ghost use Rattle.std.specs.Prelude.{◌≡◌, ◌++◌, ◌∷◌, [], IfOk, Some};
-ghost use Rattle.farm_changes.specs.Change.{IsThere};
 ghost use Rattle.farm_core.specs.Change.{Makes, Prepares};
 ghost use Rattle.farm_types.specs.declared.entry.Act.TheVariants as act;
 ghost use Rattle.farm_types.specs.Farm.{host_named};
@@ -10,7 +9,7 @@ ghost use Rattle.farm_lines.specs.Reply.{reply_text, report_reply};
 ghost use Rattle.farm_lines.specs.Transcript.{Mark, heard_entry};
 ghost use Rattle.line_answers.specs.LineAnswers.{AnswersReport, IsRoundAnswer};
 ghost use Rattle.line_answers.specs.Lines.{shown};
-ghost use Rattle.line_answers.specs.Reports.{IsHeard, heard_of};
+ghost use Rattle.line_answers.specs.Reports.{IsHeard, IsTold, heard_of};
 
 use crate::answer_entry::fault_line;
 use crate::launches::{acks, kills, launches};
@@ -58,19 +57,19 @@ fn answer_change(
     requires { Makes farm.old (heard_entry report.now moment) change }
     ensures { AnswersReport farm.old report.now moment farm.new (shown result) }
 {
-    let host = host_of(farm, report);
+    let host = host_of(&change);
     match farm.record(alloc, change) {
         Ok(()) => line_after_round(alloc, farm, host, report, moment),
         Err(_) => ReplyLine::NoMemory,
     }
 }
 
-// The number of the report's host, which is there.
-fn host_of(farm: &Farm, report: &Report) -> HostNo
-    requires { IsThere farm.now (host_named farm.now report.now.host) }
-    ensures { host_named farm.now report.now.host ≡ Some result }
+// The host that the report is of.
+fn host_of(change: &Change) -> HostNo
+    requires { IsTold change.now.act.heard }
+    ensures { change.now.act.heard ≡ Some result }
 {
-    match farm.host_named(report.host.as_str()) {
+    match change.heard() {
         Some(host) => host,
         None => unreachable!(),
     }

@@ -1,4 +1,4 @@
-//! The replies to malformed lines, and where memory ran out,.
+//! The replies to malformed lines, and where memory ran out.
 
 ghost use Rattle.std.specs.Prelude.{◌≡◌, OnOk};
 ghost use Rattle.farm_lines.specs.Reply.{bad_amount, bad_line, bad_range, fault_word, no_memory, section_of, too_long};

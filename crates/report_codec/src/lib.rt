@@ -3,6 +3,8 @@
 
 mod alloc_line;
 mod boot_line;
+mod depend_line;
+mod drop_line;
 mod fault_reply;
 mod item;
 mod laws;

@@ -7,6 +7,8 @@ ghost use Rattle.report_codec.specs.Reads.{AsksWithin, IsRequest};
 
 use crate::alloc_line::read_alloc;
 use crate::boot_line::read_boot;
+use crate::depend_line::read_depend;
+use crate::drop_line::read_drop;
 use crate::lock_line::read_lock;
 use crate::report_line::read_report;
 use crate::show_line::read_show;
@@ -61,6 +63,8 @@ fn request_by_op(alloc: Global, object: &Map, op: &str) -> Result<Request, Reque
         "sub" => read_sub(alloc, object),
         "host" => read_lock(alloc, object),
         "submit" => read_submit(alloc, object),
+        "depend" => read_depend(alloc, object),
+        "drop" => read_drop(alloc, object),
         "tick" => read_tick(alloc, object),
         _ => Err(RequestFault::from(FieldFault::wrong_kind(alloc, "op"))),
     }

@@ -1,7 +1,7 @@
 //! The farm's refusals.
 
 ghost use Rattle.std.specs.Prelude.{◌≡◌, OnOk};
-ghost use Rattle.farm_types.specs.declared.refusal.Refusal.TheVariants.{Unknown, Exists, WrongBoot, Stale, FarmFull, Full};
+ghost use Rattle.farm_types.specs.declared.refusal.Refusal.TheVariants.{Unknown, Exists, WrongBoot, Stale, FarmFull, Satisfied, SelfDepend, Started, Full};
 ghost use Rattle.farm_lines.specs.Reply.{counted_word, refusal_data};
 ghost use Rattle.report_codec.specs.Tokens.{added, tokens_of};
 
@@ -19,6 +19,9 @@ pub fn write_refusal(out: &mut ReplyWriter, why: &Refusal) -> Result<(), AllocEr
         Refusal::WrongBoot { boot } => write_wrong_boot(out, *boot),
         Refusal::Stale { last } => write_stale(out, *last),
         Refusal::FarmFull { free } => write_farm_full(out, *free),
+        Refusal::Satisfied => write_satisfied(out),
+        Refusal::SelfDepend { frame } => write_self_depend(out, frame.as_str()),
+        Refusal::Started { frame } => write_started(out, frame.as_str()),
         Refusal::Full { limit, what } => write_full(out, *limit, *what),
     }
 }
@@ -84,6 +87,42 @@ fn write_farm_full(out: &mut ReplyWriter, free: u32) -> Result<(), AllocError>
 }
 
 #[tactic(auto, unfolding(farm_lines::specs::Reply::refusal_data))]
+fn write_satisfied(out: &mut ReplyWriter) -> Result<(), AllocError>
+    ensures { OnOk result (out.new ≡ added out.old (tokens_of (refusal_data Satisfied))) }
+{
+    out.begin_object()?;
+    out.whole("code", 11)?;
+    out.truth("ok", false)?;
+    out.text("state", "SATISFIED")?;
+    out.text("why", "wrong_state")?;
+    out.end_object()
+}
+
+#[tactic(auto, unfolding(farm_lines::specs::Reply::refusal_data))]
+fn write_self_depend(out: &mut ReplyWriter, frame: &str) -> Result<(), AllocError>
+    ensures { OnOk result (out.new ≡ added out.old (tokens_of (refusal_data (SelfDepend frame.now)))) }
+{
+    out.begin_object()?;
+    out.whole("code", 12)?;
+    out.text("frame", frame)?;
+    out.truth("ok", false)?;
+    out.text("why", "self_depend")?;
+    out.end_object()
+}
+
+#[tactic(auto, unfolding(farm_lines::specs::Reply::refusal_data))]
+fn write_started(out: &mut ReplyWriter, frame: &str) -> Result<(), AllocError>
+    ensures { OnOk result (out.new ≡ added out.old (tokens_of (refusal_data (Started frame.now)))) }
+{
+    out.begin_object()?;
+    out.whole("code", 17)?;
+    out.text("frame", frame)?;
+    out.truth("ok", false)?;
+    out.text("why", "started")?;
+    out.end_object()
+}
+
+#[tactic(auto, unfolding(farm_lines::specs::Reply::refusal_data))]
 fn write_full(out: &mut ReplyWriter, limit: u64, what: Counted) -> Result<(), AllocError>
     ensures { OnOk result (out.new ≡ added out.old (tokens_of (refusal_data (Full limit what)))) }
 {
@@ -107,5 +146,8 @@ fn counted_word(what: Counted) -> &'static str
         Counted::Hosts => "hosts",
         Counted::Boots => "boots",
         Counted::Jobs => "jobs",
+        Counted::Depends => "depends",
+        Counted::Groups => "groups",
+        Counted::DependNumbers => "depend_numbers",
     }
 }

@@ -5,6 +5,8 @@ ghost use Rattle.farm_lines.specs.Reply.{done_data, reply_data, reply_text};
 ghost use Rattle.report_codec.specs.Tokens.{added, tokens_of};
 
 use crate::boot_line::write_boot;
+use crate::depend_line::write_depend;
+use crate::drop_line::write_dropped;
 use crate::fault_reply::{
     write_bad_amount, write_bad_line, write_bad_range, write_no_memory, write_too_long,
 };
@@ -42,6 +44,8 @@ fn write_object(out: &mut ReplyWriter, reply: &Reply) -> Result<(), AllocError>
         Reply::Boot { boot, nonce } => write_boot(out, *boot, *nonce),
         Reply::Tick { down, lost } => write_tick(out, *down, *lost),
         Reply::Submitted { frames, job } => write_submitted(out, *frames, job.as_str()),
+        Reply::Depend { depend, unmet } => write_depend(out, *depend, *unmet),
+        Reply::Dropped { opened } => write_dropped(out, *opened),
         Reply::Report(report) => write_report(out, report),
         Reply::BadLine { field } => write_bad_line(out, field.as_str()),
         Reply::TooLong => write_too_long(out),

@@ -1,7 +1,7 @@
 use Rattle.std.proofs.Common.{◌≡◌, ◌++◌, length, string_bytes}
 use denote.Text.{Utf8}
 use denote.Shadow.{shadow}
-use Rattle.farm_lines.specs.Names.{expanded_from}
+use Rattle.farm_types.specs.Names.{expanded_from}
 use Rattle.command_text.proofs.expansion.expand.Given as goal
 
 abbrev pub invariant-loop-names : goal.invariant-loop-names

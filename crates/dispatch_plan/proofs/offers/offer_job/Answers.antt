@@ -1,6 +1,6 @@
 use Rattle.std.proofs.Common.{◌≡◌, ◌+◌, ◌∙◌, true, drop, sym, ap, arith}
 use Rattle.std.specs.List.{flat_map}
-use Rattle.farm_types.specs.Kept.{layers_of}
+use Rattle.farm_types.specs.Farm.{layers_of}
 use Rattle.dispatch_law.specs.ByIndex.{ranks_in_layer}
 use Rattle.farm_books.specs.Reads.{takes_job}
 use Rattle.dispatch_plan.specs.Offers.{IsPending, offered}
@@ -15,7 +15,7 @@ returns-then-not-takes_job-clause-items c =
 
 pub returns-in_default-clause-items : goal.returns-in_default-clause-items
 returns-in_default-clause-items c =
-    sym (job_end c.args.farm.now c.args.host c.args.job c.loop-place.place c.loop-place.plan.items c.kept.ensures c.requires.pending (sym c.in_default.ensures) c.loop-place.invariant.few) ∙ c.loop-place.invariant.items
+    sym (job_end c.args.farm.now c.args.host c.args.job c.loop-place.place c.loop-place.plan.items c.kept.ensures.rows c.requires.pending (sym c.in_default.ensures) c.loop-place.invariant.few) ∙ c.loop-place.invariant.items
 
 pub offer_layer-requires-clause-there : goal.offer_layer-requires-clause-there
 offer_layer-requires-clause-there c = layer_there c.args.farm.now c.args.job c.loop-place.place c.in-Some.layer.now (sym c.in-Some.ensures)
@@ -30,8 +30,8 @@ offer_layer-requires-clause-taken c =
 
 pub offer_layer-requires-clause-short : goal.offer_layer-requires-clause-short
 offer_layer-requires-clause-short c =
-    layer_short c.args.farm.now c.args.job c.loop-place.place c.in-Some.layer.now c.kept.ensures c.requires.pending
-    (sym (layer_is c.args.farm.now c.args.job c.loop-place.place (layers_at c.args.farm.now c.args.job c.kept.ensures c.requires.pending)) ∙ sym c.in-Some.ensures)
+    layer_short c.args.farm.now c.args.job c.loop-place.place c.in-Some.layer.now c.kept.ensures.rows c.requires.pending
+    (sym (layer_is c.args.farm.now c.args.job c.loop-place.place (layers_at c.args.farm.now c.args.job c.kept.ensures.rows c.requires.pending)) ∙ sym c.in-Some.ensures)
 
 pub offer_layer-requires-clause-billed : goal.offer_layer-requires-clause-billed
 offer_layer-requires-clause-billed c = layer_billed c.args.farm.now c.args.host c.args.job c.loop-place.place c.args.sub c.in-Some.layer.now (sym c.in-Some.ensures) c.requires.billed
@@ -42,7 +42,7 @@ loop-place-preserved c =
     record {
       items =
           ap (λ ps. offered ps (flat_map (ranks_in_layer f c.args.host) (drop (c.loop-place.place + 1) (layers_of f.layers c.args.job)))) c.offer_layer.ensures.items
-          ∙ (sym (job_step f c.args.host c.args.job c.loop-place.place c.in-Some.layer.now c.loop-place.plan.items c.kept.ensures c.requires.pending (sym c.in-Some.ensures)) ∙ c.loop-place.invariant.items);
+          ∙ (sym (job_step f c.args.host c.args.job c.loop-place.place c.in-Some.layer.now c.loop-place.plan.items c.kept.ensures.rows c.requires.pending (sym c.in-Some.ensures)) ∙ c.loop-place.invariant.items);
       few = c.offer_layer.ensures.few;
       capacity = c.offer_layer.ensures.capacity ∙ c.loop-place.invariant.capacity;
     }
@@ -50,6 +50,6 @@ loop-place-preserved c =
 pub returns-clause-items : goal.returns-clause-items
 returns-clause-items c =
     let f = c.args.farm.now in
-    let few = layers_few f c.args.job c.kept.ensures c.requires.pending in
+    let few = layers_few f c.args.job c.kept.ensures.rows c.requires.pending in
     let test = c.loop-place-test.false in
     sym (all_offered (ranks_in_layer f c.args.host) (layers_of f.layers c.args.job) c.loop-place.place c.loop-place.plan.items (omega (arith, few, test)) c.loop-place.invariant.few) ∙ c.loop-place.invariant.items

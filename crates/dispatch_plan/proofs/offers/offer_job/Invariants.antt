@@ -2,7 +2,7 @@ use Rattle.std.proofs.Common.{◌≡◌, ◌≤◌, drop, length}
 use Rattle.std.specs.List.{flat_map}
 use Rattle.std.specs.Vec.{vec_capacity}
 use Rattle.farm_types.specs.declared.limits.TheConstants.{CANDIDATES_EACH}
-use Rattle.farm_types.specs.Kept.{layers_of}
+use Rattle.farm_types.specs.Farm.{layers_of}
 use Rattle.dispatch_law.specs.ByIndex.{ranks_in_job, ranks_in_layer}
 use Rattle.dispatch_plan.specs.Offers.{offered}
 use Rattle.dispatch_plan.proofs.offers.offer_job.Given as goal

@@ -28,12 +28,12 @@ pub offer-requires-clause-known : goal.offer-requires-clause-known
 offer-requires-clause-known c =
     let first = subst (λ b. IsFirstWaiting b c.args.layer.now.job c.args.layer.now.place c.loop-jobs.from c.in-Some.slot) c.jobs-jobs.ensures c.in-Some.ensures in
     let shown = subst (λ b. frame_at b c.in-Some.slot ≡ Some c.frame-frame.result) c.jobs-jobs.ensures c.frame-frame.ensures in
-    view_may_book c.args.farm.now c.args.host c.args.sub c.loop-jobs.from c.in-Some.slot c.args.layer.now c.frame-frame.result c.kept.ensures c.requires.pending c.requires.taken (sym c.if-not-takes_layer.ensures) c.requires.there c.requires.billed first shown
+    view_may_book c.args.farm.now c.args.host c.args.sub c.loop-jobs.from c.in-Some.slot c.args.layer.now c.frame-frame.result c.kept.ensures.rows c.requires.pending c.requires.taken (sym c.if-not-takes_layer.ensures) c.requires.there c.requires.billed first shown
 
 pub overflow_add-from : goal.overflow_add-from
 overflow_add-from c =
     let step = view_step c.args.farm.now c.args.host c.args.layer.now.job c.args.layer.now.place c.args.sub c.loop-jobs.from c.in-Some.slot c.args.layer.now c.frame-frame.result c.loop-jobs.plan.items
-    c.kept.ensures c.requires.there c.requires.billed
+    c.kept.ensures.rows c.requires.there c.requires.billed
     (subst (λ b. IsFirstWaiting b c.args.layer.now.job c.args.layer.now.place c.loop-jobs.from c.in-Some.slot) c.jobs-jobs.ensures c.in-Some.ensures)
     (subst (λ b. frame_at b c.in-Some.slot ≡ Some c.frame-frame.result) c.jobs-jobs.ensures c.frame-frame.ensures) (let test = c.loop-jobs-test.true in let count = c.len.ensures in omega (arith, test, count)) in
     let within = step.1 in
@@ -43,7 +43,7 @@ overflow_add-from c =
 pub loop-jobs-smaller : goal.loop-jobs-smaller
 loop-jobs-smaller c =
     let step = view_step c.args.farm.now c.args.host c.args.layer.now.job c.args.layer.now.place c.args.sub c.loop-jobs.from c.in-Some.slot c.args.layer.now c.frame-frame.result c.loop-jobs.plan.items
-    c.kept.ensures c.requires.there c.requires.billed
+    c.kept.ensures.rows c.requires.there c.requires.billed
     (subst (λ b. IsFirstWaiting b c.args.layer.now.job c.args.layer.now.place c.loop-jobs.from c.in-Some.slot) c.jobs-jobs.ensures c.in-Some.ensures)
     (subst (λ b. frame_at b c.in-Some.slot ≡ Some c.frame-frame.result) c.jobs-jobs.ensures c.frame-frame.ensures) (let test = c.loop-jobs-test.true in let count = c.len.ensures in omega (arith, test, count)) in
     let low = step.0 in
@@ -57,7 +57,7 @@ loop-jobs-preserved c =
     let l = c.args.layer.now in
     let next = c.frame-frame.result.position + 1 in
     let step = view_step c.args.farm.now c.args.host c.args.layer.now.job c.args.layer.now.place c.args.sub c.loop-jobs.from c.in-Some.slot c.args.layer.now c.frame-frame.result c.loop-jobs.plan.items
-    c.kept.ensures c.requires.there c.requires.billed
+    c.kept.ensures.rows c.requires.there c.requires.billed
     (subst (λ b. IsFirstWaiting b c.args.layer.now.job c.args.layer.now.place c.loop-jobs.from c.in-Some.slot) c.jobs-jobs.ensures c.in-Some.ensures)
     (subst (λ b. frame_at b c.in-Some.slot ≡ Some c.frame-frame.result) c.jobs-jobs.ensures c.frame-frame.ensures) (let test = c.loop-jobs-test.true in let count = c.len.ensures in omega (arith, test, count)) in
     record {

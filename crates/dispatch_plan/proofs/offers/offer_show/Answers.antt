@@ -12,7 +12,7 @@ use Rattle.dispatch_plan.proofs.offers.offer_show.Goals as goal
 
 pub returns-then-not-has_least_left-clause-items : goal.returns-then-not-has_least_left-clause-items
 returns-then-not-has_least_left-clause-items c =
-    show_unoffered c.args.farm.now c.args.host c.args.show c.args.sub c.args.plan.now.items c.kept.ensures c.requires.billed (sym c.if-not-has_least_left.ensures) c.requires.few
+    show_unoffered c.args.farm.now c.args.host c.args.show c.args.sub c.args.plan.now.items c.kept.ensures.rows c.requires.billed (sym c.if-not-has_least_left.ensures) c.requires.few
 
 pub returns-then-len-clause-items : goal.returns-then-len-clause-items
 returns-then-len-clause-items c =
@@ -27,13 +27,13 @@ pub offer_job-requires-clause-pending : goal.offer_job-requires-clause-pending
 offer_job-requires-clause-pending c =
     let f = c.args.farm.now in
     let ready : c.ready-jobs.result.now ≡ ready_of (lists_of f) c.args.show = c.ready-jobs.ensures c.requires.within ∙ ap (λ b. ready_of b c.args.show) c.jobs.ensures in
-    (ready_offered f c.args.host c.args.show c.args.sub c.loop-job.job-index c.job-item.result c.kept.ensures c.requires.billed (ap (λ js. slice_get js c.loop-job.job-index) (sym ready) ∙ slice_get_read c.ready-jobs.result.now (length c.ready-jobs.result.now) c.loop-job.job-index c.job-item.result refl c.loop-job-test.true c.job-item.is)).pending
+    (ready_offered f c.args.host c.args.show c.args.sub c.loop-job.job-index c.job-item.result c.kept.ensures.rows c.requires.billed (ap (λ js. slice_get js c.loop-job.job-index) (sym ready) ∙ slice_get_read c.ready-jobs.result.now (length c.ready-jobs.result.now) c.loop-job.job-index c.job-item.result refl c.loop-job-test.true c.job-item.is)).pending
 
 pub offer_job-requires-clause-billed : goal.offer_job-requires-clause-billed
 offer_job-requires-clause-billed c =
     let f = c.args.farm.now in
     let ready : c.ready-jobs.result.now ≡ ready_of (lists_of f) c.args.show = c.ready-jobs.ensures c.requires.within ∙ ap (λ b. ready_of b c.args.show) c.jobs.ensures in
-    (ready_offered f c.args.host c.args.show c.args.sub c.loop-job.job-index c.job-item.result c.kept.ensures c.requires.billed (ap (λ js. slice_get js c.loop-job.job-index) (sym ready) ∙ slice_get_read c.ready-jobs.result.now (length c.ready-jobs.result.now) c.loop-job.job-index c.job-item.result refl c.loop-job-test.true c.job-item.is)).billed
+    (ready_offered f c.args.host c.args.show c.args.sub c.loop-job.job-index c.job-item.result c.kept.ensures.rows c.requires.billed (ap (λ js. slice_get js c.loop-job.job-index) (sym ready) ∙ slice_get_read c.ready-jobs.result.now (length c.ready-jobs.result.now) c.loop-job.job-index c.job-item.result refl c.loop-job-test.true c.job-item.is)).billed
 
 pub loop-job-preserved : goal.loop-job-preserved
 loop-job-preserved c =

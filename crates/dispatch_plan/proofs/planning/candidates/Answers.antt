@@ -12,14 +12,14 @@ pub returns-then-not-takes_frames : goal.returns-then-not-takes_frames
 returns-then-not-takes_frames c = c.new.ensures.items ∙ sym (plan_closed c.args.farm.now c.args.host c.args.row.now c.requires (sym c.if-not-takes_frames.ensures))
 
 pub returns-then-not-has_least_free : goal.returns-then-not-has_least_free
-returns-then-not-has_least_free c = c.new-then-not-has_least_free.ensures.items ∙ sym (plan_full c.args.farm.now c.args.host c.args.row.now c.kept.ensures c.requires (sym c.if-not-has_least_free.ensures))
+returns-then-not-has_least_free c = c.new-then-not-has_least_free.ensures.items ∙ sym (plan_full c.args.farm.now c.args.host c.args.row.now c.kept.ensures.rows c.requires (sym c.if-not-has_least_free.ensures))
 
 pub offer_subs-requires-clause-billed : goal.offer_subs-requires-clause-billed
 offer_subs-requires-clause-billed c =
     let f = c.args.farm.now in
     let row = c.args.row.now in
-    subst (AreBilled f c.args.host) (ap (sorted_subs f) (sym (subs_read f c.args.host row c.kept.ensures c.requires)) ∙ sym (c.as_slice.ensures.value ∙ c.in_ok-subs.ensures))
-    (subs_billed f c.args.host row c.kept.ensures c.requires)
+    subst (AreBilled f c.args.host) (ap (sorted_subs f) (sym (subs_read f c.args.host row c.kept.ensures.rows c.requires)) ∙ sym (c.as_slice.ensures.value ∙ c.in_ok-subs.ensures))
+    (subs_billed f c.args.host row c.kept.ensures.rows c.requires)
 
 pub returns : goal.returns
 returns c =
@@ -29,4 +29,4 @@ returns c =
     c.offer_subs.ensures
     ∙ (ap (λ (ps : List Candidate). offered ps (ranks c.as_slice.result.now)) c.in_ok-plan.ensures.items
     ∙ (ap (λ (ss : List SubRow). offered [] (ranks ss)) (c.as_slice.ensures.value ∙ c.in_ok-subs.ensures)
-    ∙ plan_is f host c.args.row.now c.kept.ensures c.requires))
+    ∙ plan_is f host c.args.row.now c.kept.ensures.rows c.requires))

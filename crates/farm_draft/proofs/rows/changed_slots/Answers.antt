@@ -1,7 +1,7 @@
 use Rattle.std.proofs.Common.{refl, ◌∙◌, slice_get, true≢false, sym}
 use Rattle.farm_draft.specs.Laid.{whole}
 use Rattle.farm_draft.specs.Rows.{IsChanged}
-use Rattle.farm_draft.proofs.PutRows.{picked_none, picked_more, picked_past, picked_all, idle_row, other_row, put_slots_all}
+use Rattle.farm_draft.proofs.PutRows.{picked_none, picked_more, picked_past, picked_all, picked_distinct, idle_row, other_row, put_slots_all}
 use Rattle.farm_draft.proofs.rows.changed_slots.Goals as goal
 
 pub loop-slot-init : goal.loop-slot-init
@@ -23,3 +23,6 @@ pub returns-clause-all : goal.returns-clause-all
 returns-clause-all c =
     put_slots_all c.args.books.now.slots c.loop-slot.entries.items
     ∙ picked_all whole c.args.books.now.slots (IsChanged c.args.books.now.slots) c.args.over.entries _ _ c.in-None.ensures.steps.0 c.loop-slot.invariant c.into_iter-slot-iterator.ensures.into_iter_gives.4
+
+pub returns-clause-numbers : goal.returns-clause-numbers
+returns-clause-numbers c = picked_distinct whole c.args.books.now.slots (IsChanged c.args.books.now.slots) c.args.over.entries _ _ c.in-None.ensures.steps.0 c.loop-slot.invariant

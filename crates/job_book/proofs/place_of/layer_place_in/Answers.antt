@@ -1,7 +1,7 @@
 use Rattle.std.proofs.Common.{◌∙◌, rules}
 use Rattle.std.proofs.lemmas.List.Sorted.{answers_always}
 use Rattle.job_book.specs.Inside.{layer_key}
-use Rattle.job_book.proofs.Searched.{searched}
+use Rattle.farm_types.proofs.Searched.{searched}
 use Rattle.job_book.proofs.place_of.layer_place_in.Goals as goal
 
 pub returns : goal.returns

@@ -2,7 +2,7 @@ use Rattle.std.proofs.Common.{leb, rules}
 use Rattle.std.proofs.lemmas.List.Sorted.{IsPartitionPoint-from_clause, IsPartitionedBy-leb}
 use Rattle.farm_types.specs.declared.rows.JobRow.{JobRow}
 use Rattle.farm_types.specs.Rising.{job_key}
-use Rattle.job_book.proofs.Searched.{rising_keys, parted_at}
+use Rattle.farm_types.proofs.Searched.{rising_keys, parted_at}
 use Rattle.job_book.proofs.place_of.place_above.Goals as goal
 
 pub returns : goal.returns

@@ -1,7 +1,7 @@
 use Rattle.std.proofs.Common.{ℕ, leb, rules}
 use Rattle.std.proofs.lemmas.List.Sorted.{IsPartitionPoint-from_clause, IsPartitionedBy-leb}
 use Rattle.job_book.specs.Ready.{itself}
-use Rattle.job_book.proofs.Searched.{rising_keys, parted_at}
+use Rattle.farm_types.proofs.Searched.{rising_keys, parted_at}
 use Rattle.job_book.proofs.ready_jobs.place_behind.Goals as goal
 
 pub returns-clause-value : goal.returns-clause-value

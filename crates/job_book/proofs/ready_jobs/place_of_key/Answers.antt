@@ -1,6 +1,6 @@
 use Rattle.std.proofs.Common.{◌∙◌}
 use Rattle.job_book.specs.Ready.{itself}
-use Rattle.job_book.proofs.Searched.{searched}
+use Rattle.farm_types.proofs.Searched.{searched}
 use Rattle.job_book.proofs.ready_jobs.place_of_key.Goals as goal
 
 pub returns : goal.returns

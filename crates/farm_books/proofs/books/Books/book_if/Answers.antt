@@ -7,7 +7,7 @@ use Rattle.farm_types.specs.Farm.{Farm}
 use Rattle.farm_types.specs.Step.{at_moment, moment_of, new_proc, with_proc}
 use Rattle.farm_books.specs.Bookings.{booked_at}
 use Rattle.farm_books.specs.Install.{CanInstall}
-use Rattle.farm_books.proofs.BookedRow.{booked_row_installs, booked_row_leaves, may_be_booked}
+use Rattle.farm_books.proofs.BookedRow.{booked_at_moment, booked_row_installs, booked_row_leaves, may_be_booked}
 use Rattle.farm_books.proofs.books.Books.book_if.Goals as goal
 
 pub install_slot-requires : goal.install_slot-requires
@@ -28,7 +28,8 @@ returns-clause-farm c =
     let g = at_moment f c.later_of-now.result in
     let tagged : tags_match f slot host ≡ true = c.in-Some.ensures.tags ∙ (sym c.tags_match.ensures ∙ c.if-not-tags_match.false) in
     let may = may_be_booked f slot host (sym c.in-Some.ensures.allowed) tagged in
-    let row : booked_at g slot host c.later_of-now.result ≡ Some c.row-booked.result = c.in-Some.ensures.makes c.later_of-now.result ∙ ap Some (sym c.row-booked.ensures) in
+    let row : booked_at g slot host c.later_of-now.result ≡ Some c.row-booked.result =
+    booked_at_moment f slot host c.later_of-now.result c.later_of-now.result ∙ (c.in-Some.ensures.makes c.later_of-now.result ∙ ap Some (sym c.row-booked.ensures)) in
     c.install_slot.ensures
     ∙ (ap (λ (h : Farm). record h { slots = slice_set h.slots slot c.row-booked.result }) c.advance_to.ensures
     ∙ (booked_row_leaves g slot host c.later_of-now.result c.row-booked.result row

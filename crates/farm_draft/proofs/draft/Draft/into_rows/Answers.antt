@@ -16,4 +16,5 @@ returns-clause-ready c =
           slots_ready c.self.inside.books.now.subs c.self.inside.books.now.slots c.self.inside.slots.entries _
           (subst (λ (d : Drafted). OnlyEnds d.base.slots d.farm.slots) (sym c.self.view_is) c.requires)
           c.in_ok-changed_slots.ensures.differ c.in_ok-changed_slots.ensures.over;
+      slots_differ = c.in_ok-changed_slots.ensures.numbers;
     }

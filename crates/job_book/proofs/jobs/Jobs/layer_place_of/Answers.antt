@@ -3,7 +3,7 @@ use Rattle.std.specs.List.{position_or_len}
 use Rattle.farm_types.specs.declared.rows.LayerRow.{LayerRow}
 use Rattle.farm_types.specs.Jobs.{JobLists}
 use Rattle.job_book.specs.Inside.{layer_key}
-use Rattle.job_book.proofs.Searched.{layer_found}
+use Rattle.job_book.proofs.LayerKeys.{layer_found}
 use Rattle.job_book.proofs.jobs.Jobs.layer_place_of.Goals as goal
 use Rattle.job_book.specs.declared.place_of.TheConstants.{PLACE_LIMIT}
 

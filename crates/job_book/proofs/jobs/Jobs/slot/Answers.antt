@@ -1,5 +1,6 @@
 use Rattle.std.proofs.Common.{◌∙◌, ℕ, List, map, sym, ap}
-use Rattle.farm_types.specs.Jobs.{JobLists, is_placed, slot_from}
+use Rattle.farm_types.specs.Jobs.{JobLists}
+use Rattle.farm_types.specs.Farm.{is_placed, slot_from}
 use Rattle.job_book.specs.Layers.{LayerPlaces, layer_position, place_in, slots_of}
 use Rattle.job_book.proofs.jobs.Jobs.slot.Goals as goal
 

@@ -1,0 +1,131 @@
+//! The book, and what is read of it.
+
+ghost use Rattle.std.specs.Prelude.{◌≡◌, ◌≤◌, true, false, length, option_copied, All, IfOk, nat_eq};
+ghost use Rattle.std.specs.List.{IsDistinct};
+ghost use Rattle.farm_types.specs.Depends.{are_done};
+ghost use Rattle.farm_types.specs.declared.limits.TheConstants.{MOST_DEPENDS, MOST_GROUPS};
+ghost use Rattle.depend_graph.specs.Graph.{groups_left, has_depend, is_flagged, opened_between, unmet_of, with_all_done, without_depend};
+ghost use Rattle.depend_book.specs.Book.{IsBook, next_in, no_depends, row_in};
+
+use crate::rows::{number_at, place_above, place_of, row_at};
+use depend_graph::{Graph, Opened};
+use farm_types::{DependNo, DependRow, Group, Items, MOST_DEPENDS, Slot};
+use std::alloc::{AllocError, Global};
+use std::marker::Model;
+
+/// The depends in the order of their numbers, and the graph of their groups.
+#[derive(Debug, Drop)]
+pub struct Depends {
+    pub(crate) rows: Vec<DependRow>,
+    pub(crate) graph: Graph,
+    pub(crate) opened: Opened,
+    pub(crate) next: u64,
+}
+
+impl Model for Depends {
+    ghost use Rattle.depend_book.specs.Book as types;
+
+    ghost Value = { types.DependLists };
+
+    ghost use Rattle.depend_book.specs.Inside.{KeepsBook, lists_of};
+
+    ghost view = { lists_of };
+
+    ghost invariant = { KeepsBook };
+}
+
+impl Depends {
+    /// The book of no depends. It takes the memory of all rows and all slots.
+    pub fn make(alloc: Global) -> Result<Depends, AllocError>
+        ensures { IfOk result (λ b. b ≡ no_depends) }
+    {
+        Ok(Depends {
+            rows: Vec::with_capacity(alloc, MOST_DEPENDS as usize)?,
+            graph: Graph::make(alloc)?,
+            opened: Opened::make(alloc)?,
+            next: 1,
+        })
+    }
+
+    /// What this book keeps, as every one does.
+    pub fn kept(&self)
+        ensures { IsBook self.now }
+    {
+        let _rows = &self.rows;
+    }
+
+    /// The depend of that number.
+    pub fn row(&self, depend: DependNo) -> Option<&DependRow>
+        ensures { option_copied result ≡ row_in self.now depend }
+    {
+        row_at(self.rows.as_slice(), place_of(self.rows.as_slice(), depend))
+    }
+
+    /// The number of the depend with the least number above `after`.
+    pub fn next(&self, after: u32) -> Option<DependNo>
+        ensures { result ≡ next_in self.now after }
+    {
+        number_at(
+            self.rows.as_slice(),
+            place_above(self.rows.as_slice(), after),
+        )
+    }
+
+    /// How many depends there are.
+    pub fn count(&self) -> usize
+        ensures value { result ≡ length self.now.rows }
+        ensures within { result ≤ MOST_DEPENDS }
+    {
+        self.rows.len()
+    }
+
+    /// The next depend's number, one past the last where none is left.
+    pub fn next_number(&self) -> u64
+        ensures { result ≡ self.now.next }
+    {
+        self.next
+    }
+
+    /// How many groups the depends have together that aren't satisfied.
+    pub fn groups_left(&self) -> u32
+        ensures value { result ≡ groups_left self.now.graph.depends }
+        ensures within { result ≤ MOST_GROUPS }
+    {
+        self.graph.groups_left()
+    }
+
+    /// How many unmet groups the frame in the slot waits in.
+    pub fn unmet(&self, slot: Slot) -> u32
+        ensures { result ≡ unmet_of self.now.graph.depends slot }
+    {
+        self.graph.unmet(slot)
+    }
+
+    /// Whether the group would be met at once.
+    pub fn is_met_at_once(&self, group: &Group) -> bool
+        ensures { result ≡ are_done (is_flagged self.now.graph.done) group.now }
+    {
+        self.graph.is_met_at_once(group)
+    }
+
+    /// The frames that would open if these were done, by slot, in order. No slot stands twice among them, and none is done.
+    pub fn would_open(&self, alloc: Global, done: &[Slot]) -> Result<Items<Slot>, AllocError>
+        requires differ { IsDistinct nat_eq done.now }
+        requires undone { All (λ slot. is_flagged self.now.graph.done slot ≡ false) done.now }
+        ensures { IfOk result (λ slots. slots ≡ opened_between self.now.graph.depends (with_all_done self.now.graph done.now).depends) }
+    {
+        self.graph.would_open(alloc, done)
+    }
+
+    /// The frames that would open if the depend was dropped, by slot, in order.
+    pub fn would_open_without(
+        &self,
+        alloc: Global,
+        depend: DependNo,
+    ) -> Result<Items<Slot>, AllocError>
+        requires { has_depend self.now.graph depend ≡ true }
+        ensures { IfOk result (λ slots. slots ≡ opened_between self.now.graph.depends (without_depend self.now.graph depend).depends) }
+    {
+        self.graph.would_open_without(alloc, depend)
+    }
+}

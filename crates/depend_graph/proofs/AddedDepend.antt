@@ -1,0 +1,188 @@
+-- A depend is added behind all others.
+use Rattle.std.proofs.Common.{◌≡◌, ◌≢◌, ◌≤◌, ◌<◌, ◌^◌, ℕ, zero, suc, ◌+◌, Bool, true, false, not, cond, eqb, List, [], ◌∷◌, ◌++◌, map, length, Some, refl, sym, ap, subst, ◌∙◌, ◌⊎◌, inl, inr, arith, length-append, option_map}
+use Rattle.std.specs.Prelude.{◌&&◌, ◌||◌}
+use Rattle.std.specs.List.{slice_get, count_by, list_all, list_any, All}
+use Rattle.std.proofs.lemmas.Bool.{cases_Bool, eq-eqb, eqb-true, ltb-true, false≢true}
+use Rattle.std.proofs.lemmas.List.{length-map}
+use Rattle.std.proofs.lemmas.List.Sums.{count_by-le-length, sum_by-cons, sum_by_push}
+use Rattle.std.proofs.lemmas.Option.{none-some, same_Some, slice_get-map, slice_get_within, get_or_from_slice_get}
+use Rattle.farm_types.specs.declared.depend.Group.{Group}
+use Rattle.farm_types.specs.declared.limits.TheConstants.{MOST_GROUPS, SLOT_LIMIT}
+use Rattle.farm_types.specs.Depends.{waits_in}
+use Rattle.farm_types.specs.Sums.{total_at}
+use Rattle.farm_types.proofs.Changed.{appended_each}
+use Rattle.farm_types.proofs.Lists.{and_both}
+use Rattle.farm_types.proofs.Passes.{option_map-from}
+use Rattle.depend_graph.specs.Added.{count_for, held_in, is_lacking}
+use Rattle.depend_graph.specs.Aims.{aims_from}
+use Rattle.depend_graph.specs.Graph.{CanAdd, IsGroup, Watch, Watched, groups_left, holds, is_below, is_flagged, is_satisfied, unmet_in, unmet_of, watch_of, watched}
+use Rattle.depend_graph.specs.Inside.{KeepsDepends, KeepsSums, watches}
+use Rattle.depend_graph.specs.Listed.{IsListed, KeepsCounts, ListedLists, aim_of, is_enough, is_unmet, watch_by, watched_with}
+use Rattle.depend_graph.specs.Ways.{edge_lists, edges_in}
+use Rattle.depend_graph.specs.declared.links.Edge.{Edge}
+use Rattle.depend_graph.specs.declared.listed.Count.{Count}
+use Rattle.depend_graph.proofs.Counts.{count_by-cons, one_if}
+use Rattle.depend_graph.proofs.Held.{held_in_long, held_in_total}
+use Rattle.depend_graph.proofs.Targets.{are_done_by, edges_at, edges_counted, group_of_edge, target_of_edge, targets_in}
+use Rattle.depend_graph.proofs.Watches.{satisfied_by}
+
+-- ---- lists with one more behind
+
+map-push : {X Y : Type 0} (read : X → Y) (xs : List X) (x : X) → map read (xs ++ x ∷ []) ≡ map read xs ++ read x ∷ []
+map-push read [] x = refl
+map-push {Y = Y} read (y ∷ ys) x = ap (λ (zs : List Y). read y ∷ zs) (map-push read ys x)
+
+pub watches_push : (ds : List ListedLists) (l : ListedLists) → watches (ds ++ l ∷ []) ≡ watches ds ++ watch_by l ∷ []
+watches_push ds l = map-push watch_by ds l
+
+pub edge_lists_push : (ds : List ListedLists) (l : ListedLists) → edge_lists (ds ++ l ∷ []) ≡ edge_lists ds ++ l.edges ∷ []
+edge_lists_push ds l = map-push edges_in ds l
+
+pub edge_lists_long : (ds : List ListedLists) → length (edge_lists ds) ≡ length ds
+edge_lists_long ds = length-map ds edges_in
+
+none_at : {X : Type 0} (test : X → Bool) (xs : List X) (p : ℕ) (x : X) → list_any test xs ≡ false → slice_get xs p ≡ Some x → test x ≡ true → ⊥
+none_at test [] p x none at passes = none-some x at
+none_at {X} test (y ∷ ys) zero x none at passes = false≢true (sym none ∙ (ap (λ b. b || list_any test ys) (ap test (same_Some y x at) ∙ passes)))
+none_at test (y ∷ ys) (suc p) x none at passes = none_at test ys p x (rest (test y) (list_any test ys) none) at passes where
+  rest : (a b : Bool) → (a || b) ≡ false → b ≡ false
+  rest true b is = absurd (false≢true (sym is))
+  rest false b is = is
+
+any_all : (test : ℕ → Bool) (ts : List ℕ) (s : ℕ) → list_any (λ t. eqb t s) ts ≡ true → list_all test ts ≡ true → test s ≡ true
+any_all test [] s some all = absurd (false≢true some)
+any_all test (t ∷ ts) s some all = by_first (cases_Bool (eqb t s)) (and_both (test t) (list_all test ts) all) (any_all test ts s) where
+  by_first : (eqb t s ≡ true) ⊎ (eqb t s ≡ false) → (test t ≡ true) × (list_all test ts ≡ true) → (list_any (λ x. eqb x s) ts ≡ true → list_all test ts ≡ true → test s ≡ true) → test s ≡ true
+  by_first (inl same) both more = subst (λ (x : ℕ). test x ≡ true) (eqb-true t s same) both.0
+  by_first (inr other) both more = more (sym (ap (λ b. b || list_any (λ x. eqb x s) ts) other) ∙ some) both.1
+
+pub group_at : (gs : List Group) → All IsGroup gs → (k : ℕ) (g : Group) → slice_get gs k ≡ Some g → IsGroup g
+group_at gs each k g at = subst IsGroup (get_or_from_slice_get gs k g g at) (each k g (slice_get_within gs k g at))
+
+-- ---- the edges that were reserved
+
+module _ (edges : List Edge) (gs : List Group) (aims : map aim_of edges ≡ aims_from 0 gs) where
+  pub slots_within : All IsGroup gs → (i : ℕ) (e : Edge) → slice_get edges i ≡ Some e → e.slot < SLOT_LIMIT
+  slots_within each i e at =
+      let g = group_of_edge edges gs aims i e at in
+      ltb-true e.slot SLOT_LIMIT (any_all is_below g.0.targets e.slot (target_of_edge edges gs aims i e at g.0 g.1) (group_at gs each e.group g.0 g.1).targets_within)
+
+  all_counted_true : (ts : List ℕ) → count_by (λ t. true) ts ≡ length ts
+  all_counted_true [] = refl
+  all_counted_true (t ∷ ts) = omega (arith, count_by-cons (λ t. true) t ts, all_counted_true ts)
+
+  pub targets_small : length edges < 2 ^ 32 → (k : ℕ) (g : Group) → slice_get gs k ≡ Some g → length g.targets < 2 ^ 32
+  targets_small within k g at =
+      let counted = edges_counted edges gs k (λ t. true) aims ∙ (ap (targets_in (λ t. true)) at ∙ all_counted_true g.targets) in
+      omega (arith, count_by-le-length (edges_at k (λ t. true)) edges)
+
+-- ---- the depend that is added
+
+module _ (done : List Bool) (depend : ℕ) (gs : List Group) (edges : List Edge) (aims : map aim_of edges ≡ aims_from 0 gs) (within : length edges < 2 ^ 32) where
+  abbrev pub added : ListedLists
+  added = record { depend = depend; groups = gs; counts = map (count_for done) gs; edges = edges; unmet = count_by is_unmet (map (count_for done) gs) }
+
+  counted : length added.counts ≡ length gs
+  counted = length-map gs (count_for done)
+
+  marks : (xs : List Group) → watched_with xs (map (count_for done) xs) ≡ map (watched done) xs
+  marks [] = refl
+  marks (g ∷ xs) = λ i. record { group = g; met = sym (are_done_by (is_flagged done) g) i } ∷ marks xs i
+
+  pub added_watch : watch_by added ≡ watch_of done depend gs
+  added_watch = λ i. record { depend = depend; groups = marks gs i }
+
+  pub added_listed : All IsGroup gs → length gs ≤ MOST_GROUPS → IsListed added
+  added_listed each few = record { counted = counted; aims = aims; edges_within = within; groups_within = few; each = each; unmet_kept = refl }
+
+  count_is : (k : ℕ) (c : Count) → slice_get added.counts k ≡ Some c → (g : Group) × (slice_get gs k ≡ Some g) × (count_for done g ≡ c)
+  count_is k c at = option_map-from (count_for done) (slice_get gs k) c (sym (slice_get-map (count_for done) gs k) ∙ at)
+
+  pub added_counts : KeepsCounts done added
+  added_counts =
+      record {
+        undone_kept = λ k c at.
+            let x = count_is k c at in
+            ap (λ (n : Count). n.undone) (sym x.2) ∙ sym (edges_counted edges gs k (is_lacking done) aims ∙ ap (targets_in (is_lacking done)) x.1);
+        met_kept = λ k g c at_group at_count enough.
+            let x = count_is k c at_count in
+            let same : x.0 ≡ g = same_Some x.0 g (sym x.1 ∙ at_group) in
+            ap (λ (n : Count). n.met) (sym x.2) ∙ ((λ i. is_enough (same i) (x.2 i).undone) ∙ enough);
+      }
+
+  module _ (ds : List ListedLists) (unmet : List ℕ) (left : ℕ) (depends : KeepsDepends ds) (sums : KeepsSums unmet left ds) (flags : List Bool)
+      (can : CanAdd (record { done = flags; depends = watches ds }) depend gs)
+    where
+      few : length gs ≤ MOST_GROUPS
+      few = omega (arith, can.groups_within)
+
+      pub push_counts : ((p : ℕ) (d : ListedLists) → slice_get ds p ≡ Some d → KeepsCounts done d) → (p : ℕ) (d : ListedLists) → slice_get (ds ++ added ∷ []) p ≡ Some d → KeepsCounts done d
+      push_counts kept = appended_each (λ p d. KeepsCounts done d) ds added kept added_counts
+
+      other_number : (p : ℕ) (d : ListedLists) → slice_get ds p ≡ Some d → d.depend ≢ depend
+      other_number p d at = λ same.
+          none_at (λ (w : Watch). eqb w.depend depend) (watches ds) p (watch_by d) can.new (slice_get-map watch_by ds p ∙ ap (option_map watch_by) at) (eq-eqb d.depend depend same)
+
+      pub push_depends : KeepsDepends (ds ++ added ∷ [])
+      push_depends =
+          record {
+            listed = appended_each (λ p d. IsListed d) ds added depends.listed (added_listed can.each few);
+            numbers_differ = λ p q d e at_d at_e.
+                appended_each (λ n x. slice_get (ds ++ added ∷ []) q ≡ Some e → x.depend ≡ e.depend → n ≡ q) ds added
+                (λ n x at_x at_q. appended_each (λ m y. x.depend ≡ y.depend → n ≡ m) ds added (λ m y at_y same. depends.numbers_differ n m x y at_x at_y same) (λ same. absurd (other_number n x at_x same)) q e at_q)
+                (λ at_q. appended_each (λ m y. depend ≡ y.depend → length ds ≡ m) ds added (λ m y at_y same. absurd (other_number m y at_y (sym same))) (λ same. refl) q e at_q)
+                p d at_d at_e;
+            count_within = omega (arith, length-append ds (added ∷ []), length-map ds watch_by, can.room);
+          }
+
+      abbrev weight_of : Watch → ℕ
+      weight_of w = cond (is_satisfied w) 0 (length w.groups)
+
+      weight_by : (b : Bool) → eqb added.unmet 0 ≡ b → cond b left (left + length gs) ≡ left + cond b 0 (length gs)
+      weight_by true is = omega arith
+      weight_by false is = refl
+
+      weight_is : weight_of (watch_by added) ≡ cond (eqb added.unmet 0) 0 (length gs)
+      weight_is =
+          ap (λ b. cond b 0 (length (watched_with gs added.counts))) (satisfied_by added counted refl)
+          ∙ ap (cond (eqb added.unmet 0) 0) (ap (λ (ws : List Watched). length ws) (marks gs) ∙ length-map gs (watched done))
+
+      pub push_sums : KeepsSums (held_in unmet gs added.counts) (cond (eqb added.unmet 0) left (left + length gs)) (ds ++ added ∷ [])
+      push_sums =
+          record {
+            unmet_kept = λ s.
+                let low : (t : ℕ) → total_at unmet t + length gs ≤ 4294967295 = λ t. omega (arith, sums.unmet_kept t, unmet_low t, sums.left_kept, can.groups_within) in
+                held_in_total unmet gs added.counts s (group_at gs can.each) sums.unmet_counted low
+                ∙ (ap (λ n. n + unmet_in s (watch_by added)) (sums.unmet_kept s)
+                ∙ (sym (sum_by_push (unmet_in s) (watches ds) (watch_by added)) ∙ ap (λ (ws : List Watch). unmet_of ws s) (sym (watches_push ds added))));
+            unmet_counted = held_in_long unmet gs added.counts ∙ sums.unmet_counted;
+            left_kept =
+                weight_by (eqb added.unmet 0) refl
+                ∙ ((λ i. sums.left_kept i + sym weight_is i)
+                ∙ (sym (sum_by_push weight_of (watches ds) (watch_by added)) ∙ ap groups_left (sym (watches_push ds added))));
+            left_within = at_most (eqb added.unmet 0) (omega (arith, sums.left_kept, can.groups_within));
+          }
+        where
+          at_most : (b : Bool) → left + length gs ≤ MOST_GROUPS → cond b left (left + length gs) ≤ MOST_GROUPS
+          at_most true fits = omega arith
+          at_most false fits = fits
+
+          unmet_by : (s : ℕ) (d : ListedLists) → IsListed d → unmet_in s (watch_by d) ≤ weight_of (watch_by d)
+          unmet_by s d one = by_rest (cases_Bool (is_satisfied (watch_by d))) where
+            none_held : (ws : List Watched) → list_all (λ (w : Watched). w.met) ws ≡ true → count_by (holds s) ws ≡ 0
+            none_held [] all = refl
+            none_held (w ∷ ws) all =
+                let both = and_both w.met (list_all (λ (x : Watched). x.met) ws) all in
+                omega (arith, count_by-cons (holds s) w ws, ap (λ b. one_if (not b && waits_in s w.group)) both.0, none_held ws both.1)
+
+            by_rest : (is_satisfied (watch_by d) ≡ true) ⊎ (is_satisfied (watch_by d) ≡ false) → unmet_in s (watch_by d) ≤ weight_of (watch_by d)
+            by_rest (inl all) = omega (arith, none_held (watched_with d.groups d.counts) all)
+            by_rest (inr some) = omega (arith, count_by-le-length (holds s) (watched_with d.groups d.counts), ap (λ b. cond b 0 (length (watched_with d.groups d.counts))) some)
+
+          below : (s : ℕ) (xs : List ListedLists) → ((p : ℕ) (d : ListedLists) → slice_get xs p ≡ Some d → IsListed d) → unmet_of (watches xs) s ≤ groups_left (watches xs)
+          below s [] listed = omega arith
+          below s (x ∷ xs) listed =
+              omega (arith, sum_by-cons (unmet_in s) (watch_by x) (watches xs), sum_by-cons weight_of (watch_by x) (watches xs), unmet_by s x (listed 0 x refl), below s xs (λ p d at. listed (suc p) d at))
+
+          unmet_low : (s : ℕ) → unmet_of (watches ds) s ≤ groups_left (watches ds)
+          unmet_low s = below s ds depends.listed

@@ -1,0 +1,116 @@
+-- What changes while groups are met.
+use Rattle.std.specs.Prelude.{ℕ, ◌≡◌, ◌==◌, ◌&&◌, ◌+◌, ◌-◌, Bool, true, not, List, [], ◌∷◌, ◌++◌, fold, length, nat_lt, slice_get, Some, if◌then◌else◌}
+use Rattle.farm_types.specs.declared.depend.Group.{Group}
+use Rattle.farm_types.specs.Farm.{changed_at}
+use Rattle.farm_types.specs.Sums.{total_at}
+use Rattle.depend_graph.specs.Graph.{OpenedLists}
+use Rattle.depend_graph.specs.Listed.{ListedLists, is_enough}
+use Rattle.depend_graph.specs.declared.links.Edge.{Edge}
+use Rattle.depend_graph.specs.declared.links.EdgeAt.{EdgeAt}
+use Rattle.depend_graph.specs.declared.listed.Count.{Count}
+
+-- ---- one depend
+
+abbrev pub fewer : Count → Count
+fewer c = record c { undone = c.undone - 1 }
+
+abbrev pub more : Count → Count
+more c = record c { undone = c.undone + 1 }
+
+abbrev pub met_count : Count → Count
+met_count c = record c { met = true }
+
+-- a target of the group is done, or isn't any more
+abbrev pub lowered : ℕ → ListedLists → ListedLists
+lowered group d = record d { counts = changed_at d.counts group fewer }
+
+abbrev pub raised : ℕ → ListedLists → ListedLists
+raised group d = record d { counts = changed_at d.counts group more }
+
+-- the group is met
+abbrev pub met_at : ℕ → ListedLists → ListedLists
+met_at group d = record d { counts = changed_at d.counts group met_count; unmet = d.unmet - 1 }
+
+-- the group isn't met, and lacks no target
+abbrev pub is_due : Group → Count → Bool
+is_due g c = not c.met && is_enough g c.undone
+
+-- ---- those who wait in a group
+
+-- how many unmet groups each frame waits in, and the slots of the frames that were opened
+pub record Waiting : Type 0 where
+  pub unmet : List ℕ
+  pub slots : List ℕ
+
+abbrev pub waiting_of : List ℕ → List ℕ → Waiting
+waiting_of unmet slots = record { unmet = unmet; slots = slots }
+
+-- the frame in the slot waits in one unmet group fewer, and opens where that was the last
+abbrev pub freed : Waiting → ℕ → Waiting
+freed w slot = record { unmet = changed_at w.unmet slot (λ n. n - 1); slots = if total_at w.unmet slot == 1 then w.slots ++ slot ∷ [] else w.slots }
+
+abbrev pub all_freed : Waiting → List ℕ → Waiting
+all_freed w waiters = fold freed w waiters
+
+abbrev pub is_positive : ℕ → Bool
+is_positive n = nat_lt 0 n
+
+-- ---- the whole
+
+pub record Flow : Type 0 where
+  pub depends : List ListedLists
+  pub unmet : List ℕ
+  pub left : ℕ
+  pub opened : OpenedLists
+
+abbrev pub flow_of : List ListedLists → List ℕ → ℕ → OpenedLists → Flow
+flow_of depends unmet left opened = record { depends = depends; unmet = unmet; left = left; opened = opened }
+
+abbrev pub waiting_in : Flow → Waiting
+waiting_in f = waiting_of f.unmet f.opened.slots
+
+-- the last of the depend's groups that wasn't met
+abbrev pub is_last_of : ListedLists → Bool
+is_last_of d = d.unmet == 1
+
+-- the group at a place of the depend at a place is met, with those who wait in it
+abbrev pub met_flow : ℕ → ℕ → ListedLists → Group → Flow → Flow
+met_flow place group d g f =
+    record {
+      depends = changed_at f.depends place (met_at group);
+      unmet = (all_freed (waiting_in f) g.waiters).unmet;
+      left = if is_last_of d then f.left - length d.groups else f.left;
+      opened =
+          record {
+            slots = (all_freed (waiting_in f) g.waiters).slots;
+            satisfied = if is_last_of d then f.opened.satisfied ++ d.depend ∷ [] else f.opened.satisfied;
+          };
+    }
+
+abbrev pub lowered_flow : ℕ → ℕ → Flow → Flow
+lowered_flow place group f = record f { depends = changed_at f.depends place (lowered group) }
+
+-- the group is met where it isn't yet and lacks no target
+abbrev pub due_flow : ℕ → ℕ → ListedLists → Group → Count → Flow → Flow
+due_flow place group d g c f = if is_due g c then met_flow place group d g f else f
+
+-- the target of an edge is done: the group lacks one fewer, and is met where it lacks none
+abbrev pub passed_flow : ℕ → ℕ → ListedLists → Group → Count → Flow → Flow
+passed_flow place group d g c f = due_flow place group (lowered group d) g (fewer c) (lowered_flow place group f)
+
+-- ---- places
+
+-- what stands at the place of a group
+pub record IsGroupAt (depends : List ListedLists) (place group : ℕ) : Type 0 where
+  pub listed : ListedLists
+  pub one : Group
+  pub count : Count
+  pub listed_there : slice_get depends place ≡ Some listed
+  pub group_there : slice_get listed.groups group ≡ Some one
+  pub count_there : slice_get listed.counts group ≡ Some count
+
+-- the edge that is named, and its group
+pub record IsEdgeAt (depends : List ListedLists) (at : EdgeAt) : Type 0 where
+  pub edge : Edge
+  pub place : IsGroupAt depends at.depend edge.group
+  pub edge_there : slice_get place.listed.edges at.edge ≡ Some edge

@@ -1,0 +1,37 @@
+-- What the graph keeps true of its fields.
+use Rattle.std.specs.Prelude.{ℕ, ◌≡◌, ◌≤◌, List, map, length, Some, slice_get}
+use Rattle.std.specs.Vec.{vec_capacity}
+use Rattle.farm_types.specs.declared.limits.TheConstants.{MOST_DEPENDS, MOST_GROUPS, SLOT_LIMIT}
+use Rattle.farm_types.specs.Sums.{total_at}
+use Rattle.depend_graph.specs.Graph.{GraphLists, Watch, groups_left, unmet_of}
+use Rattle.depend_graph.specs.Listed.{IsListed, KeepsCounts, ListedLists, watch_by}
+use Rattle.depend_graph.specs.Ways.{KeepsWays, edge_lists}
+use Rattle.depend_graph.specs.declared.graph.Graph.TheInside.{Inside}
+
+abbrev pub watches : List ListedLists → List Watch
+watches depends = map watch_by depends
+
+abbrev pub graph_of : Inside → GraphLists
+graph_of a = record { done = a.done.items; depends = watches a.depends.items }
+
+-- no two depends have one number, and as many fit as there may be
+pub record KeepsDepends (depends : List ListedLists) : Type 0 where
+  pub listed : (p : ℕ) (d : ListedLists) → slice_get depends p ≡ Some d → IsListed d
+  pub numbers_differ : (p q : ℕ) (d e : ListedLists) → slice_get depends p ≡ Some d → slice_get depends q ≡ Some e → d.depend ≡ e.depend → p ≡ q
+  pub count_within : length depends ≤ MOST_DEPENDS
+
+-- at each slot stands in how many unmet groups its frame waits, and the groups of the depends that aren't satisfied are counted
+pub record KeepsSums (unmet : List ℕ) (left : ℕ) (depends : List ListedLists) : Type 0 where
+  pub unmet_kept : (slot : ℕ) → total_at unmet slot ≡ unmet_of (watches depends) slot
+  pub unmet_counted : length unmet ≡ SLOT_LIMIT
+  pub left_kept : left ≡ groups_left (watches depends)
+  pub left_within : left ≤ MOST_GROUPS
+
+pub record KeepsGraph (a : Inside) : Type 0 where
+  pub depends : KeepsDepends a.depends.items
+  pub sums : KeepsSums a.unmet.items a.left a.depends.items
+  pub counts : (p : ℕ) (d : ListedLists) → slice_get a.depends.items p ≡ Some d → KeepsCounts a.done.items d
+  pub ways : KeepsWays a.first.items (edge_lists a.depends.items)
+  pub done_counted : length a.done.items ≡ SLOT_LIMIT
+  pub first_counted : length a.first.items ≡ SLOT_LIMIT
+  pub room : MOST_DEPENDS ≤ vec_capacity a.depends

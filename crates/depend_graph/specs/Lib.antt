@@ -1,0 +1,15 @@
+pub mod Added
+pub mod Aims
+pub mod Flow
+pub mod Graph
+pub mod Inside
+pub mod Kept
+pub mod Linking
+pub mod Listed
+pub mod ListedInside
+pub mod OpenedInside
+pub mod Passing
+pub mod Spare
+pub mod SpareInside
+pub mod Trial
+pub mod Ways

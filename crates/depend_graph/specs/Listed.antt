@@ -1,0 +1,67 @@
+-- A depend as the graph lists it.
+use Rattle.std.specs.Prelude.{ℕ, ◌≡◌, ◌==◌, ◌&&◌, ◌<◌, ◌≤◌, ◌^◌, Bool, true, not, List, [], ◌∷◌, map, length, All, count_by, nat_lt, slice_get, Some, if◌then◌else◌}
+use Rattle.farm_types.specs.declared.depend.Group.{Group}
+use Rattle.farm_types.specs.declared.limits.TheConstants.{MOST_GROUPS}
+use Rattle.depend_graph.specs.Aims.{Aim, aims_from}
+use Rattle.depend_graph.specs.Graph.{IsGroup, Watch, Watched, is_flagged}
+use Rattle.depend_graph.specs.declared.links.Edge.{Edge}
+use Rattle.depend_graph.specs.declared.listed.Count.{Count}
+
+-- its groups, a count for each of them, an edge for each target of each group, and how many groups aren't met
+pub record ListedLists : Type 0 where
+  pub depend : ℕ
+  pub groups : List Group
+  pub counts : List Count
+  pub edges : List Edge
+  pub unmet : ℕ
+
+-- ---- the depend that it stands for
+
+abbrev pub watched_by : Group → Count → Watched
+watched_by g c = record { group = g; met = c.met }
+
+-- each group with its count's mark
+abbrev pub watched_with : List Group → List Count → List Watched
+watched_with [] counts = []
+watched_with (g ∷ gs) [] = []
+watched_with (g ∷ gs) (c ∷ cs) = watched_by g c ∷ watched_with gs cs
+
+abbrev pub watch_by : ListedLists → Watch
+watch_by d = record { depend = d.depend; groups = watched_with d.groups d.counts }
+
+abbrev pub has_number : ℕ → ListedLists → Bool
+has_number depend d = d.depend == depend
+
+-- ---- edges
+
+abbrev pub aim_of : Edge → Aim
+aim_of e = record { slot = e.slot; group = e.group }
+
+-- ---- counts
+
+-- the edge is one of the group's, to a frame that isn't done
+abbrev pub is_undone : List Bool → ℕ → Edge → Bool
+is_undone done group e = e.group == group && not (is_flagged done e.slot)
+
+-- so many targets aren't done, which is no hindrance any more
+abbrev pub is_enough : Group → ℕ → Bool
+is_enough g undone = if g.any then nat_lt undone (length g.targets) else undone == 0
+
+abbrev pub is_unmet : Count → Bool
+is_unmet c = not c.met
+
+-- ---- what always holds of it
+
+-- a count for each group, and an edge for each target, so many that 32 bits count them
+pub record IsListed (d : ListedLists) : Type 0 where
+  pub counted : length d.counts ≡ length d.groups
+  pub aims : map aim_of d.edges ≡ aims_from 0 d.groups
+  pub edges_within : length d.edges < 2 ^ 32
+  pub groups_within : length d.groups ≤ MOST_GROUPS
+  pub each : All IsGroup d.groups
+  pub unmet_kept : d.unmet ≡ count_by is_unmet d.counts
+
+-- the counts are those of the targets that aren't done, and a group that lacks none is met
+pub record KeepsCounts (done : List Bool) (d : ListedLists) : Type 0 where
+  pub undone_kept : (k : ℕ) (c : Count) → slice_get d.counts k ≡ Some c → c.undone ≡ count_by (is_undone done k) d.edges
+  pub met_kept : (k : ℕ) (g : Group) (c : Count) → slice_get d.groups k ≡ Some g → slice_get d.counts k ≡ Some c → is_enough g c.undone ≡ true → c.met ≡ true

@@ -1,0 +1,51 @@
+//! A depend is added.
+
+ghost use Rattle.std.specs.Prelude.{◌≡◌, ◌==◌, ◌+◌, ◌≤◌, if◌then◌else◌};
+ghost use Rattle.farm_types.specs.declared.limits.TheConstants.{MOST_GROUPS};
+ghost use Rattle.depend_graph.specs.Graph.{CanAdd, with_depend};
+ghost use Rattle.depend_graph.specs.Spare.{spare_of};
+
+use crate::counting::{count_all, hold_all, unmet_among};
+use crate::graph::Graph;
+use crate::linking::link;
+use crate::listed::Listed;
+use crate::spare::GraphSpare;
+use farm_types::{DependNo, Group, Items};
+
+impl Graph {
+    /// Adds a depend with its groups, in the memory that was taken for them. A group is met at once where its targets are done. It takes no memory.
+    pub fn add(&mut self, spare: GraphSpare, depend: DependNo, groups: Items<Group>)
+        requires reserved { spare ≡ spare_of groups }
+        requires can { CanAdd self.old depend groups }
+        ensures { self.new ≡ with_depend self.old depend groups }
+    {
+        let GraphSpare {
+            mut counts,
+            mut edges,
+        } = spare;
+        count_all(&mut counts, groups.as_slice(), self.done.as_slice());
+        hold_all(&mut self.unmet, groups.as_slice(), counts.as_slice());
+        link(&mut self.first, &mut edges, self.depends.len() as u32);
+        let unmet = unmet_among(counts.as_slice());
+        self.left = raised_left(self.left, unmet, groups.len());
+        self.depends.push_reserved(Listed {
+            depend,
+            groups,
+            counts,
+            edges,
+            unmet,
+        });
+    }
+}
+
+// How many groups are left with so many more, where some of those aren't met.
+fn raised_left(left: u32, unmet: u32, count: usize) -> u32
+    requires { left + count ≤ MOST_GROUPS }
+    ensures { result ≡ (if unmet == 0 then left else left + count) }
+{
+    if unmet == 0 {
+        left
+    } else {
+        left + count as u32
+    }
+}

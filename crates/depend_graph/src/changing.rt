@@ -1,0 +1,80 @@
+//! Frames are done or not any more, and depends are dropped.
+
+ghost use Rattle.std.specs.Prelude.{◌≡◌, ◌<◌, false, length, not, slice_get, slice_set, Some, true};
+ghost use Rattle.depend_graph.specs.Graph.{HasOpened, has_depend, is_flagged, with_done, without_depend};
+
+use crate::completing::complete;
+use crate::dropping::{meet_all, place_of};
+use crate::graph::{Graph, is_flagged_at};
+use crate::links::EdgeAt;
+use crate::opened::Opened;
+use crate::reopening::reopen;
+use farm_types::{DependNo, Slot};
+
+impl Graph {
+    /// The frame is done, or isn't any more. Groups are met whose targets are done now, and `opened` tells what that opened. It takes no memory.
+    pub fn set_done(&mut self, slot: Slot, done: bool, opened: &mut Opened)
+        ensures graph { self.new ≡ with_done self.old slot done }
+        ensures opened { HasOpened self.old.depends self.new.depends opened.new }
+    {
+        opened.clear();
+        if !is_change(self.done.as_slice(), slot, done) {
+            return;
+        }
+        let first = first_of(self.first.as_slice(), slot);
+        if !done {
+            reopen(&mut self.done, first, &mut self.depends, slot);
+            return;
+        }
+        complete(
+            &mut self.done,
+            first,
+            &mut self.depends,
+            &mut self.unmet,
+            &mut self.left,
+            opened,
+            slot,
+        );
+    }
+
+    /// All groups of the depend are met, and `opened` tells what that opened. It takes no memory.
+    pub fn drop_depend(&mut self, depend: DependNo, opened: &mut Opened)
+        requires { has_depend self.old depend ≡ true }
+        ensures graph { self.new ≡ without_depend self.old depend }
+        ensures opened { HasOpened self.old.depends self.new.depends opened.new }
+    {
+        opened.clear();
+        let place = place_of(self.depends.as_slice(), depend);
+        meet_all(
+            &mut self.depends,
+            &mut self.unmet,
+            &mut self.left,
+            opened,
+            place,
+        );
+    }
+}
+
+// Whether there is a flag of the slot, which isn't so yet.
+#[tactic(auto, using(crate::proofs::Unchanged::flag_stays, crate::proofs::Unchanged::flag_past))]
+fn is_change(done: &[bool], slot: Slot, flag: bool) -> bool
+    ensures stays { result ≡ false → slice_set done.now slot flag ≡ done.now }
+    ensures within { result ≡ true → slot < length done.now }
+    ensures differs { result ≡ true → is_flagged done.now slot ≡ not flag }
+{
+    if slot.0 as usize >= done.len() {
+        return false;
+    }
+    if flag {
+        return !is_flagged_at(done, slot);
+    }
+    is_flagged_at(done, slot)
+}
+
+/// The first edge on the slot's way.
+pub(crate) fn first_of(first: &[Option<EdgeAt>], slot: Slot) -> Option<EdgeAt>
+    requires { slot < length first.now }
+    ensures { slice_get first.now slot ≡ Some result }
+{
+    first[slot.0 as usize]
+}

@@ -1,0 +1,73 @@
+//! A copy of the graph.
+
+ghost use Rattle.std.specs.Prelude.{◌≡◌, ◌≤◌, IfOk};
+ghost use Rattle.std.specs.Vec.{vec_capacity};
+ghost use Rattle.farm_types.specs.declared.limits.TheConstants.{MOST_DEPENDS};
+
+use crate::graph::Graph;
+use crate::listed::Listed;
+use farm_types::{Group, Items, MOST_DEPENDS};
+use std::alloc::{AllocError, Global};
+
+impl Graph {
+    /// An equal graph.
+    pub fn copy(&self, alloc: Global) -> Result<Graph, AllocError>
+        ensures { IfOk result (λ g. g ≡ self.now) }
+    {
+        Ok(Graph {
+            done: Vec::from_slice(alloc, self.done.as_slice())?,
+            unmet: Vec::from_slice(alloc, self.unmet.as_slice())?,
+            first: Vec::from_slice(alloc, self.first.as_slice())?,
+            depends: copy_depends(alloc, self.depends.as_slice())?,
+            left: self.left,
+        })
+    }
+}
+
+// Equal depends, with room for as many as there may be.
+fn copy_depends(alloc: Global, depends: &[Listed]) -> Result<Vec<Listed>, AllocError>
+    ensures items { IfOk result (λ copies. copies.items ≡ depends.now) }
+    ensures capacity { IfOk result (λ copies. MOST_DEPENDS ≤ vec_capacity copies) }
+{
+    let mut copies = Vec::with_capacity(alloc, MOST_DEPENDS as usize)?;
+    for listed in depends {
+        copies.push(copy_listed(alloc, listed)?)?;
+    }
+    Ok(copies)
+}
+
+// An equal depend.
+fn copy_listed(alloc: Global, listed: &Listed) -> Result<Listed, AllocError>
+    ensures { IfOk result (λ copy. copy ≡ listed.now) }
+{
+    Ok(Listed {
+        depend: listed.depend,
+        groups: copy_groups(alloc, listed.groups.as_slice())?,
+        counts: Vec::from_slice(alloc, listed.counts.as_slice())?,
+        edges: Vec::from_slice(alloc, listed.edges.as_slice())?,
+        unmet: listed.unmet,
+    })
+}
+
+// Equal groups.
+fn copy_groups(alloc: Global, groups: &[Group]) -> Result<Items<Group>, AllocError>
+    ensures { IfOk result (λ copies. copies ≡ groups.now) }
+{
+    let mut copies = Items::new(alloc);
+    for group in groups {
+        copies.push(copy_group(alloc, group)?)?;
+    }
+    Ok(copies)
+}
+
+// An equal group.
+fn copy_group(alloc: Global, group: &Group) -> Result<Group, AllocError>
+    ensures { IfOk result (λ copy. copy ≡ group.now) }
+{
+    Ok(Group {
+        position: group.position,
+        waiters: group.waiters.copy(alloc)?,
+        targets: group.targets.copy(alloc)?,
+        any: group.any,
+    })
+}

@@ -1,0 +1,18 @@
+//! The way along the edges of a slot.
+
+use farm_types::Slot;
+
+/// An edge by the place of its depend and its place among the depend's edges.
+#[derive(Clone, Copy, Debug, PartialEq, Eq)]
+pub(crate) struct EdgeAt {
+    pub(crate) depend: u32,
+    pub(crate) edge: u32,
+}
+
+/// A target of a group: the slot, the group's place in its depend, and the edge of the same slot that was added before.
+#[derive(Clone, Copy, Debug, PartialEq, Eq)]
+pub(crate) struct Edge {
+    pub(crate) slot: Slot,
+    pub(crate) group: u32,
+    pub(crate) next: Option<EdgeAt>,
+}

@@ -1,0 +1,46 @@
+//! What a change would open.
+
+ghost use Rattle.std.specs.Prelude.{◌≡◌, true, false, IfOk, All, nat_eq};
+ghost use Rattle.std.specs.List.{IsDistinct};
+ghost use Rattle.depend_graph.specs.Graph.{has_depend, is_flagged, opened_between, with_all_done, without_depend};
+
+use crate::dropping::place_of;
+use crate::graph::Graph;
+use crate::opens::opened_by;
+use crate::trying::{free_left, freed_by};
+use farm_types::{DependNo, Items, Slot};
+use std::alloc::{AllocError, Global};
+
+impl Graph {
+    /// The frames that would open if these were done, by slot, in order. No slot stands twice among them, and none is done. Where no group is unmet, or
+    /// none of the frames is a target, nothing opens and no memory is taken.
+    pub fn would_open(&self, alloc: Global, done: &[Slot]) -> Result<Items<Slot>, AllocError>
+        requires differ { IsDistinct nat_eq done.now }
+        requires undone { All (λ slot. is_flagged self.now.done slot ≡ false) done.now }
+        ensures { IfOk result (λ slots. slots ≡ opened_between self.now.depends (with_all_done self.now done.now).depends) }
+    {
+        if done.is_empty() {
+            return Ok(Items::new(alloc));
+        }
+        if self.left == 0 {
+            return Ok(Items::new(alloc));
+        }
+        let freed = freed_by(alloc, self.first.as_slice(), self.depends.as_slice(), done)?;
+        opened_by(alloc, self.unmet.as_slice(), freed.as_slice())
+    }
+
+    /// The frames that would open if the depend was dropped, by slot, in order.
+    pub fn would_open_without(
+        &self,
+        alloc: Global,
+        depend: DependNo,
+    ) -> Result<Items<Slot>, AllocError>
+        requires { has_depend self.now depend ≡ true }
+        ensures { IfOk result (λ slots. slots ≡ opened_between self.now.depends (without_depend self.now depend).depends) }
+    {
+        let mut freed = Vec::new(alloc);
+        let place = place_of(self.depends.as_slice(), depend);
+        free_left(&self.depends[place as usize], &mut freed)?;
+        opened_by(alloc, self.unmet.as_slice(), freed.as_slice())
+    }
+}

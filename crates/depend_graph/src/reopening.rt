@@ -1,0 +1,41 @@
+//! A frame isn't done any more: the groups that it is a target of.
+
+ghost use Rattle.std.specs.Prelude.{◌≡◌, ◌<◌, ℕ, Some, false, length, slice_get, slice_set, true};
+ghost use Rattle.std.specs.Vec.{vec_capacity};
+ghost use Rattle.depend_graph.specs.Graph.{is_flagged};
+ghost use Rattle.depend_graph.specs.Inside.{KeepsDepends, watches};
+ghost use Rattle.depend_graph.specs.Listed.{KeepsCounts, ListedLists};
+ghost use Rattle.depend_graph.specs.Ways.{IsEdge, IsLast, edge_lists, is_ahead_of, is_any};
+ghost use Rattle.depend_graph.specs.declared.links.Edge.{Edge};
+
+use crate::flow::pass_back;
+use crate::links::EdgeAt;
+use crate::listed::Listed;
+use farm_types::Slot;
+
+/// The frame of the slot isn't done any more: along its way each group lacks one more. What is met stays met.
+pub(crate) fn reopen(
+    done: &mut Vec<bool>,
+    first: Option<EdgeAt>,
+    depends: &mut Vec<Listed>,
+    slot: Slot,
+)
+    requires slot { slot < length done.old.items }
+    requires done { is_flagged done.old.items slot ≡ true }
+    requires first { IsLast (edge_lists depends.old.items) slot is_any first }
+    requires next { (p i : ℕ) (e : Edge) → IsEdge (edge_lists depends.old.items) p i e → IsLast (edge_lists depends.old.items) e.slot (is_ahead_of p i) e.next }
+    requires depends { KeepsDepends depends.old.items }
+    requires counts { (p : ℕ) (d : ListedLists) → slice_get depends.old.items p ≡ Some d → KeepsCounts done.old.items d }
+    ensures done { done.new.items ≡ slice_set done.old.items slot false }
+    ensures watches { watches depends.new.items ≡ watches depends.old.items }
+    ensures edges { edge_lists depends.new.items ≡ edge_lists depends.old.items }
+    ensures depends { KeepsDepends depends.new.items }
+    ensures counts { (p : ℕ) (d : ListedLists) → slice_get depends.new.items p ≡ Some d → KeepsCounts (slice_set done.old.items slot false) d }
+    ensures capacity { vec_capacity depends.new ≡ vec_capacity depends.old }
+{
+    let mut next = first;
+    while let Some(at) = next {
+        next = pass_back(depends, at);
+    }
+    done[slot.0 as usize] = false;
+}

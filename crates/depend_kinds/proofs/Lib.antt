@@ -1,0 +1,2 @@
+mod FoundGroups
+mod PairsLeft

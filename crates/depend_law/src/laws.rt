@@ -1,0 +1,23 @@
+//! The laws: functions that do nothing, whose contracts are the laws.
+
+ghost use Rattle.std.specs.Prelude.{◌≡◌, ◌<◌, ◌^◌, ℕ, List};
+ghost use Rattle.farm_types.specs.declared.entry.Entry.{Entry};
+ghost use Rattle.farm_types.specs.Demo.{demo_farm};
+ghost use Rattle.farm_types.specs.Farm.{Farm, empty_farm};
+ghost use Rattle.farm_types.specs.Kept.{IsKeptFarm};
+ghost use Rattle.farm_types.specs.Run.{IsLegal, run_of};
+ghost use Rattle.farm_types.specs.Settle.{settle};
+
+/// What every farm of the program keeps: the empty farm and the demonstration's do, and so does every legal run from a
+/// farm that does.
+pub fn legal_runs_keep_farms()
+    ensures empty { IsKeptFarm empty_farm }
+    ensures demo { (moment : ℕ) → moment < 2 ^ 64 → IsKeptFarm (demo_farm moment) }
+    ensures runs { (f : Farm) (es : List Entry) → IsKeptFarm f → IsLegal f es → IsKeptFarm (run_of f es) }
+{}
+
+/// A farm that keeps this is settled: nothing that is done is unmet, and no blocked frame is open. So nothing follows of depends where an entry
+/// leaves depends and completions as they are.
+pub fn kept_farms_are_settled()
+    ensures { (f : Farm) → IsKeptFarm f → settle f ≡ f }
+{}

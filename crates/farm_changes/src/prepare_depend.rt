@@ -1,0 +1,48 @@
+//! Prepares that a depend is added or dropped. No row of the books changes: the layer above has the depends, and gives the answer.
+
+ghost use Rattle.std.specs.Prelude.{◌≤◌};
+ghost use Rattle.farm_types.specs.declared.entry.Act.TheVariants as act;
+ghost use Rattle.farm_changes.specs.Change.{Prepares};
+
+use crate::change::{Change, More};
+use crate::fault::PrepareFault;
+use crate::preparing::change_of;
+use farm_books::Books;
+use farm_draft::Rows;
+use farm_types::{Answer, DependNo, DependSpec};
+use std::alloc::Global;
+
+/// Prepares that a depend is added.
+pub(crate) fn prepare_added(
+    alloc: Global,
+    books: &Books,
+    moment: u64,
+    spec: &DependSpec,
+) -> Result<Change, PrepareFault>
+    requires { books.now.moment ≤ moment }
+    ensures { Prepares books.now (record { moment = moment; act = act.AddDepend spec.now }) result }
+{
+    let _books = books;
+    let _spec = spec;
+    let answer = Answer::DependAdded {
+        depend: DependNo(0),
+        unmet: 0,
+    };
+    Ok(change_of(moment, answer, Rows::none(alloc), More::Nothing))
+}
+
+/// Prepares that a depend is dropped.
+pub(crate) fn prepare_dropped(
+    alloc: Global,
+    books: &Books,
+    moment: u64,
+    depend: DependNo,
+) -> Result<Change, PrepareFault>
+    requires { books.now.moment ≤ moment }
+    ensures { Prepares books.now (record { moment = moment; act = act.DropDepend depend }) result }
+{
+    let _books = books;
+    let _depend = depend;
+    let answer = Answer::DependDropped { opened: 0 };
+    Ok(change_of(moment, answer, Rows::none(alloc), More::Nothing))
+}

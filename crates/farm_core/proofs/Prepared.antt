@@ -1,0 +1,95 @@
+-- A change that was prepared makes the farm of the entry, which keeps what every farm keeps.
+use Rattle.std.proofs.Common.{◌≡◌, ◌≤◌, ℕ, Option, Some, None, Result, Ok, Err, refl, sym, ◌∙◌, ap, subst}
+use Rattle.farm_types.specs.declared.answer.Answer.{Answer}
+use Rattle.farm_types.specs.declared.answer.Answer.TheVariants as answer
+use Rattle.farm_types.specs.declared.entry.Act.{Act}
+use Rattle.farm_types.specs.declared.entry.Act.TheVariants.{Opened, Show, Alloc, Sub, Boot, Heard, Submit, AddDepend, DropDepend, Lock, Tick, Book}
+use Rattle.farm_types.specs.declared.entry.Entry.{Entry}
+use Rattle.farm_types.specs.declared.refusal.Refusal.{Refusal}
+use Rattle.farm_types.specs.DependActs.{or_else}
+use Rattle.farm_types.specs.EntryAnswers.{answer_at}
+use Rattle.farm_types.specs.Farm.{Farm, host_named}
+use Rattle.farm_types.specs.Formed.{IsFormed}
+use Rattle.farm_types.specs.Kept.{IsKeptFarm}
+use Rattle.farm_types.specs.Step.{HasCondition, after, follow_refusal, followed, moment_of, refusal_of}
+use Rattle.depend_law.proofs.KeptRuns.{kept_step}
+use Rattle.farm_changes.specs.Change as books
+use Rattle.farm_changes.specs.Change.{AnswersAct, HasHeard}
+use Rattle.farm_changes.specs.declared.change.Change as act_change
+use Rattle.depend_book.specs.Book.{DependLists, joined}
+use Rattle.farm_depends.specs.declared.follow.Follow.{Follow}
+use Rattle.farm_depends.specs.Fits.{IsWhole}
+use Rattle.farm_depends.specs.Follow.{Counts, FollowFits, Follows, after_follow}
+use Rattle.farm_depends.proofs.Beside.{joined_change, ready_joined, refusal_joined}
+use Rattle.farm_depends.proofs.Joined.{joined_acted}
+use Rattle.farm_core.specs.Answers.{told}
+use Rattle.farm_core.specs.Change.{Makes, after_change}
+
+-- ---- what doesn't ask for depends
+
+heard_joined : (f : Farm) (b : DependLists) (done : Act) (told : Option ℕ) → HasHeard f done told → HasHeard (joined f b) done told
+heard_joined f b (Heard heard) None there = there
+heard_joined f b (Heard heard) (Some host) there = there
+heard_joined f b Opened told there = tt
+heard_joined f b (Show name) told there = tt
+heard_joined f b (Alloc facility tag) told there = tt
+heard_joined f b (Sub line) told there = tt
+heard_joined f b (Boot line) told there = tt
+heard_joined f b (Submit spec) told there = tt
+heard_joined f b (AddDepend spec) told there = tt
+heard_joined f b (DropDepend depend) told there = tt
+heard_joined f b (Lock host lock) told there = tt
+heard_joined f b Tick told there = tt
+heard_joined f b (Book slot host) told there = tt
+
+told_by : (f : Farm) (b : DependLists) (moment count : ℕ) (done : Act) (said : Answer) → AnswersAct f moment done said → Counts (joined f b) done count → told b.next count done said ≡ answer_at (joined f b) moment done
+told_by f b moment count Opened said is counts = is
+told_by f b moment count (Show name) said is counts = is
+told_by f b moment count (Alloc facility tag) said is counts = is
+told_by f b moment count (Sub line) said is counts = is
+told_by f b moment count (Boot line) said is counts = is
+told_by f b moment count (Heard heard) said is counts = is
+told_by f b moment count (Submit spec) said is counts = is
+told_by f b moment count (AddDepend spec) said is counts = ap (answer.DependAdded b.next) counts
+told_by f b moment count (DropDepend depend) said is counts = ap answer.DependDropped counts
+told_by f b moment count (Lock host lock) said is counts = is
+told_by f b moment count Tick said is counts = is
+told_by f b moment count (Book slot host) said is counts = is
+
+-- ---- a change
+
+module _ (f : Farm) (b : DependLists) (e : Entry) (done : act_change.Change) (m : books.Makes f e done) where
+  abbrev pub beside : Farm
+  beside = joined f b
+
+  judged : (o : Option Refusal) → follow_refusal beside e.act ≡ o → refusal_of beside e ≡ o
+  judged o is = ap (λ (first : Option Refusal). or_else first (follow_refusal beside e.act)) (refusal_joined f b e.act ∙ m.accepted) ∙ is
+
+  -- what follows is refused
+  pub refused : (why : Refusal) → follow_refusal beside e.act ≡ Some why → refusal_of beside e ≡ Some why
+  refused why is = judged (Some why) is
+
+  module _ (whole : IsWhole f b) (formed : IsFormed e) (condition : HasCondition beside e.act) (w : Follow) (follows : Follows beside (joined (books.after_change f done) b) e.act w) where
+    makes_farm : after_follow (books.after_change beside done) w ≡ after beside e
+    makes_farm =
+        ap (λ (g : Farm). after_follow g w) (sym (joined_change f b done)) ∙ (follows.farm ∙ ap (followed e.act) (ap (λ (g : Farm). joined g b) m.farm ∙ joined_acted b f e))
+
+    legal : refusal_of beside e ≡ None
+    legal = judged None follows.accepted
+
+    -- the change with its answer
+    pub made : Makes beside e (record { act = record done { answer = told b.next w.count e.act done.answer }; follow = w })
+    made =
+        record {
+          accepted = legal;
+          heard = heard_joined f b e.act done.heard m.heard;
+          ready =
+              record {
+                fits = record { rows = (ready_joined f b done m.ready).rows; more = (ready_joined f b done m.ready).more };
+                follows = subst (λ (g : Farm). FollowFits beside g w) (joined_change f b done) follows.fits;
+                kept = subst IsKeptFarm (sym makes_farm) (kept_step beside e (record { formed = formed; accepted = legal; condition = condition }) whole.kept);
+              };
+          unreserved = record { act = m.unreserved; follow = follows.unreserved };
+          farm = makes_farm;
+          answer = told_by f b (moment_of f e.moment) w.count e.act done.answer m.answer follows.counts;
+        }

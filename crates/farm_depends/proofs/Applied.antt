@@ -1,0 +1,198 @@
+-- A change is applied: the books can take what follows, and with the book of depends they are the farm after it.
+use Rattle.std.proofs.Common.{◌≡◌, ℕ, Bool, true, false, eqb, ◌||◌, List, [], ◌∷◌, length, Option, Some, None, refl, ap, sym, subst, ◌∙◌, inl, inr, arith}
+use Rattle.std.specs.List.{list_any, slice_get}
+use Rattle.std.proofs.lemmas.Bool.{or_left}
+use Rattle.std.proofs.lemmas.List.Folds.{list_any-append}
+use Rattle.farm_types.specs.declared.depend.DependRow.{DependRow}
+use Rattle.farm_types.specs.Depends.{groups_of, is_done}
+use Rattle.farm_types.specs.Farm.{Farm}
+use Rattle.farm_types.specs.Kept.{IsKeptFarm}
+use Rattle.farm_types.specs.Settle.{with_met}
+use Rattle.depend_law.proofs.MetAgain.{met_again}
+use Rattle.depend_law.proofs.Shapes.{SamePlace, groups_stay}
+use Rattle.depend_law.proofs.Stable.{met_stays}
+use Rattle.depend_graph.specs.Graph.{Watch, has_depend, watch_of}
+use Rattle.depend_book.specs.declared.new_depend.NewDepend.{NewDepend}
+use Rattle.depend_book.specs.Book.{DependLists, IsBook, all_done_in, joined, with_new}
+use Rattle.farm_depends.specs.declared.follow.Follow.{Follow}
+use Rattle.farm_depends.specs.Fits.{Fits, IsWhole}
+use Rattle.farm_depends.specs.Follow.{CanAddAll, CanFollow, FollowFits, HasDrop, IsDropThere, IsOneKind, after_follow, depends_after, drop_in, follow_reserved, is_listed, slots_after, with_all, with_new_all, with_row, without}
+use Rattle.farm_depends.proofs.Added.{Takes, takes_all}
+use Rattle.farm_depends.proofs.Completed.{Completes, completed_book, completed_farm, completed_fits}
+use Rattle.farm_depends.proofs.Dropped.{dropped_book, dropped_farm, dropped_fits}
+use Rattle.farm_depends.proofs.MetDropped.{met_before_drop}
+use Rattle.farm_depends.proofs.OpenUnmet.{depend_there}
+use Rattle.farm_depends.proofs.Pairs.{groups_joined}
+use Rattle.farm_depends.proofs.WithRow.{Numbered, numbered_kept, numbered_row}
+use Rattle.farm_depends.proofs.Zips.{or_none, zip_length}
+use Rattle.farm_depends.proofs.FollowSlots.{follow_done, follow_stand}
+
+-- ---- depends that come
+
+numbered_all : (f : Farm) (ns : List NewDepend) → Numbered f → Numbered (with_all f ns)
+numbered_all f [] k = k
+numbered_all f (n ∷ ns) k = numbered_all (with_row f n) ns (numbered_row f n k)
+
+-- a depend that is there stays
+still_there : (b : DependLists) (ns : List NewDepend) (depend : ℕ) → has_depend b.graph depend ≡ true → has_depend (with_new_all b ns).graph depend ≡ true
+still_there b [] depend there = there
+still_there b (n ∷ ns) depend there =
+    let here : Watch → Bool = λ (w : Watch). eqb w.depend depend in
+    let last = watch_of b.graph.done b.next n.groups in
+    still_there (with_new b n) ns depend
+    (list_any-append here b.graph.depends (last ∷ []) ∙ or_left (list_any here b.graph.depends) (list_any here (last ∷ [])) there)
+
+-- ---- the book of depends
+
+-- The book takes what follows, fits the farm after the act, and is the farm with what follows, marked.
+record Applies (f : Farm) (b : DependLists) (w : Follow) : Type 0 where
+  can : CanFollow f.slots b (follow_reserved w)
+  farm : joined f (depends_after b w) ≡ with_met (without (with_all (joined f b) w.depends) w.dropped)
+  fits : Fits f (depends_after b w)
+  book : IsBook (depends_after b w)
+
+module _ (f0 f : Farm) (b : DependLists) (w : Follow) (whole : IsWhole f0 b) (book : IsBook b) (alone : f.depends ≡ [])
+    (follows : FollowFits (joined f0 b) (joined f b) w) (kept : IsKeptFarm (after_follow (joined f b) w)) where
+  abbrev beside : Farm
+  beside = joined f b
+
+  groups_here : (i : ℕ) (d : DependRow) → slice_get b.rows i ≡ Some d → d.met_all ≡ false → groups_of f d ≡ groups_of f0 d
+  groups_here i d at unmet = sym (groups_joined f b d) ∙ (follows.groups_stay i d at unmet ∙ groups_joined f0 b d)
+
+  -- ---- frames are done
+
+  module _ (none_come : w.depends ≡ []) (none_go : w.dropped ≡ None) where
+    completes : Completes f0 f b w.done
+    completes =
+        record {
+          book = book;
+          fits = whole.fits;
+          slots = omega (arith, zip_length SamePlace f.slots (slots_after f.slots w) (follow_stand f.slots w), kept.rows.jobs.slot_count);
+          met = whole.kept.depends.met;
+          groups_stay = groups_here;
+          done_are = follows.done_are;
+        }
+
+    only_done : depends_after b w ≡ all_done_in b w.done
+    only_done i = all_done_in (drop_in (with_new_all b (none_come i)) (none_go i)) w.done
+
+    with_done_applies : Applies f b w
+    with_done_applies =
+        record {
+          can =
+              record {
+                reserved = refl;
+                adds = subst (CanAddAll b) (sym none_come) tt;
+                drop_there = subst (HasDrop (with_new_all b w.depends)) (sym none_go) tt;
+                opened_movable = follows.opened_movable;
+                blocked_movable = follows.blocked_movable;
+              };
+          farm = ap (joined f) only_done ∙ (completed_farm f0 f b w.done completes ∙ λ i. with_met (without (with_all beside (sym none_come i)) (sym none_go i)));
+          fits = subst (Fits f) (sym only_done) (completed_fits f0 f b w.done completes);
+          book = subst IsBook (sym only_done) (completed_book f0 f b w.done completes);
+        }
+
+  -- ---- depends come or go
+
+  module _ (none_done : w.done ≡ []) where
+    done_same : (slot : ℕ) → is_done f.slots slot ≡ is_done f0.slots slot
+    done_same slot = follows.done_are slot ∙ (ap (λ (list : List ℕ). is_done f0.slots slot || is_listed list slot) none_done ∙ or_none (is_done f0.slots slot))
+
+    fits_now : Fits f b
+    fits_now =
+        record {
+          done = λ slot. whole.fits.done slot ∙ sym (done_same slot);
+          groups = λ i d v row watch unmet. whole.fits.groups i d v row watch unmet ∙ sym (groups_here i d row unmet);
+        }
+
+    met_now : with_met beside ≡ beside
+    met_now = met_stays (joined f0 b) beside (record { depends = refl; met = refl; groups = follows.groups_stay }) done_same whole.kept.depends.met
+
+    abbrev more : DependLists
+    more = with_new_all b w.depends
+
+    takes : Takes f b w.depends
+    takes = takes_all f b w.depends fits_now book met_now follows.room
+
+    numbered : Numbered (with_all beside w.depends)
+    numbered = numbered_all beside w.depends (numbered_kept beside book.rise met_now)
+
+    met_more : with_met (joined f more) ≡ joined f more
+    met_more = ap with_met takes.farm ∙ (met_again (with_all beside w.depends) (with_all beside w.depends).next_depend numbered.rise ∙ sym takes.farm)
+
+    dropped_there : (o : Option ℕ) → IsDropThere beside o → HasDrop more o
+    dropped_there None there = tt
+    dropped_there (Some n) there = still_there b w.depends n (sym (depend_there f b book fits_now n) ∙ there)
+
+    farm_dropped : (o : Option ℕ) → joined f (drop_in more o) ≡ with_met (without (with_all beside w.depends) o)
+    farm_dropped None = takes.farm
+    farm_dropped (Some n) =
+        dropped_farm f more n takes.book takes.fits met_more
+        ∙ (ap (λ (g : Farm). with_met (without g (Some n))) takes.farm ∙ met_before_drop (with_all beside w.depends) n (with_all beside w.depends).next_depend numbered.rise)
+
+    fits_dropped : (o : Option ℕ) → Fits f (drop_in more o)
+    fits_dropped None = takes.fits
+    fits_dropped (Some n) = dropped_fits f more n takes.book takes.fits met_more
+
+    book_dropped : (o : Option ℕ) → IsBook (drop_in more o)
+    book_dropped None = takes.book
+    book_dropped (Some n) = dropped_book f more n takes.book takes.fits met_more
+
+    only_depends : depends_after b w ≡ drop_in more w.dropped
+    only_depends = ap (all_done_in (drop_in more w.dropped)) none_done
+
+    with_depends_applies : Applies f b w
+    with_depends_applies =
+        record {
+          can =
+              record {
+                reserved = refl;
+                adds = takes.adds;
+                drop_there = dropped_there w.dropped follows.drop_there;
+                opened_movable = follows.opened_movable;
+                blocked_movable = follows.blocked_movable;
+              };
+          farm = ap (joined f) only_depends ∙ farm_dropped w.dropped;
+          fits = subst (Fits f) (sym only_depends) (fits_dropped w.dropped);
+          book = subst IsBook (sym only_depends) (book_dropped w.dropped);
+        }
+
+  -- ---- either
+
+  by_kind : IsOneKind w → Applies f b w
+  by_kind (inl none) = with_done_applies none.0 none.1
+  by_kind (inr none) = with_depends_applies none
+
+  applies : Applies f b w
+  applies = by_kind follows.one_kind
+
+  -- the books can take what follows
+  pub can_follow : CanFollow f.slots b (follow_reserved w)
+  can_follow = applies.can
+
+  -- the other books after it
+  abbrev pub books_then : Farm
+  books_then = record f { slots = slots_after f.slots w }
+
+  pub book_then : IsBook (depends_after b w)
+  book_then = applies.book
+
+  -- with the book of depends they are the farm after it
+  pub joined_then : joined books_then (depends_after b w) ≡ after_follow (joined f b) w
+  joined_then = ap (λ (g : Farm). record g { slots = slots_after f.slots w }) applies.farm
+
+  groups_then : (d : DependRow) → groups_of books_then d ≡ groups_of f d
+  groups_then d = groups_stay f books_then d refl (follow_stand f.slots w)
+
+  -- and keep what every farm keeps
+  pub whole_then : IsWhole books_then (depends_after b w)
+  whole_then =
+      record {
+        alone = alone;
+        kept = subst IsKeptFarm (sym joined_then) kept;
+        fits =
+            record {
+              done = λ slot. applies.fits.done slot ∙ sym (follow_done f.slots w follows.opened_movable follows.blocked_movable slot);
+              groups = λ i d v row watch unmet. applies.fits.groups i d v row watch unmet ∙ sym (groups_then d);
+            };
+      }

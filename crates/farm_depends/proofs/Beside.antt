@@ -1,0 +1,103 @@
+-- The books beside the book of depends: what the one says of the other's farm.
+use Rattle.std.proofs.Common.{◌≡◌, ℕ, refl}
+use Rattle.farm_types.specs.declared.entry.Act.{Act}
+use Rattle.farm_types.specs.declared.entry.Act.TheVariants.{Opened, Show, Alloc, Sub, Boot, Heard, Submit, AddDepend, DropDepend, Lock, Tick, Book}
+use Rattle.farm_types.specs.Farm.{Farm}
+use Rattle.farm_types.specs.Kept.{KeepsAttempts, KeepsRows}
+use Rattle.farm_types.specs.Run.{IsSound}
+use Rattle.farm_types.specs.Step.{act_refusal}
+use Rattle.farm_changes.specs.Change.{FitsMore, IsReady, after_change, with_more, with_rows}
+use Rattle.farm_changes.specs.declared.change.Change.{Change}
+use Rattle.farm_changes.specs.declared.change.More.{More}
+use Rattle.farm_changes.specs.declared.change.More.TheVariants as more
+use Rattle.depend_book.specs.Book.{DependLists, joined}
+
+-- ---- what is kept
+
+attempts_apart : (f : Farm) (b : DependLists) → KeepsAttempts (joined f b) → KeepsAttempts f
+attempts_apart f b k = record { hosted = k.hosted; measured = k.measured; billed = k.billed; subscribed = k.subscribed; since = k.since }
+
+sound_apart : (f : Farm) (b : DependLists) → IsSound (joined f b) → IsSound f
+sound_apart f b k = record { cores = k.cores; memory = k.memory; attempts = k.attempts }
+
+-- the rows are those of the books alone
+pub rows_apart : (f : Farm) (b : DependLists) → KeepsRows (joined f b) → KeepsRows f
+rows_apart f b k =
+    record {
+      moment_within = k.moment_within;
+      shows = k.shows;
+      allocs = k.allocs;
+      subs = k.subs;
+      hosts = k.hosts;
+      jobs = k.jobs;
+      attempts = attempts_apart f b k.attempts;
+      sound = sound_apart f b k.sound;
+    }
+
+-- ---- changes
+
+with_more_joined : (f : Farm) (b : DependLists) (moment : ℕ) (m : More) → joined (with_more f moment m) b ≡ with_more (joined f b) moment m
+with_more_joined f b moment more.Nothing = refl
+with_more_joined f b moment (more.Show name) = refl
+with_more_joined f b moment (more.Alloc facility tag) = refl
+with_more_joined f b moment (more.Sub sub size burst) = refl
+with_more_joined f b moment (more.Boot planned line) = refl
+with_more_joined f b moment (more.Job placing spec) = refl
+
+pub joined_change : (f : Farm) (b : DependLists) (change : Change) → joined (after_change f change) b ≡ after_change (joined f b) change
+joined_change f b change = with_more_joined (with_rows f change) b change.moment change.more
+
+more_apart : (f : Farm) (b : DependLists) (m : More) → FitsMore (joined f b) m → FitsMore f m
+more_apart f b more.Nothing fits = fits
+more_apart f b (more.Show name) fits = fits
+more_apart f b (more.Alloc facility tag) fits = fits
+more_apart f b (more.Sub sub size burst) fits = fits
+more_apart f b (more.Boot planned line) fits = fits
+more_apart f b (more.Job placing spec) fits = record { limits = fits.limits; accepted = fits.accepted; placed = fits.placed }
+
+more_joined : (f : Farm) (b : DependLists) (m : More) → FitsMore f m → FitsMore (joined f b) m
+more_joined f b more.Nothing fits = fits
+more_joined f b (more.Show name) fits = fits
+more_joined f b (more.Alloc facility tag) fits = fits
+more_joined f b (more.Sub sub size burst) fits = fits
+more_joined f b (more.Boot planned line) fits = fits
+more_joined f b (more.Job placing spec) fits = record { limits = fits.limits; accepted = fits.accepted; placed = fits.placed }
+
+-- a change that fits the farm fits its books, and the other way round
+pub ready_apart : (f : Farm) (b : DependLists) (change : Change) → IsReady (joined f b) change → IsReady f change
+ready_apart f b change ready =
+    record { rows = record { hosts_there = ready.rows.hosts_there; slots_ready = ready.rows.slots_ready; slots_differ = ready.rows.slots_differ }; more = more_apart (with_rows f change) b change.more ready.more }
+
+pub ready_joined : (f : Farm) (b : DependLists) (change : Change) → IsReady f change → IsReady (joined f b) change
+ready_joined f b change ready =
+    record { rows = record { hosts_there = ready.rows.hosts_there; slots_ready = ready.rows.slots_ready; slots_differ = ready.rows.slots_differ }; more = more_joined (with_rows f change) b change.more ready.more }
+
+-- ---- refusals
+
+pub refusal_joined : (f : Farm) (b : DependLists) (act : Act) → act_refusal (joined f b) act ≡ act_refusal f act
+refusal_joined f b Opened = refl
+refusal_joined f b (Show name) = refl
+refusal_joined f b (Alloc facility tag) = refl
+refusal_joined f b (Sub line) = refl
+refusal_joined f b (Boot line) = refl
+refusal_joined f b (Heard heard) = refl
+refusal_joined f b (Submit spec) = refl
+refusal_joined f b (AddDepend spec) = refl
+refusal_joined f b (DropDepend depend) = refl
+refusal_joined f b (Lock host lock) = refl
+refusal_joined f b Tick = refl
+refusal_joined f b (Book slot host) = refl
+
+-- ---- depends
+
+alone_more : (f : Farm) (moment : ℕ) (m : More) → (with_more f moment m).depends ≡ f.depends
+alone_more f moment more.Nothing = refl
+alone_more f moment (more.Show name) = refl
+alone_more f moment (more.Alloc facility tag) = refl
+alone_more f moment (more.Sub sub size burst) = refl
+alone_more f moment (more.Boot planned line) = refl
+alone_more f moment (more.Job placing spec) = refl
+
+-- a change of the books leaves their depends
+pub depends_stay : (f : Farm) (change : Change) → (after_change f change).depends ≡ f.depends
+depends_stay f change = alone_more (with_rows f change) change.moment change.more

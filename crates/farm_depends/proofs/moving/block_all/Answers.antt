@@ -1,0 +1,11 @@
+use Rattle.std.proofs.Common.{arith}
+use Rattle.farm_depends.specs.Follow.{put_blocked}
+use Rattle.farm_depends.proofs.MovedSlots.{blocked_step}
+use Rattle.farm_depends.proofs.moving.block_all.Goals as goal
+
+pub loop-slot-preserved : goal.loop-slot-preserved
+loop-slot-preserved c =
+    let l = c.loop-slot in
+    let first = record c.args.books.now { slots = put_blocked c.args.raises c.args.slots.now c.args.books.now.slots } in
+    let step = blocked_step c.args.raises l.books c.block.new.books first c.args.slots.now l.slot-index c.slot-item.result (omega arith) c.slot-item.is c.block.ensures l.invariant.movable l.invariant.put in
+    record { movable = step.0; put = step.1 }

@@ -1,0 +1,11 @@
+use Rattle.std.proofs.Common.{◌≡◌, drop}
+use Rattle.std.specs.List.{AllByRecursion}
+use Rattle.farm_depends.specs.Follow.{IsMovable, put_blocked}
+use Rattle.farm_depends.proofs.moving.block_all.Given as goal
+
+abbrev pub invariant-loop-slot : goal.invariant-loop-slot
+invariant-loop-slot l =
+    record {
+      movable : AllByRecursion (IsMovable l.books.slots) (drop l.slot-index l.slots);
+      put : record l.books { slots = put_blocked l.raises (drop l.slot-index l.slots) l.books.slots } ≡ record l.fn.books { slots = put_blocked l.raises l.slots l.fn.books.slots };
+    }

@@ -1,0 +1,32 @@
+-- Which frames an act completes, and which of some are blocked.
+use Rattle.std.specs.Prelude.{ℕ, ◌&&◌, Bool, not, List, map, filter, slice_get}
+use Rattle.farm_types.specs.declared.entry.Act.{Act}
+use Rattle.farm_types.specs.declared.entry.Act.TheVariants as act
+use Rattle.farm_types.specs.declared.slot_row.SlotRow.{SlotRow}
+use Rattle.farm_types.specs.Depends.{is_done, is_done_state}
+use Rattle.farm_types.specs.Farm.{for_some}
+use Rattle.farm_types.specs.Settle.{is_blocked}
+use Rattle.farm_draft.specs.Rows.{slot_of}
+
+-- the act is a host's report
+abbrev pub IsReport : Act → Type 0
+IsReport (act.Heard heard) = Unit {0}
+IsReport other = ⊥
+
+abbrev pub is_done_row : SlotRow → Bool
+is_done_row s = for_some s.frame (λ x. is_done_state x.state)
+
+-- a row in which the frame is done, of a slot in which it isn't
+abbrev pub completes : List SlotRow → ℕ × SlotRow → Bool
+completes slots e = is_done_row e.1 && not (is_done slots e.0)
+
+-- the slots of such rows, in order
+abbrev pub newly_done : List SlotRow → List (ℕ × SlotRow) → List ℕ
+newly_done slots rows = map slot_of (filter (completes slots) rows)
+
+-- the frame in the slot is blocked
+abbrev pub is_blocked_in : List SlotRow → ℕ → Bool
+is_blocked_in slots slot = for_some (slice_get slots slot) (λ (s : SlotRow). for_some s.frame (λ x. is_blocked x.state))
+
+abbrev pub blocked_among : List SlotRow → List ℕ → List ℕ
+blocked_among slots list = filter (is_blocked_in slots) list

@@ -1,0 +1,7 @@
+pub mod Coming
+pub mod Completing
+pub mod Ends
+pub mod Fits
+pub mod Follow
+pub mod Placed
+pub mod Shapes

@@ -1,0 +1,157 @@
+//! What follows completions, and a depend that goes.
+
+ghost use Rattle.std.specs.Prelude.{◌≡◌, decimal, IfOk};
+ghost use Rattle.farm_types.specs.Depends.{is_done};
+ghost use Rattle.farm_types.specs.declared.entry.Act.TheVariants as act;
+ghost use Rattle.farm_changes.specs.Change.{IsUnknown, Makes, after_change};
+ghost use Rattle.depend_book.specs.Book.{joined};
+ghost use Rattle.farm_depends.specs.Completing.{IsReport, blocked_among, is_blocked_in, is_done_row, newly_done};
+ghost use Rattle.farm_depends.specs.Fits.{IsWhole};
+ghost use Rattle.farm_depends.specs.Follow.{PreparesFollow};
+
+use crate::follow::Follow;
+use depend_book::Depends;
+use farm_books::Books;
+use farm_changes::{Change, PrepareFault};
+use farm_types::{DependNo, Entry, FrameState, Items, Refusal, Slot, SlotRow, Text};
+use std::alloc::{AllocError, Global};
+
+/// What follows a report, for whose act `change` was prepared: its completions meet groups, and frames open.
+pub(crate) fn follow_report(
+    alloc: Global,
+    books: &Books,
+    depends: &Depends,
+    entry: &Entry,
+    change: &Change,
+) -> Result<Follow, PrepareFault>
+    requires whole { IsWhole books.now depends.now }
+    requires made { Makes books.now entry.now change.now }
+    requires heard { IsReport entry.now.act }
+    ensures { PreparesFollow (joined books.now depends.now) (joined (after_change books.now change.now) depends.now) entry.now.act result }
+{
+    depends.kept();
+    let done = newly_done(alloc, books, change.slot_rows())?;
+    let opening = depends.would_open(alloc, done.as_slice())?;
+    let opened = blocked_among(alloc, books, opening.as_slice())?;
+    Ok(Follow {
+        depends: Items::new(alloc),
+        spares: Items::new(alloc),
+        dropped: None,
+        done,
+        opened,
+        blocked: Items::new(alloc),
+        raises: false,
+        count: 0,
+    })
+}
+
+/// What follows a depend that is dropped: frames open.
+pub(crate) fn follow_drop(
+    alloc: Global,
+    books: &Books,
+    depends: &Depends,
+    depend: DependNo,
+) -> Result<Follow, PrepareFault>
+    requires whole { IsWhole books.now depends.now }
+    ensures { PreparesFollow (joined books.now depends.now) (joined books.now depends.now) (act.DropDepend depend) result }
+{
+    let Some(row) = depends.row(depend) else {
+        return Err(unknown(alloc, depend));
+    };
+    if row.met_all {
+        return Err(PrepareFault::Refused {
+            why: Refusal::Satisfied,
+        });
+    }
+    depends.kept();
+    let opening = depends.would_open_without(alloc, depend)?;
+    let opened = blocked_among(alloc, books, opening.as_slice())?;
+    let count = opened.len() as u32;
+    Ok(Follow {
+        depends: Items::new(alloc),
+        spares: Items::new(alloc),
+        dropped: Some(depend),
+        done: Items::new(alloc),
+        opened,
+        blocked: Items::new(alloc),
+        raises: false,
+        count,
+    })
+}
+
+// No depend of that number is there.
+fn unknown(alloc: Global, depend: DependNo) -> PrepareFault
+    ensures { IsUnknown (decimal depend) result }
+{
+    match depend.0.to_string(alloc) {
+        Ok(name) => PrepareFault::Refused {
+            why: Refusal::Unknown {
+                name: Text::from_string(name),
+            },
+        },
+        Err(AllocError) => PrepareFault::NoMemory,
+    }
+}
+
+// The slots among these rows whose frames are done and weren't.
+fn newly_done(
+    alloc: Global,
+    books: &Books,
+    rows: &[(u32, SlotRow)],
+) -> Result<Items<Slot>, AllocError>
+    ensures { IfOk result (λ done. done ≡ newly_done books.now.slots rows.now) }
+{
+    let mut done = Items::new(alloc);
+    for (slot, row) in rows {
+        if is_done(row) && !is_done_in(books, Slot(*slot)) {
+            done.push(Slot(*slot))?;
+        }
+    }
+    Ok(done)
+}
+
+// The slots among these whose frames are blocked.
+fn blocked_among(alloc: Global, books: &Books, slots: &[Slot]) -> Result<Items<Slot>, AllocError>
+    ensures { IfOk result (λ blocked. blocked ≡ blocked_among books.now.slots slots.now) }
+{
+    let mut blocked = Items::new(alloc);
+    for slot in slots {
+        if is_blocked_in(books, *slot) {
+            blocked.push(*slot)?;
+        }
+    }
+    Ok(blocked)
+}
+
+// Whether the frame in the row is done.
+fn is_done(row: &SlotRow) -> bool
+    ensures { result ≡ is_done_row row.now }
+{
+    match &row.frame {
+        None => false,
+        Some(frame) => matches!(frame.state, FrameState::Succeeded | FrameState::Eaten),
+    }
+}
+
+// Whether the frame in the slot is done.
+fn is_done_in(books: &Books, slot: Slot) -> bool
+    ensures { result ≡ is_done books.now.slots slot }
+{
+    match books.slot(slot) {
+        None => false,
+        Some(row) => is_done(&row),
+    }
+}
+
+// Whether the frame in the slot is blocked.
+fn is_blocked_in(books: &Books, slot: Slot) -> bool
+    ensures { result ≡ is_blocked_in books.now.slots slot }
+{
+    match books.slot(slot) {
+        None => false,
+        Some(row) => match &row.frame {
+            None => false,
+            Some(frame) => matches!(frame.state, FrameState::Depend),
+        },
+    }
+}

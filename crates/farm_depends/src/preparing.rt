@@ -1,0 +1,106 @@
+//! Prepares what follows an act, or says why the farm refuses it.
+
+ghost use Rattle.std.specs.Prelude.{◌≡◌, ◌≤◌, ◌∷◌, [], None, true, length, IfOk};
+ghost use Rattle.farm_types.specs.declared.limits.TheConstants.{MOST_FRAMES};
+ghost use Rattle.farm_types.specs.Formed.{IsFormedAct};
+ghost use Rattle.farm_types.specs.Farm.{show_named};
+ghost use Rattle.farm_types.specs.Step.{HasCondition, act_refusal, after_submit};
+ghost use Rattle.farm_types.specs.declared.entry.Act.TheVariants as act;
+ghost use Rattle.farm_changes.specs.Change.{Makes, after_change};
+ghost use Rattle.depend_book.specs.Book.{joined};
+ghost use Rattle.farm_depends.specs.Coming.{follow_new, unmet_by};
+ghost use Rattle.farm_depends.specs.Fits.{IsWhole};
+ghost use Rattle.farm_depends.specs.Follow.{PreparesFollow};
+
+use crate::blocked::{unmet_waiters, waiting_among};
+use crate::coming::coming;
+use crate::completing::{follow_drop, follow_report};
+use crate::counts::counts_of;
+use crate::follow::{Follow, follow_nothing};
+use crate::submitted::follow_submit;
+use depend_book::{Depends, NewDepend};
+use farm_books::Books;
+use farm_changes::{Change, PrepareFault};
+use farm_types::{Act, DependSpec, Entry, Items, JobSpec, Slot};
+use std::alloc::{AllocError, Global};
+
+/// Prepares what follows the act of an entry, for which `change` was prepared. Nothing changes. An entry to book is one whose booking may be
+/// recorded.
+pub fn prepare_follow(
+    alloc: Global,
+    books: &Books,
+    depends: &Depends,
+    entry: &Entry,
+    change: &Change,
+) -> Result<Follow, PrepareFault>
+    requires whole { IsWhole books.now depends.now }
+    requires condition { HasCondition (joined books.now depends.now) entry.now.act }
+    requires formed { IsFormedAct entry.now.act }
+    requires made { Makes books.now entry.now change.now }
+    ensures { PreparesFollow (joined books.now depends.now) (joined (after_change books.now change.now) depends.now) entry.now.act result }
+{
+    match &entry.act {
+        Act::Heard(_) => follow_report(alloc, books, depends, entry, change),
+        Act::Submit(spec) => follow_submit(alloc, books, depends, spec),
+        Act::AddDepend(spec) => follow_depend(alloc, books, depends, spec),
+        Act::DropDepend { depend } => follow_drop(alloc, books, depends, *depend),
+        _ => Ok(follow_nothing(alloc)),
+    }
+}
+
+/// What follows a depend that comes.
+pub fn follow_depend(
+    alloc: Global,
+    books: &Books,
+    depends: &Depends,
+    spec: &DependSpec,
+) -> Result<Follow, PrepareFault>
+    requires whole { IsWhole books.now depends.now }
+    requires formed { IsFormedAct (act.AddDepend spec.now) }
+    ensures { PreparesFollow (joined books.now depends.now) (joined books.now depends.now) (act.AddDepend spec.now) result }
+{
+    depends.kept();
+    let counts = counts_of(depends);
+    let new = coming(alloc, books, &counts, spec)?;
+    let follow = added(alloc, books, depends, new)?;
+    Ok(follow)
+}
+
+// What follows the depend.
+fn added(
+    alloc: Global,
+    books: &Books,
+    depends: &Depends,
+    new: NewDepend,
+) -> Result<Follow, AllocError>
+    requires { length (unmet_by depends.now.graph.done new.groups) ≤ MOST_FRAMES }
+    ensures { IfOk result (λ follow. follow ≡ follow_new books.now.slots depends.now.graph.done new) }
+{
+    let unmet = unmet_waiters(alloc, depends, new.groups.as_slice())?;
+    let blocked = waiting_among(alloc, books.jobs(), unmet.as_slice())?;
+    let count = unmet.len() as u32;
+    follow_of(alloc, new, blocked, count)
+}
+
+// The depend with the frames that it blocks, and how many wait by it unmet.
+fn follow_of(
+    alloc: Global,
+    new: NewDepend,
+    blocked: Items<Slot>,
+    count: u32,
+) -> Result<Follow, AllocError>
+    ensures { IfOk result (λ follow. follow ≡ record { depends = new ∷ []; spares = []; dropped = None; done = []; opened = []; blocked = blocked; raises = true; count = count }) }
+{
+    let mut depends = Items::new(alloc);
+    depends.push(new)?;
+    Ok(Follow {
+        depends,
+        spares: Items::new(alloc),
+        dropped: None,
+        done: Items::new(alloc),
+        opened: Items::new(alloc),
+        blocked,
+        raises: true,
+        count,
+    })
+}

@@ -1,0 +1,10 @@
+use Rattle.std.proofs.Common.{◌≤◌, length}
+use Rattle.job_book.specs.Lowest.{lowest_free}
+use Rattle.job_book.proofs.FreePlaces.{Found}
+use Rattle.job_book.proofs.free_places.free_places.Given as goal
+
+abbrev pub invariant-loop-place : goal.invariant-loop-place
+invariant-loop-place l = record {
+  few : length l.places.items ≤ l.count;
+  found : Found l.slots l.count l.place (lowest_free 0 l.slots l.count) l.places.items;
+}
