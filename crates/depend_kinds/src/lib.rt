@@ -1,4 +1,4 @@
-//! The groups of a depend: which frames wait, and for which.
+//! The groups of a depend: which frames wait, and for which; and the frames that an end names.
 #![tactic(auto)]
 
 mod kinds;
@@ -8,3 +8,4 @@ mod pairs;
 mod parts;
 
 pub use kinds::groups;
+pub use parts::slots_at;

@@ -10,11 +10,7 @@ use farm_types::{Items, LayerShape, Place, Shape, Slot, Text};
 use std::alloc::{AllocError, Global};
 
 /// The slots of the frames that an end names, layer by layer, in range order.
-pub(crate) fn slots_at(
-    alloc: Global,
-    shape: &Shape,
-    place: &Place,
-) -> Result<Items<Slot>, AllocError>
+pub fn slots_at(alloc: Global, shape: &Shape, place: &Place) -> Result<Items<Slot>, AllocError>
     ensures { IfOk result (λ slots. slots ≡ slots_at shape.now (part_of place.now)) }
 {
     match &place.layer {

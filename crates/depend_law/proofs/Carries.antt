@@ -110,15 +110,38 @@ running_is_active (Some x) h = or_right (is_waiting x.state) (is_running x.state
 at_slot : (test : FrameState → Bool) (slots : List SlotRow) (slot : ℕ) (s : SlotRow) → slice_get slots slot ≡ Some s → on_slot test (slice_get slots slot) ≡ on_frame test s.frame
 at_slot test slots slot s at = ap (on_slot test) at
 
-module _ (f g : Farm) (k : KeepsDepends f) (c : Carries f g) where
+running_slot : (o : Option SlotRow) → on_slot is_running o ≡ true → on_slot is_active o ≡ true
+running_slot None h = h
+running_slot (Some s) h = running_is_active s.frame h
+
+module _ (f : Farm) (k : KeepsDepends f) where
   -- a frame that was active is open
   was_open : (slot : ℕ) → on_slot is_active (slice_get f.slots slot) ≡ true → is_open f slot ≡ true
   was_open slot h =
       let s = for_some_true (slice_get f.slots slot) (λ (t : SlotRow). on_frame is_active t.frame) h in
       is_true (is_open f slot) (right_false (on_frame is_active s.0.frame) (not (is_open f slot)) s.2 (k.free_to_run slot s.0 s.1))
 
+  module _ (g : Farm) (same : SameGroups f g) where
+    -- each frame that runs is open, where only what ran does
+    pub running_free : ((slot : ℕ) → on_slot is_running (slice_get g.slots slot) ≡ true → on_slot is_running (slice_get f.slots slot) ≡ true)
+        → (slot : ℕ) (s : SlotRow) → slice_get g.slots slot ≡ Some s → (on_frame is_running s.frame && not (is_open g slot)) ≡ false
+    running_free ran slot s at =
+        and_false (on_frame is_running s.frame) (not (is_open g slot))
+        (λ h. not_true (is_open g slot) (open_same f g same slot ∙ was_open slot (running_slot (slice_get f.slots slot) (ran slot (at_slot is_running g.slots slot s at ∙ h)))))
+
+    -- no blocked frame is open, where only what was blocked is
+    pub blocked_shut : ((slot : ℕ) → on_slot is_blocked (slice_get g.slots slot) ≡ true → on_slot is_blocked (slice_get f.slots slot) ≡ true)
+        → (slot : ℕ) (s : SlotRow) → slice_get g.slots slot ≡ Some s → (on_frame is_blocked s.frame && is_open g slot) ≡ false
+    blocked_shut blocked slot s at = and_false (on_frame is_blocked s.frame) (is_open g slot) shut
+      where
+        shut : on_frame is_blocked s.frame ≡ true → is_open g slot ≡ false
+        shut h =
+            let old = for_some_true (slice_get f.slots slot) (λ (t : SlotRow). on_frame is_blocked t.frame) (blocked slot (at_slot is_blocked g.slots slot s at ∙ h)) in
+            open_same f g same slot ∙ right_false (on_frame is_blocked old.0.frame) (is_open f slot) old.2 (k.blocked slot old.0 old.1)
+
+module _ (f g : Farm) (k : KeepsDepends f) (c : Carries f g) where
   by_active : (slot : ℕ) → (on_slot is_active (slice_get f.slots slot) ≡ true) ⊎ (is_open f slot ≡ true) → is_open f slot ≡ true
-  by_active slot (inl h) = was_open slot h
+  by_active slot (inl h) = was_open f k slot h
   by_active slot (inr now) = now
 
   -- a frame that is active is open
@@ -158,12 +181,6 @@ module _ (f g : Farm) (k : KeepsDepends f) (c : Carries f g) where
       and_false (on_frame is_waiting s.frame) (not (is_open g slot)) (λ h. not_true (is_open g slot) (active_open slot s at (waiting_active s.frame h)))
 
 module _ (f g : Farm) (k : KeepsDepends f) (c : CarriesAll f g) where
-  -- no blocked frame is open
-  still_blocked : (slot : ℕ) (s : SlotRow) → slice_get g.slots slot ≡ Some s → on_frame is_blocked s.frame ≡ true → is_open g slot ≡ false
-  still_blocked slot s at h =
-      let old = for_some_true (slice_get f.slots slot) (λ (t : SlotRow). on_frame is_blocked t.frame) (c.blocked slot (at_slot is_blocked g.slots slot s at ∙ h)) in
-      open_same f g c.carries.same slot ∙ right_false (on_frame is_blocked old.0.frame) (is_open f slot) old.2 (k.blocked slot old.0 old.1)
-
   -- the farm keeps its depends
   pub kept_by : KeepsDepends g
   kept_by =
@@ -174,7 +191,7 @@ module _ (f g : Farm) (k : KeepsDepends f) (c : CarriesAll f g) where
         groups_within = omega (arith, left_same f g c.carries.same, k.groups_within);
         ends_there = carried_ends f g k c.carries;
         met = met_stays f g c.carries.same c.done k.met;
-        blocked = λ slot s at. and_false (on_frame is_blocked s.frame) (is_open g slot) (still_blocked slot s at);
+        blocked = blocked_shut f k g c.carries.same c.blocked;
         free_to_run = λ slot s at.
             and_false (on_frame is_active s.frame) (not (is_open g slot)) (λ h. not_true (is_open g slot) (active_open f g k c.carries slot s at h));
       }

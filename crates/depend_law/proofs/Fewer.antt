@@ -1,14 +1,12 @@
--- Depends of which more are satisfied: they keep their numbers and their ends, and have no more groups left.
-use Rattle.std.proofs.Common.{◌≡◌, ◌≤◌, ℕ, ◌+◌, Bool, true, false, cond, ◌||◌, List, [], ◌∷◌, map, refl, sym, subst, arith}
-use Rattle.std.specs.List.{sum_by}
+-- Depends of which more are satisfied: they keep their numbers and their ends, and have no more groups left. Groups of which more targets are done.
+use Rattle.std.proofs.Common.{◌≡◌, ◌≤◌, ℕ, Bool, true, false, cond, ◌||◌, List, [], ◌∷◌, map, refl, ◌⊎◌, inl, inr, arith}
+use Rattle.std.specs.List.{list_all, list_any, sum_by}
+use Rattle.std.proofs.lemmas.Bool.{or_cases, or_left, or_right}
 use Rattle.std.proofs.lemmas.List.Sums.{sum_by-cons}
-use Rattle.farm_types.specs.Rising.{IsRising}
-
--- keys that stay rise as they did
-pub rising-map : {X : Type 0} (key : X → ℕ) (change : X → X) → ((x : X) → key (change x) ≡ key x) → (low : ℕ) (xs : List X) (high : ℕ) → IsRising key low xs high → IsRising key low (map change xs) high
-rising-map key change same low [] high rise = rise
-rising-map key change same low (x ∷ xs) high rise =
-    subst (λ (n : ℕ). (low ≤ n) × IsRising key (n + 1) (map change xs) high) (sym (same x)) (rise.0, rising-map key change same (key x + 1) xs high rise.1)
+use Rattle.farm_types.specs.declared.depend.Group.{Group}
+use Rattle.farm_types.specs.Depends.{are_done}
+use Rattle.farm_types.proofs.Lists.{list_all-at, list_all-from_at}
+pub use Rattle.farm_law.proofs.KeptJobsLists.{rising-map}
 
 -- a sum of no more at each item
 pub sum_by-map-less : {X : Type 0} (new old : X → ℕ) (change : X → X) → ((x : X) → new (change x) ≤ old x) → (xs : List X) → sum_by new (map change xs) ≤ sum_by old xs
@@ -26,3 +24,21 @@ pub kept_more : (before more there : Bool) → (before || there) ≡ true → ((
 kept_more true more there h = refl
 kept_more false true there h = refl
 kept_more false false there h = h
+
+-- ---- targets
+
+any_step : (p q : ℕ → Bool) → ((slot : ℕ) → p slot ≡ true → q slot ≡ true) → (t : ℕ) (ts : List ℕ) → (p t ≡ true) ⊎ (list_any p ts ≡ true) → (list_any p ts ≡ true → list_any q ts ≡ true) → list_any q (t ∷ ts) ≡ true
+any_step p q more t ts (inl here) rest = or_left (q t) (list_any q ts) (more t here)
+any_step p q more t ts (inr later) rest = or_right (q t) (list_any q ts) (rest later)
+
+any_more : (p q : ℕ → Bool) → ((slot : ℕ) → p slot ≡ true → q slot ≡ true) → (ts : List ℕ) → list_any p ts ≡ true → list_any q ts ≡ true
+any_more p q more [] h = h
+any_more p q more (t ∷ ts) h = any_step p q more t ts (or_cases (p t) (list_any p ts) h) (any_more p q more ts)
+
+done_by : (p q : ℕ → Bool) → ((slot : ℕ) → p slot ≡ true → q slot ≡ true) → (ts : List ℕ) (b : Bool) → cond b (list_any p ts) (list_all p ts) ≡ true → cond b (list_any q ts) (list_all q ts) ≡ true
+done_by p q more ts true h = any_more p q more ts h
+done_by p q more ts false h = list_all-from_at q ts (λ n t at. more t (list_all-at p ts n t h at))
+
+-- more are done
+pub are_done_more : (p q : ℕ → Bool) (g : Group) → ((slot : ℕ) → p slot ≡ true → q slot ≡ true) → are_done p g ≡ true → are_done q g ≡ true
+are_done_more p q g more h = done_by p q more g.targets g.any h

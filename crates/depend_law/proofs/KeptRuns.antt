@@ -2,7 +2,7 @@
 use Rattle.std.proofs.Common.{◌≡◌, ℕ, List, [], ◌∷◌, Option, Some, None, refl, ap, ◌∙◌, arith}
 use Rattle.farm_types.specs.declared.depend.DependSpec.{DependSpec}
 use Rattle.farm_types.specs.declared.entry.Act.{Act}
-use Rattle.farm_types.specs.declared.entry.Act.TheVariants.{AddDepend, DropDepend, Heard, Submit}
+use Rattle.farm_types.specs.declared.entry.Act.TheVariants.{AddDepend, DropDepend, EatFrame, Heard, KillJob, RetryFrame, Submit}
 use Rattle.farm_types.specs.declared.entry.Entry.{Entry}
 use Rattle.farm_types.specs.declared.job.JobSpec.{JobSpec}
 use Rattle.farm_types.specs.declared.refusal.Refusal.{Refusal}
@@ -14,14 +14,14 @@ use Rattle.farm_types.specs.Rising.{IsRising, job_key}
 use Rattle.farm_types.specs.Run.{IsLegal, IsLegalStep, run_of}
 use Rattle.farm_types.specs.Settle.{kept_version, raised, settle}
 use Rattle.farm_types.specs.Step.{after, after_act, after_submit, at_moment, follow_refusal, followed, moment_of}
-use Rattle.farm_law.proofs.KeptRuns.{act_accepted, follow_accepted, kept_acted}
+use Rattle.farm_law.proofs.KeptRuns.{act_accepted, follow_accepted, kept_acted, refusal_later}
 use Rattle.farm_law.proofs.KeptRuns as rows
 use Rattle.farm_law.proofs.KeptChanges.{kept_later}
 use Rattle.farm_law.proofs.SafeRuns.{allowed_later}
 use Rattle.depend_law.proofs.Carries.{all_same, kept_by, unsettled_by, waiting_by}
 use Rattle.depend_law.proofs.KeptActs.{LeavesDepends, act_leaves}
 use Rattle.depend_law.proofs.DependKept.{add_keeps, adds_keep, drop_keeps, drop_leaves_open}
-use Rattle.depend_law.proofs.Blocked.{block_keeps}
+use Rattle.depend_law.proofs.Blocked.{block_keeps, blocks_keep}
 use Rattle.depend_law.proofs.Settled.{settle_keeps}
 use Rattle.depend_law.specs.Unsettled.{Unsettled, WaitingOpen}
 
@@ -85,6 +85,9 @@ module _ (f : Farm) (moment : ℕ) (k : IsKeptFarm f) where
   follows_keep (Submit spec) none rows left = job_follows spec (show_named f spec.show) none rows left
   follows_keep (AddDepend spec) none rows left = add_follows spec none
   follows_keep (DropDepend depend) none rows left = drop_follows depend
+  follows_keep (KillJob job) none rows left = settle_keeps (after_act later moment (KillJob job)) left.0 left.1
+  follows_keep (EatFrame p) none rows left = settle_keeps (after_act later moment (EatFrame p)) left.0 left.1
+  follows_keep (RetryFrame p) none rows left = blocks_keep kept_version (after_act later moment (RetryFrame p)) left
   follows_keep act none rows left = left
 
 -- ---- runs
@@ -93,7 +96,7 @@ pub kept_step : (f : Farm) (e : Entry) → IsLegalStep f e → IsKeptFarm f → 
 kept_step f e legal k =
     let moment = moment_of f e.moment in
     let now = kept_later f moment (omega arith) (omega (arith, k.rows.moment_within, legal.formed.moment_within)) k.rows in
-    let left = act_leaves (at_moment f moment) moment e.act (allowed_later f moment e.act legal.condition) now (later_keeps f moment k) in
+    let left = act_leaves (at_moment f moment) moment e.act (refusal_later f moment e.act ∙ act_accepted f e legal) (allowed_later f moment e.act legal.condition) now (later_keeps f moment k) in
     record {
       rows = rows.kept_step f e legal k.rows;
       depends = follows_keep f moment k e.act (follow_accepted f e legal) (kept_acted f e legal.formed (act_accepted f e legal) legal.condition k.rows) left;

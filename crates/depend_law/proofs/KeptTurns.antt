@@ -135,7 +135,7 @@ live_active f host boot slot version ok live =
     let p = for_some_true s.0.proc (is_attempt host boot version) s.2 in
     ap (on_slot is_active) s.1 ∙ running_active s.0.frame (runs_frame slot s.0.version s.0.frame s.0.proc p.0 p.1 (ok.attempts slot s.0 s.1))
 
-same_carries : (f : Farm) → Carries f f
+pub same_carries : (f : Farm) → Carries f f
 same_carries f = (all_same f f refl refl refl refl refl refl).carries
 
 ended_carries : (f : Farm) (slot : ℕ) (exit : Exit) → on_slot is_active (slice_get f.slots slot) ≡ true → Carries f (ended f slot exit)

@@ -15,8 +15,10 @@ pub mod MetAgain
 pub mod NewJob
 pub mod Opened
 pub mod Placed
+pub mod Retried
 pub mod Settled
 pub mod Shapes
 pub mod Stable
+pub mod Stops
 pub mod Turns
 pub mod Waiters

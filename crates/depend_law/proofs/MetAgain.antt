@@ -14,7 +14,7 @@ use Rattle.farm_types.specs.Settle.{is_met_now, met_row, met_rows, met_rows_of, 
 use Rattle.farm_types.proofs.Lists.{list_all-at, list_all-from_at}
 use Rattle.depend_law.proofs.Marks.{marked_rows}
 use Rattle.depend_law.proofs.GroupSlots.{group_key, groups_among}
-use Rattle.depend_law.proofs.Stable.{list_all-same}
+use Rattle.depend_law.proofs.Stable.{filter-same, list_all-same}
 
 -- the groups of a depend, where its marks or those of others change
 pub groups_met : (f : Farm) (d : DependRow) → groups_of (with_met f) (settled_row f d) ≡ groups_of f d
@@ -28,12 +28,6 @@ positions_rise f d =
     let waiters = shape_of f d.waiter.job in
     let high = length (all_slots waiters.layers) + 1 in
     (high, (groups_among high d.any (part_at d.waiter) (part_at d.target) waiters (shape_of f d.target.job) (omega arith) (omega arith) d.kind).rise)
-
--- tests that agree on all items keep the same ones
-filter-same : {X : Type 0} (p q : X → Bool) (xs : List X) → ((n : ℕ) (x : X) → slice_get xs n ≡ Some x → p x ≡ q x) → filter p xs ≡ filter q xs
-filter-same p q [] same = refl
-filter-same p q (x ∷ xs) same =
-    ap (λ (b : Bool). cond b (x ∷ filter p xs) (filter p xs)) (same 0 x refl) ∙ ap (λ ys. cond (q x) (x ∷ ys) ys) (filter-same p q xs (λ n y at. same (suc n) y at))
 
 -- ---- tests
 

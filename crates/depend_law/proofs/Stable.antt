@@ -28,6 +28,12 @@ map-same p q [] same = refl
 map-same p q (x ∷ xs) same =
     ap (λ y. y ∷ map p xs) (same 0 x refl) ∙ ap (λ ys. q x ∷ ys) (map-same p q xs (λ n y at. same (suc n) y at))
 
+-- tests that agree on all items keep the same ones
+pub filter-same : {X : Type 0} (p q : X → Bool) (xs : List X) → ((n : ℕ) (x : X) → slice_get xs n ≡ Some x → p x ≡ q x) → filter p xs ≡ filter q xs
+filter-same p q [] same = refl
+filter-same p q (x ∷ xs) same =
+    ap (λ (b : Bool). cond b (x ∷ filter p xs) (filter p xs)) (same 0 x refl) ∙ ap (λ ys. cond (q x) (x ∷ ys) ys) (filter-same p q xs (λ n y at. same (suc n) y at))
+
 -- ---- depends that keep their groups
 
 -- The depends and what is marked are the same, and each depend that isn't satisfied has its groups.
@@ -60,7 +66,7 @@ or_same : (a x y : Bool) → a ≡ true → (a || x) ≡ (a || y)
 or_same a x y is = rw is refl
 
 module _ (f g : Farm) (same : SameGroups f g) where
-  met_same : (d : DependRow) (b : Group) → is_met g d b ≡ is_met f d b
+  pub met_same : (d : DependRow) (b : Group) → is_met g d b ≡ is_met f d b
   met_same d b = ap (λ (ms : List MetRow). is_met (record f { met = ms }) d b) same.met
 
   open_in_same : (slot n : ℕ) (d : DependRow) → slice_get f.depends n ≡ Some d → (b : Bool) → d.met_all ≡ b → is_open_in g slot d ≡ is_open_in f slot d
@@ -87,19 +93,14 @@ module _ (f g : Farm) (same : SameGroups f g) where
       ∙ sum_by-same (λ (d : DependRow). cond d.met_all 0 (length (groups_of g d))) (λ (d : DependRow). cond d.met_all 0 (length (groups_of f d))) f.depends
       (λ n d at. left_in_same n d at d.met_all refl)
 
-  module _ (done : (slot : ℕ) → is_done g.slots slot ≡ is_done f.slots slot) where
-    done_same : is_done g.slots ≡ is_done f.slots
-    done_same i slot = done slot i
-
-    now_same : (d : DependRow) → is_met_now g d ≡ is_met_now f d
-    now_same d i b = met_same d b i || are_done (done_same i) b
-
+  -- Where of each depend that isn't satisfied the same groups are met now, exactly what is met stays marked.
+  module _ (now : (n : ℕ) (d : DependRow) → slice_get f.depends n ≡ Some d → d.met_all ≡ false → (k : ℕ) (b : Group) → slice_get (groups_of f d) k ≡ Some b → is_met_now g d b ≡ is_met_now f d b) where
     all_met_same : (n : ℕ) (d : DependRow) → slice_get f.depends n ≡ Some d → (b : Bool) → d.met_all ≡ b
         → (d.met_all || list_all (is_met_now g d) (groups_of g d)) ≡ (d.met_all || list_all (is_met_now f d) (groups_of f d))
     all_met_same n d at true is = or_same d.met_all (list_all (is_met_now g d) (groups_of g d)) (list_all (is_met_now f d) (groups_of f d)) is
     all_met_same n d at false is =
-        ap (λ (test : Group → Bool). d.met_all || list_all test (groups_of g d)) (now_same d)
-        ∙ ap (λ (bs : List Group). d.met_all || list_all (is_met_now f d) bs) (same.groups n d at is)
+        ap (λ (bs : List Group). d.met_all || list_all (is_met_now g d) bs) (same.groups n d at is)
+        ∙ ap (λ (all : Bool). d.met_all || all) (list_all-same (is_met_now g d) (is_met_now f d) (groups_of f d) (now n d at is))
 
     row_same : (n : ℕ) (d : DependRow) → slice_get f.depends n ≡ Some d → settled_row g d ≡ settled_row f d
     row_same n d at = ap (λ (b : Bool). record d { met_all = b }) (all_met_same n d at d.met_all refl)
@@ -111,8 +112,8 @@ module _ (f g : Farm) (same : SameGroups f g) where
         marks_none k d is = rw is refl
     marks_of_same n d at false is =
         ap (λ (b : Bool). cond b [] (map (met_row d) (filter (is_met_now g d) (groups_of g d)))) (all_met_same n d at false is)
-        ∙ (ap (λ (test : Group → Bool). cond (settled_row f d).met_all [] (map (met_row d) (filter test (groups_of g d)))) (now_same d)
-        ∙ ap (λ (bs : List Group). cond (settled_row f d).met_all [] (map (met_row d) (filter (is_met_now f d) bs))) (same.groups n d at is))
+        ∙ (ap (λ (bs : List Group). cond (settled_row f d).met_all [] (map (met_row d) (filter (is_met_now g d) bs))) (same.groups n d at is)
+        ∙ ap (λ (bs : List Group). cond (settled_row f d).met_all [] (map (met_row d) bs)) (filter-same (is_met_now g d) (is_met_now f d) (groups_of f d) (now n d at is)))
 
     marks_same : (ds : List DependRow) → ((n : ℕ) (d : DependRow) → slice_get ds n ≡ Some d → met_rows_of g d ≡ met_rows_of f d) → met_rows g ds ≡ met_rows f ds
     marks_same [] each = refl
@@ -120,14 +121,25 @@ module _ (f g : Farm) (same : SameGroups f g) where
         ap (λ (ms : List MetRow). ms ++ met_rows g ds) (each 0 d refl) ∙ ap (λ (ms : List MetRow). met_rows_of f d ++ ms) (marks_same ds (λ n b at. each (suc n) b at))
 
     -- where exactly what is met was marked, it is
-    pub with_met_is : with_met f ≡ f → with_met g ≡ record g { depends = f.depends; met = f.met }
+    with_met_is : with_met f ≡ f → with_met g ≡ record g { depends = f.depends; met = f.met }
     with_met_is settled =
         let rows : map (settled_row g) f.depends ≡ f.depends = map-same (settled_row g) (settled_row f) f.depends row_same ∙ ap (λ (k : Farm). k.depends) settled in
         let marks : met_rows g f.depends ≡ f.met = marks_same f.depends (λ n d at. marks_of_same n d at d.met_all refl) ∙ ap (λ (k : Farm). k.met) settled in
         let both : record g { depends = map (settled_row g) f.depends; met = met_rows g f.depends } ≡ record g { depends = f.depends; met = f.met } = λ i. record g { depends = rows i; met = marks i } in
         ap (λ (ds : List DependRow). record g { depends = map (settled_row g) ds; met = met_rows g ds }) same.depends ∙ both
 
-    pub met_stays : with_met f ≡ f → with_met g ≡ g
-    met_stays settled =
+    pub marks_stay : with_met f ≡ f → with_met g ≡ g
+    marks_stay settled =
         let back : record g { depends = f.depends; met = f.met } ≡ g = λ i. record g { depends = sym same.depends i; met = sym same.met i } in
         with_met_is settled ∙ back
+
+  -- and so it does where the same frames are done
+  module _ (done : (slot : ℕ) → is_done g.slots slot ≡ is_done f.slots slot) where
+    done_same : is_done g.slots ≡ is_done f.slots
+    done_same i slot = done slot i
+
+    now_same : (d : DependRow) (b : Group) → is_met_now g d b ≡ is_met_now f d b
+    now_same d b i = met_same d b i || are_done (done_same i) b
+
+    pub met_stays : with_met f ≡ f → with_met g ≡ g
+    met_stays = marks_stay (λ n d at unmet k b there. now_same d b)

@@ -1,10 +1,11 @@
-//! One call for each kind of row that puts it in: shows, allocations, subscriptions, hosts, slots. Each keeps what is kept beside the rows, and
-//! takes no memory.
+//! One call for each kind of row that puts it in: shows, allocations, subscriptions, hosts, slots; and one for a job's pause. Each keeps what is kept
+//! beside the rows, and takes no memory.
 
-ghost use Rattle.std.specs.Prelude.{◌≡◌, ◌<◌, ◌++◌, ◌∷◌, [], length, slice_set, Ok};
+ghost use Rattle.std.specs.Prelude.{◌≡◌, ◌<◌, ◌++◌, ◌∷◌, [], length, map, slice_set, Ok};
 ghost use Rattle.alloc_tags.specs.Book.{check_of};
 ghost use Rattle.farm_types.specs.Farm.{alloc_name, changed_at};
 ghost use Rattle.farm_types.specs.Hosts.{booted};
+ghost use Rattle.farm_types.specs.Operators.{paused_row};
 ghost use Rattle.farm_types.specs.Step.{at_moment};
 ghost use Rattle.farm_types.specs.Subs.{with_sub};
 ghost use Rattle.farm_types.specs.declared.limits.TheConstants.{MOST_SHOWS, SUB_NUMBERS};
@@ -14,7 +15,7 @@ ghost use Rattle.farm_books.specs.Install.{CanInstall};
 
 use crate::books::Books;
 use alloc_tags::Spare;
-use farm_types::{Cores, HostNo, Slot, SlotRow, SubNo, Text};
+use farm_types::{Cores, HostNo, JobNo, Slot, SlotRow, SubNo, Text};
 use host_book::{BootPlan, HostLife, HostSpare};
 
 impl Books {
@@ -77,6 +78,13 @@ impl Books {
             self.attempts.begin(slot, proc);
         }
         self.jobs.set_row(slot, row);
+    }
+
+    /// A job is paused, or resumed. Nothing changes where it isn't there.
+    pub fn install_paused(&mut self, job: JobNo, paused: bool)
+        ensures { self.new ≡ record self.old { jobs = map (paused_row job paused) self.old.jobs } }
+    {
+        self.jobs.set_paused(job, paused);
     }
 
     /// Looks again how long ago the hosts were heard, where the book of hosts can't tell that none is silent.

@@ -1,15 +1,17 @@
 -- What the drafts of silence, reports and boots come to, and that attempts only end in them.
-use Rattle.std.proofs.Common.{◌≡◌, ℕ, List, Option, Some, None, sym, ap, subst, ◌∙◌, eqb}
+use Rattle.std.proofs.Common.{◌≡◌, ℕ, List, map, Option, Some, None, sym, ap, subst, ◌∙◌, eqb}
 use Rattle.farm_types.specs.declared.attempt.DoneItem.{DoneItem}
 use Rattle.farm_types.specs.declared.boot.BootLine.{BootLine}
 use Rattle.farm_types.specs.declared.slot_row.SlotRow.{SlotRow}
 use Rattle.farm_types.specs.Farm.{Farm, changed_at, host_named}
 use Rattle.farm_types.specs.Hosts.{heard_row}
 use Rattle.farm_types.specs.Kept.{KeepsRows}
+use Rattle.farm_types.specs.Operators.{killed_row}
 use Rattle.farm_types.specs.Step.{at_moment, end_all, expire, is_silent}
 use Rattle.farm_draft.specs.Drafted.{Drafted, with_farm, with_hosts, with_slots}
 use Rattle.farm_draft.specs.Ends.{AreFramed, OnlyEnds}
 use Rattle.farm_draft.proofs.EndsLemmas.{ends_all, ends_lose, ends_lost, framed_sound}
+use Rattle.farm_draft.proofs.KilledEnds.{ends_killed}
 use Rattle.farm_changes.specs.RowsOf.{ending_life, lives_ended}
 use Rattle.farm_changes.proofs.LostLives.{boot_slots, slots_ended}
 
@@ -58,3 +60,15 @@ boot_is f moment line o d e is ending next =
     let g = expire (at_moment f moment) moment in
     let slots = ap (λ (p : Option ℕ). slots_ended p g.slots) ending ∙ sym (boot_slots (at_moment f moment) moment line) in
     next ∙ (ap (λ (x : Drafted). with_slots x (slots_ended o x.farm.slots)) is ∙ ap (λ (ss : List SlotRow). with_farm (begun f moment) (record g { slots = ss })) slots)
+
+-- the draft that begins has the farm's slots
+pub slots_begun : (f : Farm) (moment : ℕ) (d : Drafted) → d ≡ begun f moment → d.farm.slots ≡ d.base.slots
+slots_begun f moment d is = ap (λ (x : Drafted). x.farm.slots) is ∙ sym (ap (λ (x : Drafted). x.base.slots) is)
+
+pub kept_begun : (f : Farm) (moment : ℕ) (d : Drafted) → KeepsRows f → d ≡ begun f moment → KeepsRows d.base
+kept_begun f moment d kept is = subst (λ (x : Drafted). KeepsRows x.base) (sym is) kept
+
+pub killed_ends : (f : Farm) (moment job : ℕ) (d e : Drafted) → KeepsRows f → d ≡ begun f moment → e ≡ with_slots d (map (killed_row job) d.farm.slots) → OnlyEnds e.base.slots e.farm.slots
+killed_ends f moment job d e kept is next =
+    let all = next ∙ ap (λ (x : Drafted). with_slots x (map (killed_row job) x.farm.slots)) is in
+    subst (λ (x : Drafted). OnlyEnds x.base.slots x.farm.slots) (sym all) (ends_killed job f.slots (framed_sound f kept.sound))

@@ -29,8 +29,8 @@ use Rattle.farm_changes.specs.RowsOf.{lives_ended}
 use Rattle.farm_changes.specs.declared.change.Change.{Change}
 use Rattle.farm_changes.specs.declared.change.More.TheVariants as more
 use Rattle.farm_changes.specs.declared.change.Reserved.TheVariants as taken
-use Rattle.farm_changes.specs.declared.fault.PrepareFault.{PrepareFault}
-use Rattle.farm_changes.specs.declared.fault.PrepareFault.TheVariants.{Refused, NoMemory}
+use Rattle.farm_places.specs.declared.fault.PrepareFault.{PrepareFault}
+use Rattle.farm_places.specs.declared.fault.PrepareFault.TheVariants.{Refused, NoMemory}
 use Rattle.farm_changes.proofs.FreeSlots.{waiting_free}
 use Rattle.farm_changes.proofs.PlannedBoots.{IsRefusal, planned, silenced_plan}
 
@@ -76,7 +76,7 @@ pub record IsBare (rows : Rows) : Type 0 where
   pub hosts : rows.hosts.items ≡ []
   pub slots : rows.slots.items ≡ []
 
-bare_installed : (f : Farm) (rows : Rows) → IsBare rows → installed f rows ≡ f
+pub bare_installed : (f : Farm) (rows : Rows) → IsBare rows → installed f rows ≡ f
 bare_installed f rows bare =
     ap (λ (es : List (ℕ × HostLife)). record f { hosts = put_lives f.hosts es; slots = put_slots f.slots rows.slots.items }) bare.hosts
     ∙ ap (λ (es : List (ℕ × SlotRow)). record f { slots = put_slots f.slots es }) bare.slots
@@ -85,7 +85,7 @@ pub none_distinct : IsDistinct nat_eq []
 unfolding IsDistinct
 none_distinct = tt
 
-one_distinct : (slot : ℕ) → IsDistinct nat_eq (slot ∷ [])
+pub one_distinct : (slot : ℕ) → IsDistinct nat_eq (slot ∷ [])
 unfolding IsDistinct
 one_distinct slot = (tt, tt)
 

@@ -21,8 +21,8 @@ use Rattle.host_book.specs.declared.boots.HostRefusal.{HostRefusal}
 use Rattle.host_book.specs.declared.boots.HostRefusal.TheVariants.{OtherAlloc, HostsFull, BootsSpent}
 use Rattle.farm_changes.specs.Change.{boot_in}
 use Rattle.farm_changes.specs.Refused.{IsBootFault}
-use Rattle.farm_changes.specs.declared.fault.PrepareFault.{PrepareFault}
-use Rattle.farm_changes.specs.declared.fault.PrepareFault.TheVariants.{Refused, NoMemory}
+use Rattle.farm_places.specs.declared.fault.PrepareFault.{PrepareFault}
+use Rattle.farm_places.specs.declared.fault.PrepareFault.TheVariants.{Refused, NoMemory}
 use Rattle.farm_types.proofs.Lists.{slice_get_below}
 use Rattle.farm_law.proofs.KeptNames.{named_within}
 use Rattle.farm_changes.proofs.LostLives.{silenced_named}

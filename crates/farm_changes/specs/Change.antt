@@ -1,15 +1,15 @@
 -- Changes that were prepared: what each does to the farm, and what it needs of it.
-use Rattle.std.specs.Prelude.{ℕ, ◌≡◌, ◌<◌, ◌++◌, ◌∷◌, [], true, false, List, length, Option, None, Some, Result, Ok, Err}
+use Rattle.std.specs.Prelude.{ℕ, ◌≡◌, ◌<◌, ◌++◌, ◌∷◌, [], true, false, map, length, Option, None, Some, Result, Ok, Err}
 use Rattle.alloc_tags.specs.Book.{check_of}
 use Rattle.farm_types.specs.declared.answer.Answer.{Answer}
 use Rattle.farm_types.specs.declared.entry.Entry.{Entry}
 use Rattle.farm_types.specs.declared.entry.Act.{Act}
 use Rattle.farm_types.specs.declared.entry.Act.TheVariants as act
-use Rattle.farm_types.specs.declared.refusal.Refusal.TheVariants.{Unknown}
 use Rattle.farm_types.specs.EntryAnswers.{answer_at}
 use Rattle.farm_types.specs.Farm.{Farm, host_named, alloc_name}
 use Rattle.farm_types.specs.Hosts.{booted}
 use Rattle.farm_types.specs.Jobs.{with_job}
+use Rattle.farm_types.specs.Operators.{paused_row}
 use Rattle.farm_types.specs.Step.{act_refusal, acted, lists_of, with_lists, at_moment, moment_of}
 use Rattle.farm_types.specs.Subs.{with_sub}
 use Rattle.farm_types.specs.declared.limits.TheConstants.{MOST_SHOWS, SUB_NUMBERS}
@@ -24,8 +24,8 @@ use Rattle.farm_changes.specs.declared.change.More.{More}
 use Rattle.farm_changes.specs.declared.change.More.TheVariants as more
 use Rattle.farm_changes.specs.declared.change.Reserved.{Reserved}
 use Rattle.farm_changes.specs.declared.change.Reserved.TheVariants as taken
-use Rattle.farm_changes.specs.declared.fault.PrepareFault.{PrepareFault}
-use Rattle.farm_changes.specs.declared.fault.PrepareFault.TheVariants.{Refused, NoMemory}
+use Rattle.farm_places.specs.declared.fault.PrepareFault.{PrepareFault}
+use Rattle.farm_places.specs.declared.fault.PrepareFault.TheVariants.{Refused, NoMemory}
 
 -- ---- what a change does
 
@@ -36,6 +36,7 @@ with_more f moment (more.Show name) = record f { shows = f.shows ++ record { nam
 with_more f moment (more.Alloc facility tag) = record f { allocs = f.allocs ++ record { facility = facility; tag = tag } ∷ [] }
 with_more f moment (more.Sub sub size burst) = record f { subs = with_sub (record { sub = sub; size = size; burst = burst }) f.subs }
 with_more f moment (more.Boot planned line) = record f { hosts = booted f.hosts line (alloc_of planned) moment }
+with_more f moment (more.Paused job paused) = record f { jobs = map (paused_row job paused) f.jobs }
 with_more f moment (more.Job placing spec) = with_lists f (with_job (lists_of f) placing.show spec)
 
 -- the farm with the change's rows, before the one that owns texts
@@ -54,6 +55,7 @@ FitsMore f (more.Show name) = length f.shows < MOST_SHOWS
 FitsMore f (more.Alloc facility tag) = check_of f.allocs (alloc_name facility tag) ≡ Ok (length f.allocs)
 FitsMore f (more.Sub sub size burst) = sub < SUB_NUMBERS
 FitsMore f (more.Boot planned line) = plan_of f.hosts line (alloc_of planned) ≡ Ok planned
+FitsMore f (more.Paused job paused) = Unit {0}
 FitsMore f (more.Job placing spec) = IsPlacement f placing spec
 
 -- each row may be put in at its turn
@@ -111,8 +113,3 @@ abbrev pub Prepares : Farm → Entry → Result Change PrepareFault → Type 0
 Prepares f e (Ok change) = Makes f e change
 Prepares f e (Err (Refused why)) = act_refusal f e.act ≡ Some why
 Prepares f e (Err NoMemory) = Unit {0}
-
--- a refusal that nothing of that name is there, or out of memory
-abbrev pub IsUnknown : List ℕ → PrepareFault → Type 0
-IsUnknown name (Refused why) = why ≡ Unknown name
-IsUnknown name NoMemory = Unit {0}

@@ -1,4 +1,5 @@
 pub mod Change
+pub mod ChangedRow
 pub mod Refused
 pub mod RowsOf
 pub mod SilentCounts

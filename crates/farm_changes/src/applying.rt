@@ -107,6 +107,7 @@ fn install_more(books: &mut Books, moment: u64, more: More, memory: Reserved)
         More::Sub { sub, size, burst } => books.install_sub(sub, size, burst),
         More::Alloc { facility, tag } => alloc_in(books, memory, &facility, &tag),
         More::Boot { plan, line } => boot_in(books, memory, plan, &line, moment),
+        More::Paused { job, paused } => books.install_paused(job, paused),
         More::Job { placing, spec } => job_in(books, memory, placing, spec),
     }
 }

@@ -4,7 +4,7 @@ ghost use Rattle.std.specs.Prelude.{◌≡◌};
 
 use alloc_tags::Spare;
 use farm_draft::Rows;
-use farm_types::{Answer, BootLine, Cores, HostNo, JobSpec, SlotRow, SubNo, Text};
+use farm_types::{Answer, BootLine, Cores, HostNo, JobNo, JobSpec, SlotRow, SubNo, Text};
 use host_book::{BootPlan, HostSpare};
 use job_book::{JobSpare, Placing};
 
@@ -21,7 +21,7 @@ pub struct Change {
     pub(crate) memory: Reserved,
 }
 
-/// A row with texts that a change adds or sets.
+/// A row that a change adds or sets, but for lives of hosts and rows of slots.
 #[derive(Debug, Drop)]
 pub(crate) enum More {
     /// None.
@@ -45,6 +45,11 @@ pub(crate) enum More {
     Boot {
         plan: BootPlan,
         line: BootLine,
+    },
+    /// A job that is paused, or resumed.
+    Paused {
+        job: JobNo,
+        paused: bool,
     },
     /// A job with its layers and frames.
     Job {

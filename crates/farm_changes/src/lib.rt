@@ -3,9 +3,10 @@
 
 mod applying;
 mod change;
-mod fault;
 mod prepare_depend;
 mod prepare_host;
+mod prepare_jobs;
+mod prepare_operators;
 mod prepare_slots;
 mod preparing;
 mod refused;
@@ -14,5 +15,4 @@ mod rows_of;
 
 pub use applying::{apply, record, reserve};
 pub use change::Change;
-pub use fault::PrepareFault;
 pub use preparing::prepare;

@@ -5,10 +5,10 @@ ghost use Rattle.farm_types.specs.declared.entry.Act.TheVariants as act;
 ghost use Rattle.farm_changes.specs.Change.{Prepares};
 
 use crate::change::{Change, More};
-use crate::fault::PrepareFault;
 use crate::preparing::change_of;
 use farm_books::Books;
 use farm_draft::Rows;
+use farm_places::PrepareFault;
 use farm_types::{Answer, DependNo, DependSpec};
 use std::alloc::Global;
 

@@ -14,13 +14,13 @@ ghost use Rattle.farm_changes.specs.declared.change.More.TheVariants as more;
 ghost use Rattle.farm_changes.specs.declared.change.Reserved.TheVariants as taken;
 
 use crate::change::{Change, More};
-use crate::fault::PrepareFault;
 use crate::preparing::change_of;
-use crate::refused::{existing, existing_alloc, full, unknown};
+use crate::refused::{existing, existing_alloc, full};
 use crate::reports::heard_rows;
 use crate::rows_of::{boot_rows, expired_rows, locked_rows, opened_rows};
 use farm_books::Books;
 use farm_draft::Rows;
+use farm_places::{PrepareFault, unknown};
 use farm_types::{
     AllocNo, Answer, BootLine, Counted, HeardAct, HostNo, LAST_BOOT, LockState, MOST_HOSTS, Text,
 };

@@ -7,10 +7,10 @@ ghost use Rattle.farm_types.specs.declared.entry.Act.TheVariants as act;
 ghost use Rattle.farm_changes.specs.Change.{Prepares};
 
 use crate::change::{Change, More};
-use crate::fault::PrepareFault;
 use crate::preparing::change_of;
 use farm_books::Books;
 use farm_draft::Rows;
+use farm_places::PrepareFault;
 use farm_types::{Answer, HostNo, Slot, SlotRow};
 use std::alloc::{AllocError, Global};
 
@@ -34,8 +34,8 @@ pub(crate) fn prepare_book(
     Ok(change_of(moment, Answer::Booked, rows, More::Nothing))
 }
 
-// The row of one slot.
-fn one_slot(alloc: Global, slot: Slot, row: SlotRow) -> Result<Rows, AllocError>
+/// The row of one slot.
+pub(crate) fn one_slot(alloc: Global, slot: Slot, row: SlotRow) -> Result<Rows, AllocError>
     ensures hosts { IfOk result (λ rows. rows.hosts.items ≡ []) }
     ensures slots { IfOk result (λ rows. rows.slots.items ≡ (slot, row) ∷ []) }
 {

@@ -11,16 +11,18 @@ ghost use Rattle.farm_changes.specs.declared.change.Reserved.TheVariants as take
 ghost use Rattle.farm_changes.specs.Change.{Prepares};
 
 use crate::change::{Change, More, Reserved};
-use crate::fault::PrepareFault;
 use crate::prepare_depend::{prepare_added, prepare_dropped};
 use crate::prepare_host::{
     prepare_boot, prepare_heard, prepare_lock, prepare_opened, prepare_tick,
 };
+use crate::prepare_jobs::{prepare_kill_job, prepare_pause};
+use crate::prepare_operators::{prepare_eat, prepare_kill_frame, prepare_retry};
 use crate::prepare_slots::prepare_book;
-use crate::refused::{existing, existing_alloc, full, unknown};
+use crate::refused::{existing, existing_alloc, full};
 use alloc_tags::AllocRefusal;
 use farm_books::{Books, sub_number};
 use farm_draft::Rows;
+use farm_places::{PrepareFault, unknown};
 use farm_types::{
     Act, Answer, Counted, Entry, JobSpec, MOST_ALLOCS, MOST_SHOWS, SubLine, SubNo, Text,
 };
@@ -45,6 +47,11 @@ pub fn prepare(alloc: Global, books: &Books, entry: &Entry) -> Result<Change, Pr
         Act::Submit(spec) => prepare_submit(alloc, books, moment, spec),
         Act::AddDepend(spec) => prepare_added(alloc, books, moment, spec),
         Act::DropDepend { depend } => prepare_dropped(alloc, books, moment, *depend),
+        Act::Pause { job, paused } => prepare_pause(alloc, books, moment, job, *paused),
+        Act::KillJob { job } => prepare_kill_job(alloc, books, moment, job),
+        Act::KillFrame(place) => prepare_kill_frame(alloc, books, moment, place),
+        Act::EatFrame(place) => prepare_eat(alloc, books, moment, place),
+        Act::RetryFrame(place) => prepare_retry(alloc, books, moment, place),
         Act::Lock { host, lock } => prepare_lock(alloc, books, moment, host, *lock),
         Act::Tick => prepare_tick(alloc, books, moment),
         Act::Book { slot, host } => prepare_book(alloc, books, moment, *slot, *host),

@@ -3,25 +3,12 @@
 ghost use Rattle.std.specs.Prelude.{◌≡◌, IfOk};
 ghost use Rattle.farm_types.specs.Farm.{alloc_name};
 ghost use Rattle.farm_types.specs.declared.refusal.Refusal.TheVariants.{Full};
-ghost use Rattle.farm_changes.specs.declared.fault.PrepareFault.TheVariants.{Refused};
-ghost use Rattle.farm_changes.specs.Change.{IsUnknown};
+ghost use Rattle.farm_places.specs.declared.fault.PrepareFault.TheVariants.{Refused};
 ghost use Rattle.farm_changes.specs.Refused.{IsExisting};
 
-use crate::fault::PrepareFault;
+use farm_places::PrepareFault;
 use farm_types::{Counted, Refusal, Text};
 use std::alloc::{AllocError, Global};
-
-// That there is nothing of that name.
-pub(crate) fn unknown(alloc: Global, name: &Text) -> PrepareFault
-    ensures { IsUnknown name.now result }
-{
-    match name.copy(alloc) {
-        Ok(name) => PrepareFault::Refused {
-            why: Refusal::Unknown { name },
-        },
-        Err(_) => PrepareFault::NoMemory,
-    }
-}
 
 // That one of that name is there.
 pub(crate) fn existing(alloc: Global, name: &Text) -> PrepareFault

@@ -4,7 +4,6 @@ use Rattle.farm_types.specs.Farm.{Farm}
 use Rattle.farm_types.specs.Kept.{IsKeptFarm}
 use Rattle.farm_changes.specs.Change as books
 use Rattle.depend_book.specs.Book.{DependLists, IsBook, joined}
-use Rattle.farm_depends.specs.declared.follow.Follow.{Follow}
 use Rattle.farm_depends.specs.Fits.{IsWhole}
 use Rattle.farm_depends.specs.Follow.{CanFollow, FollowFits, after_follow, depends_after, follow_reserved, slots_after}
 use Rattle.farm_depends.proofs.Applied.{can_follow, joined_then, whole_then}

@@ -3,7 +3,7 @@ use Rattle.std.proofs.Common.{◌≡◌, ◌<◌, ◌^◌, ℕ, zero, suc, [], B
 use Rattle.std.proofs.lemmas.Option.{none-some}
 use Rattle.std.specs.Prelude.{if◌then◌else◌}
 use Rattle.farm_types.specs.declared.entry.Act.{Act}
-use Rattle.farm_types.specs.declared.entry.Act.TheVariants.{Opened, Show, Alloc, Sub, Boot, Heard, Submit, AddDepend, DropDepend, Lock, Tick, Book}
+use Rattle.farm_types.specs.declared.entry.Act.TheVariants.{Book}
 use Rattle.farm_types.specs.declared.entry.Entry.{Entry}
 use Rattle.farm_types.specs.Booking.{may_book, may_record, tags_match}
 use Rattle.farm_types.specs.Farm.{Farm, empty_farm}
@@ -16,8 +16,8 @@ use Rattle.depend_law.proofs.KeptFirst.{first_empty}
 use Rattle.depend_law.proofs.KeptRuns.{kept_step}
 use Rattle.depend_graph.specs.Graph.{is_flagged}
 use Rattle.depend_book.specs.Book.{DependLists, IsBook, joined, no_depends}
-use Rattle.farm_depends.specs.Fits.{Fits, IsWhole}
-use Rattle.farm_depends.specs.Follow.{FollowFits, after_follow, nothing_follows}
+use Rattle.farm_depends.specs.Fits.{IsWhole}
+use Rattle.farm_depends.specs.Follow.{FollowFits, nothing_follows}
 use Rattle.farm_depends.proofs.Applied.{whole_then}
 use Rattle.farm_depends.proofs.Beside.{rows_apart}
 use Rattle.farm_depends.proofs.Joined.{joined_acted}
@@ -31,17 +31,7 @@ whole_rows f b whole = rows_apart f b whole.kept.rows
 -- what a booking asks of the farm it asks of the books
 pub condition_apart : (f : Farm) (b : DependLists) (act : Act) → IsWhole f b → HasCondition (joined f b) act → HasCondition f act
 condition_apart f b (Book slot host) whole may = sym (record_joined f b whole.alone whole.kept.depends slot host) ∙ may
-condition_apart f b Opened whole may = tt
-condition_apart f b (Show name) whole may = tt
-condition_apart f b (Alloc facility tag) whole may = tt
-condition_apart f b (Sub line) whole may = tt
-condition_apart f b (Boot line) whole may = tt
-condition_apart f b (Heard heard) whole may = tt
-condition_apart f b (Submit spec) whole may = tt
-condition_apart f b (AddDepend spec) whole may = tt
-condition_apart f b (DropDepend depend) whole may = tt
-condition_apart f b (Lock host lock) whole may = tt
-condition_apart f b Tick whole may = tt
+condition_apart f b other whole may = tt
 
 -- ---- the farm of no rows
 
@@ -80,7 +70,7 @@ module _ (f : Farm) (b : DependLists) (whole : IsWhole f b) (book : IsBook b) (s
       let allowed = record_joined f b whole.alone whole.kept.depends slot host ∙ (and_both (may_record f slot host) (tags_match f slot host) may).0 in
       let same : joined after_booking b ≡ acted beside booking = joined_acted b f booking in
       let kept = subst IsKeptFarm (sym same) (kept_step beside booking (record { formed = record { moment_within = within; act_formed = tt }; accepted = refl; condition = allowed }) whole.kept) in
-      let fits = subst (λ (g : Farm). FollowFits beside g nothing_follows) (sym same) (nothing_fits beside (acted beside booking) (quiet_carries beside booking tt allowed whole.kept.rows.sound)) in
+      let fits = subst (λ (g : Farm). FollowFits beside g nothing_follows) (sym same) (nothing_fits beside (acted beside booking) (quiet_carries beside booking tt refl allowed whole.kept.rows.sound)) in
       whole_then f after_booking b nothing_follows whole book booked_alone fits (subst IsKeptFarm (sym kept.depends.met) kept)
 
   booked_by : (may : Bool) → may_book f slot host ≡ may → IsWhole (if may then after f booking else f) b

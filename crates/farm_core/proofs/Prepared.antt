@@ -1,60 +1,61 @@
 -- A change that was prepared makes the farm of the entry, which keeps what every farm keeps.
-use Rattle.std.proofs.Common.{◌≡◌, ◌≤◌, ℕ, Option, Some, None, Result, Ok, Err, refl, sym, ◌∙◌, ap, subst}
+use Rattle.std.proofs.Common.{◌≡◌, ℕ, Option, Some, None, Result, Err, sym, ◌∙◌, ap, subst}
+use Rattle.std.specs.Prelude.{IsErrAnd}
+use Rattle.std.proofs.lemmas.Result.{err_from_is_err_and}
 use Rattle.farm_types.specs.declared.answer.Answer.{Answer}
 use Rattle.farm_types.specs.declared.answer.Answer.TheVariants as answer
 use Rattle.farm_types.specs.declared.entry.Act.{Act}
-use Rattle.farm_types.specs.declared.entry.Act.TheVariants.{Opened, Show, Alloc, Sub, Boot, Heard, Submit, AddDepend, DropDepend, Lock, Tick, Book}
+use Rattle.farm_types.specs.declared.entry.Act.TheVariants.{Heard, AddDepend, DropDepend}
 use Rattle.farm_types.specs.declared.entry.Entry.{Entry}
 use Rattle.farm_types.specs.declared.refusal.Refusal.{Refusal}
 use Rattle.farm_types.specs.DependActs.{or_else}
 use Rattle.farm_types.specs.EntryAnswers.{answer_at}
-use Rattle.farm_types.specs.Farm.{Farm, host_named}
+use Rattle.farm_types.specs.Farm.{Farm}
 use Rattle.farm_types.specs.Formed.{IsFormed}
 use Rattle.farm_types.specs.Kept.{IsKeptFarm}
+use Rattle.farm_types.specs.Operators.{slot_named}
 use Rattle.farm_types.specs.Step.{HasCondition, after, follow_refusal, followed, moment_of, refusal_of}
 use Rattle.depend_law.proofs.KeptRuns.{kept_step}
 use Rattle.farm_changes.specs.Change as books
 use Rattle.farm_changes.specs.Change.{AnswersAct, HasHeard}
 use Rattle.farm_changes.specs.declared.change.Change as act_change
 use Rattle.depend_book.specs.Book.{DependLists, joined}
+use Rattle.farm_places.specs.declared.fault.PrepareFault.{PrepareFault}
+use Rattle.farm_places.specs.declared.fault.PrepareFault.TheVariants.{Refused, NoMemory}
 use Rattle.farm_depends.specs.declared.follow.Follow.{Follow}
 use Rattle.farm_depends.specs.Fits.{IsWhole}
 use Rattle.farm_depends.specs.Follow.{Counts, FollowFits, Follows, after_follow}
 use Rattle.farm_depends.proofs.Beside.{joined_change, ready_joined, refusal_joined}
 use Rattle.farm_depends.proofs.Joined.{joined_acted}
 use Rattle.farm_core.specs.Answers.{told}
-use Rattle.farm_core.specs.Change.{Makes, after_change}
+use Rattle.farm_core.specs.declared.change.Change.{Change}
+use Rattle.farm_core.specs.Change.{Makes, Prepares}
 
 -- ---- what doesn't ask for depends
 
-heard_joined : (f : Farm) (b : DependLists) (done : Act) (told : Option ℕ) → HasHeard f done told → HasHeard (joined f b) done told
+heard_joined : (f : Farm) (b : DependLists) (done : Act) (named : Option ℕ) → HasHeard f done named → HasHeard (joined f b) done named
 heard_joined f b (Heard heard) None there = there
 heard_joined f b (Heard heard) (Some host) there = there
-heard_joined f b Opened told there = tt
-heard_joined f b (Show name) told there = tt
-heard_joined f b (Alloc facility tag) told there = tt
-heard_joined f b (Sub line) told there = tt
-heard_joined f b (Boot line) told there = tt
-heard_joined f b (Submit spec) told there = tt
-heard_joined f b (AddDepend spec) told there = tt
-heard_joined f b (DropDepend depend) told there = tt
-heard_joined f b (Lock host lock) told there = tt
-heard_joined f b Tick told there = tt
-heard_joined f b (Book slot host) told there = tt
+heard_joined f b other named there = tt
 
 told_by : (f : Farm) (b : DependLists) (moment count : ℕ) (done : Act) (said : Answer) → AnswersAct f moment done said → Counts (joined f b) done count → told b.next count done said ≡ answer_at (joined f b) moment done
-told_by f b moment count Opened said is counts = is
-told_by f b moment count (Show name) said is counts = is
-told_by f b moment count (Alloc facility tag) said is counts = is
-told_by f b moment count (Sub line) said is counts = is
-told_by f b moment count (Boot line) said is counts = is
-told_by f b moment count (Heard heard) said is counts = is
-told_by f b moment count (Submit spec) said is counts = is
+unfolding slot_named
 told_by f b moment count (AddDepend spec) said is counts = ap (answer.DependAdded b.next) counts
 told_by f b moment count (DropDepend depend) said is counts = ap answer.DependDropped counts
-told_by f b moment count (Lock host lock) said is counts = is
-told_by f b moment count Tick said is counts = is
-told_by f b moment count (Book slot host) said is counts = is
+told_by f b moment count other said is counts = is
+
+-- ---- the act is refused
+
+act_refused : (f : Farm) (b : DependLists) (e : Entry) (fault : PrepareFault) → books.Prepares f e (Err fault) → Prepares (joined f b) e (Err fault)
+act_refused f b e (Refused why) is = ap (λ (first : Option Refusal). or_else first (follow_refusal (joined f b) e.act)) (refusal_joined f b e.act ∙ is)
+act_refused f b e NoMemory is = tt
+
+-- its fault is passed on
+pub act_fails : (f : Farm) (b : DependLists) (e : Entry) (fault : PrepareFault) (r : Result Change PrepareFault) → IsErrAnd r (λ x. x ≡ fault) → books.Prepares f e (Err fault)
+    → Prepares (joined f b) e r
+act_fails f b e fault r err is =
+    let x = err_from_is_err_and r err in
+    subst (Prepares (joined f b) e) (sym x.1) (act_refused f b e x.0 (subst (λ (y : PrepareFault). books.Prepares f e (Err y)) (sym x.2) is))
 
 -- ---- a change
 

@@ -7,8 +7,8 @@ use Rattle.farm_types.specs.Kept.{IsKeptFarm}
 use Rattle.farm_types.specs.Step.{refusal_of, after}
 use Rattle.farm_changes.specs.Change as books
 use Rattle.farm_changes.specs.Change.{HasHeard}
-use Rattle.farm_changes.specs.declared.fault.PrepareFault.{PrepareFault}
-use Rattle.farm_changes.specs.declared.fault.PrepareFault.TheVariants.{Refused, NoMemory}
+use Rattle.farm_places.specs.declared.fault.PrepareFault.{PrepareFault}
+use Rattle.farm_places.specs.declared.fault.PrepareFault.TheVariants.{Refused, NoMemory}
 use Rattle.farm_depends.specs.Follow.{FollowFits, after_follow, follow_reserved, spare_for}
 use Rattle.farm_core.specs.declared.change.Change.{Change}
 

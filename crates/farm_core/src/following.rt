@@ -12,8 +12,8 @@ ghost use Rattle.farm_types.specs.Step.{HasCondition};
 use crate::change::Change;
 use depend_book::Depends;
 use farm_books::Books;
-use farm_changes::PrepareFault;
 use farm_depends::prepare_follow;
+use farm_places::PrepareFault;
 use farm_types::{Act, Answer, DependNo, Entry};
 use std::alloc::Global;
 

@@ -13,4 +13,4 @@ mod record;
 pub use change::Change;
 pub use demo::demo_farm;
 pub use farm::Farm;
-pub use farm_changes::PrepareFault;
+pub use farm_places::PrepareFault;

@@ -10,8 +10,9 @@ ghost use Rattle.farm_core.specs.Change.{IsReady, IsReserved, Prepares, after_ch
 use crate::change::Change;
 use crate::farm::Farm;
 use crate::following::with_follow;
-use farm_changes::{PrepareFault, apply, prepare, reserve};
+use farm_changes::{apply, prepare, reserve};
 use farm_depends::{apply_follow, reserve_follow};
+use farm_places::PrepareFault;
 use farm_types::{Answer, Entry, HostNo, Slot};
 use std::alloc::{AllocError, Global};
 

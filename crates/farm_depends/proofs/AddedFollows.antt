@@ -1,41 +1,40 @@
 -- What follows a depend that is asked for.
-use Rattle.std.proofs.Common.{◌≡◌, ℕ, ◌+◌, ◌<◌, ◌≤◌, ◌||◌, Bool, true, false, not, List, [], ◌∷◌, length, filter, get_or, Option, Some, None, Err, Ok, Result, All, refl, sym, ap, subst, ◌∙◌, inl, inr, arith}
-use Rattle.std.specs.Prelude.{IsSomeAnd, nat_eq}
+use Rattle.std.proofs.Common.{◌≡◌, ℕ, ◌≤◌, ◌||◌, Bool, true, not, List, [], ◌∷◌, length, filter, get_or, Option, Some, None, Err, All, refl, sym, ap, subst, ◌∙◌, inl, inr, arith}
+use Rattle.std.specs.Prelude.{IsSomeAnd}
 use Rattle.std.specs.List.{IsDistinct, slice_get}
 use Rattle.std.proofs.lemmas.Bool.{false≢true}
 use Rattle.std.proofs.lemmas.List.Elements.{filter_passes}
 use Rattle.farm_types.specs.declared.attempt.ProcRow.{ProcRow}
-use Rattle.farm_types.specs.declared.depend.DependRow.{DependRow}
 use Rattle.farm_types.specs.declared.depend.DependSpec.{DependSpec}
 use Rattle.farm_types.specs.declared.depend.Group.{Group}
 use Rattle.farm_types.specs.declared.entry.Act.TheVariants as act
-use Rattle.farm_types.specs.declared.limits.TheConstants.{LAST_DEPEND, MOST_DEPENDS, MOST_FRAMES, MOST_GROUPS}
+use Rattle.farm_types.specs.declared.limits.TheConstants.{MOST_FRAMES}
 use Rattle.farm_types.specs.declared.slot_row.Frame.{Frame}
 use Rattle.farm_types.specs.declared.slot_row.SlotRow.{SlotRow}
 use Rattle.farm_types.specs.declared.states.FrameState.{FrameState}
 use Rattle.farm_types.specs.declared.states.FrameState.TheVariants as frame_state
 use Rattle.farm_types.specs.Booking.{is_waiting}
-use Rattle.farm_types.specs.DependActs.{depend_refusal, frame_name_at, new_groups, or_else, place_refusal}
+use Rattle.farm_types.specs.DependActs.{depend_refusal, new_groups, or_else, place_refusal}
 use Rattle.farm_types.specs.Depends.{are_done, groups_of, is_done}
 use Rattle.farm_types.specs.Settle.{is_blocked}
 use Rattle.farm_types.specs.Farm.{Farm, for_some}
 use Rattle.farm_types.specs.Formed.{IsFormedDepend}
-use Rattle.farm_types.specs.Kept.{IsKeptFarm, KeepsRows}
 use Rattle.farm_types.specs.Run.{HasItsAttempt, IsAttemptOf, IsSound}
 use Rattle.farm_types.proofs.Lists.{for_some_true}
 use Rattle.depend_book.specs.Book.{DependLists, IsBook, joined}
 use Rattle.depend_book.specs.declared.new_depend.NewDepend.{NewDepend}
 use Rattle.depend_graph.specs.Graph as graph
 use Rattle.depend_graph.specs.Graph.{IsGroup, is_flagged}
-use Rattle.farm_changes.specs.declared.fault.PrepareFault.{PrepareFault}
-use Rattle.farm_changes.specs.declared.fault.PrepareFault.TheVariants.{Refused, NoMemory}
+use Rattle.farm_places.specs.declared.fault.PrepareFault.{PrepareFault}
+use Rattle.farm_places.specs.declared.fault.PrepareFault.TheVariants.{Refused, NoMemory}
 use Rattle.farm_depends.specs.declared.counts.Counts.{Counts}
 use Rattle.farm_depends.specs.declared.follow.Follow.{Follow}
 use Rattle.farm_depends.specs.Coming.{Comes, counts_full, counts_in, follow_added, follow_new, groups_refusal_with, refusal_with, self_refusal, started_refusal, unmet_by, waiters_of, waits_at}
 use Rattle.farm_depends.specs.Fits.{IsWhole}
-use Rattle.farm_depends.specs.Follow.{AreRoomy, FollowFits, Follows, IsMovable, IsRoomy, PreparesFollow, coming, is_moved}
+use Rattle.farm_depends.specs.Follow.{FollowFits, Follows, IsMovable, IsRoomy, PreparesFollow, coming, is_moved}
 use Rattle.farm_depends.proofs.Agree.{HasRoom, both_none, room_by, unmet_agree, waiters_some}
 use Rattle.farm_depends.proofs.ComingGroups.{new_are_groups, new_waiters_few}
+use Rattle.farm_depends.proofs.Reopened.{none_reopened}
 use Rattle.farm_depends.proofs.ToCome.{added_count, added_farm, left_is}
 
 -- ---- frames that wait
@@ -111,7 +110,7 @@ module _ (f : Farm) (b : DependLists) (book : IsBook b) (whole : IsWhole f b) (s
   unfolding groups_of
   follow_is =
       ap
-      (λ (ns : List ℕ). record { depends = coming f spec ∷ []; spares = []; dropped = None; done = []; opened = []; blocked = filter (waits_at f.slots) ns; raises = true; count = length ns })
+      (λ (ns : List ℕ). record { depends = coming f spec ∷ []; spares = []; dropped = None; done = []; reopened = None; opened = []; blocked = filter (waits_at f.slots) ns; raises = true; count = length ns })
       (unmet_same (new_groups f spec))
 
   accepted : refusal_with f counts spec ≡ None → IsAccepted farm spec
@@ -131,19 +130,15 @@ module _ (f : Farm) (b : DependLists) (book : IsBook b) (whole : IsWhole f b) (s
       let ok = accepted none in
       record {
         groups_stay = λ i d at unmet. refl;
-        one_kind = inr refl;
+        one_kind = inr (inl (refl, refl));
         room = (roomy_by farm spec ok (new_are_groups farm whole.kept.rows spec ok.waiter ok.target), tt);
         drop_there = tt;
         done_differ = tt;
         undone = λ k d within. absurd (omega arith);
-        done_are = λ slot. sym (or_none (is_done f.slots slot));
+        done_are = λ slot. none_reopened (is_done f.slots slot);
         opened_movable = λ k d within. absurd (omega arith);
         blocked_movable = waiting_are_movable farm whole.kept.rows.sound _;
       }
-    where
-      or_none : (t : Bool) → (t || false) ≡ t
-      or_none true = refl
-      or_none false = refl
 
   pub depend_follows : (n : NewDepend) → refusal_with f counts spec ≡ None → n ≡ coming f spec → (w : Follow) → w ≡ follow_new f.slots b.graph.done n → Follows farm farm (act.AddDepend spec) w
   depend_follows n none is w follows =

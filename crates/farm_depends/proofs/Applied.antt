@@ -1,14 +1,16 @@
 -- A change is applied: the books can take what follows, and with the book of depends they are the farm after it.
-use Rattle.std.proofs.Common.{◌≡◌, ℕ, Bool, true, false, eqb, ◌||◌, List, [], ◌∷◌, length, Option, Some, None, refl, ap, sym, subst, ◌∙◌, inl, inr, arith}
+use Rattle.std.proofs.Common.{◌≡◌, ℕ, Bool, true, false, eqb, ◌||◌, ◌&&◌, not, List, [], ◌∷◌, Option, Some, None, refl, ap, sym, subst, ◌∙◌, inl, inr, arith}
 use Rattle.std.specs.List.{list_any, slice_get}
-use Rattle.std.proofs.lemmas.Bool.{or_left}
+use Rattle.std.proofs.lemmas.Bool.{and_parts, or_left}
 use Rattle.std.proofs.lemmas.List.Folds.{list_any-append}
 use Rattle.farm_types.specs.declared.depend.DependRow.{DependRow}
 use Rattle.farm_types.specs.Depends.{groups_of, is_done}
 use Rattle.farm_types.specs.Farm.{Farm}
 use Rattle.farm_types.specs.Kept.{IsKeptFarm}
 use Rattle.farm_types.specs.Settle.{with_met}
+use Rattle.farm_types.proofs.Changed.{places}
 use Rattle.depend_law.proofs.MetAgain.{met_again}
+use Rattle.depend_law.proofs.Retried.{met_less}
 use Rattle.depend_law.proofs.Shapes.{SamePlace, groups_stay}
 use Rattle.depend_law.proofs.Stable.{met_stays}
 use Rattle.depend_graph.specs.Graph.{Watch, has_depend, watch_of}
@@ -16,13 +18,14 @@ use Rattle.depend_book.specs.declared.new_depend.NewDepend.{NewDepend}
 use Rattle.depend_book.specs.Book.{DependLists, IsBook, all_done_in, joined, with_new}
 use Rattle.farm_depends.specs.declared.follow.Follow.{Follow}
 use Rattle.farm_depends.specs.Fits.{Fits, IsWhole}
-use Rattle.farm_depends.specs.Follow.{CanAddAll, CanFollow, FollowFits, HasDrop, IsDropThere, IsOneKind, after_follow, depends_after, drop_in, follow_reserved, is_listed, slots_after, with_all, with_new_all, with_row, without}
+use Rattle.farm_depends.specs.Follow.{CanAddAll, CanFollow, FollowFits, HasDrop, IsDropThere, IsOneKind, NoneCome, after_follow, depends_after, drop_in, follow_reserved, is_listed, is_one, reopened_in, slots_after, with_all, with_new_all, with_row, without}
 use Rattle.farm_depends.proofs.Added.{Takes, takes_all}
 use Rattle.farm_depends.proofs.Completed.{Completes, completed_book, completed_farm, completed_fits}
 use Rattle.farm_depends.proofs.Dropped.{dropped_book, dropped_farm, dropped_fits}
 use Rattle.farm_depends.proofs.MetDropped.{met_before_drop}
 use Rattle.farm_depends.proofs.OpenUnmet.{depend_there}
 use Rattle.farm_depends.proofs.Pairs.{groups_joined}
+use Rattle.farm_depends.proofs.Reopened.{and_one, cleared_book, cleared_is, done_listed, flag_cleared}
 use Rattle.farm_depends.proofs.WithRow.{Numbered, numbered_kept, numbered_row}
 use Rattle.farm_depends.proofs.Zips.{or_none, zip_length}
 use Rattle.farm_depends.proofs.FollowSlots.{follow_done, follow_stand}
@@ -61,7 +64,7 @@ module _ (f0 f : Farm) (b : DependLists) (w : Follow) (whole : IsWhole f0 b) (bo
 
   -- ---- frames are done
 
-  module _ (none_come : w.depends ≡ []) (none_go : w.dropped ≡ None) where
+  module _ (none_come : NoneCome w) (none_back : w.reopened ≡ None) where
     completes : Completes f0 f b w.done
     completes =
         record {
@@ -70,11 +73,11 @@ module _ (f0 f : Farm) (b : DependLists) (w : Follow) (whole : IsWhole f0 b) (bo
           slots = omega (arith, zip_length SamePlace f.slots (slots_after f.slots w) (follow_stand f.slots w), kept.rows.jobs.slot_count);
           met = whole.kept.depends.met;
           groups_stay = groups_here;
-          done_are = follows.done_are;
+          done_are = λ slot. follows.done_are slot ∙ sym (done_listed (is_done f0.slots slot) w.done w slot refl none_back);
         }
 
     only_done : depends_after b w ≡ all_done_in b w.done
-    only_done i = all_done_in (drop_in (with_new_all b (none_come i)) (none_go i)) w.done
+    only_done i = all_done_in (reopened_in (drop_in (with_new_all b (none_come.0 i)) (none_come.1 i)) (none_back i)) w.done
 
     with_done_applies : Applies f b w
     with_done_applies =
@@ -82,21 +85,21 @@ module _ (f0 f : Farm) (b : DependLists) (w : Follow) (whole : IsWhole f0 b) (bo
           can =
               record {
                 reserved = refl;
-                adds = subst (CanAddAll b) (sym none_come) tt;
-                drop_there = subst (HasDrop (with_new_all b w.depends)) (sym none_go) tt;
+                adds = subst (CanAddAll b) (sym none_come.0) tt;
+                drop_there = subst (HasDrop (with_new_all b w.depends)) (sym none_come.1) tt;
                 opened_movable = follows.opened_movable;
                 blocked_movable = follows.blocked_movable;
               };
-          farm = ap (joined f) only_done ∙ (completed_farm f0 f b w.done completes ∙ λ i. with_met (without (with_all beside (sym none_come i)) (sym none_go i)));
+          farm = ap (joined f) only_done ∙ (completed_farm f0 f b w.done completes ∙ λ i. with_met (without (with_all beside (sym none_come.0 i)) (sym none_come.1 i)));
           fits = subst (Fits f) (sym only_done) (completed_fits f0 f b w.done completes);
           book = subst IsBook (sym only_done) (completed_book f0 f b w.done completes);
         }
 
   -- ---- depends come or go
 
-  module _ (none_done : w.done ≡ []) where
+  module _ (none_done : w.done ≡ []) (none_back : w.reopened ≡ None) where
     done_same : (slot : ℕ) → is_done f.slots slot ≡ is_done f0.slots slot
-    done_same slot = follows.done_are slot ∙ (ap (λ (list : List ℕ). is_done f0.slots slot || is_listed list slot) none_done ∙ or_none (is_done f0.slots slot))
+    done_same slot = follows.done_are slot ∙ (sym (done_listed (is_done f0.slots slot) [] w slot none_done none_back) ∙ or_none (is_done f0.slots slot))
 
     fits_now : Fits f b
     fits_now =
@@ -139,7 +142,7 @@ module _ (f0 f : Farm) (b : DependLists) (w : Follow) (whole : IsWhole f0 b) (bo
     book_dropped (Some n) = dropped_book f more n takes.book takes.fits met_more
 
     only_depends : depends_after b w ≡ drop_in more w.dropped
-    only_depends = ap (all_done_in (drop_in more w.dropped)) none_done
+    only_depends i = all_done_in (reopened_in (drop_in more w.dropped) (none_back i)) (none_done i)
 
     with_depends_applies : Applies f b w
     with_depends_applies =
@@ -157,11 +160,66 @@ module _ (f0 f : Farm) (b : DependLists) (w : Follow) (whole : IsWhole f0 b) (bo
           book = subst IsBook (sym only_depends) (book_dropped w.dropped);
         }
 
-  -- ---- either
+  -- ---- a frame isn't done any more
+
+  module _ (none_come : NoneCome w) (none_done : w.done ≡ []) where
+    done_but : (slot : ℕ) → is_done f.slots slot ≡ (is_done f0.slots slot && not (is_one w.reopened slot))
+    done_but slot =
+        follows.done_are slot
+        ∙ (ap (λ (list : List ℕ). (is_done f0.slots slot && not (is_one w.reopened slot)) || is_listed list slot) none_done ∙ or_none (is_done f0.slots slot && not (is_one w.reopened slot)))
+
+    -- what was met is met
+    met_kept : with_met beside ≡ beside
+    met_kept =
+        met_less (joined f0 b) whole.kept.depends beside (record { depends = refl; met = refl; groups = follows.groups_stay })
+        (λ slot h. (and_parts (is_done f0.slots slot) (not (is_one w.reopened slot)) (sym (done_but slot) ∙ h)).0)
+
+    farm_reopened : (o : Option ℕ) → joined f (reopened_in b o) ≡ beside
+    farm_reopened None = refl
+    farm_reopened (Some n) = ap (joined f) (cleared_is b n book)
+
+    book_reopened : (o : Option ℕ) → IsBook (reopened_in b o)
+    book_reopened None = book
+    book_reopened (Some n) = subst IsBook (sym (cleared_is b n book)) (cleared_book b n book)
+
+    fits_reopened : (o : Option ℕ) → ((slot : ℕ) → is_done f.slots slot ≡ (is_done f0.slots slot && not (is_one o slot))) → Fits f (reopened_in b o)
+    fits_reopened None same =
+        record {
+          done = λ slot. whole.fits.done slot ∙ sym (same slot ∙ and_one (is_done f0.slots slot));
+          groups = λ i d v row watch unmet. whole.fits.groups i d v row watch unmet ∙ sym (groups_here i d row unmet);
+        }
+    fits_reopened (Some n) same =
+        subst (Fits f) (sym (cleared_is b n book))
+        (record {
+          done = λ slot. flag_cleared b.graph.done n slot (places slot n) ∙ (ap (λ (was : Bool). was && not (eqb n slot)) (whole.fits.done slot) ∙ sym (same slot));
+          groups = λ i d v row watch unmet. whole.fits.groups i d v row watch unmet ∙ sym (groups_here i d row unmet);
+        })
+
+    only_reopened : depends_after b w ≡ reopened_in b w.reopened
+    only_reopened i = all_done_in (reopened_in (drop_in (with_new_all b (none_come.0 i)) (none_come.1 i)) w.reopened) (none_done i)
+
+    with_reopened_applies : Applies f b w
+    with_reopened_applies =
+        record {
+          can =
+              record {
+                reserved = refl;
+                adds = subst (CanAddAll b) (sym none_come.0) tt;
+                drop_there = subst (HasDrop (with_new_all b w.depends)) (sym none_come.1) tt;
+                opened_movable = follows.opened_movable;
+                blocked_movable = follows.blocked_movable;
+              };
+          farm = ap (joined f) only_reopened ∙ (farm_reopened w.reopened ∙ (sym met_kept ∙ λ i. with_met (without (with_all beside (sym none_come.0 i)) (sym none_come.1 i))));
+          fits = subst (Fits f) (sym only_reopened) (fits_reopened w.reopened done_but);
+          book = subst IsBook (sym only_reopened) (book_reopened w.reopened);
+        }
+
+  -- ---- any of them
 
   by_kind : IsOneKind w → Applies f b w
   by_kind (inl none) = with_done_applies none.0 none.1
-  by_kind (inr none) = with_depends_applies none
+  by_kind (inr (inl none)) = with_depends_applies none.0 none.1
+  by_kind (inr (inr none)) = with_reopened_applies none.0 none.1
 
   applies : Applies f b w
   applies = by_kind follows.one_kind

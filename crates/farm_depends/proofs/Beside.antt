@@ -1,9 +1,10 @@
 -- The books beside the book of depends: what the one says of the other's farm.
 use Rattle.std.proofs.Common.{◌≡◌, ℕ, refl}
 use Rattle.farm_types.specs.declared.entry.Act.{Act}
-use Rattle.farm_types.specs.declared.entry.Act.TheVariants.{Opened, Show, Alloc, Sub, Boot, Heard, Submit, AddDepend, DropDepend, Lock, Tick, Book}
+use Rattle.farm_types.specs.declared.entry.Act.TheVariants.{Opened, Show, Alloc, Sub, Boot, Heard, Submit, AddDepend, DropDepend, Pause, KillJob, KillFrame, EatFrame, RetryFrame, Lock, Tick, Book}
 use Rattle.farm_types.specs.Farm.{Farm}
 use Rattle.farm_types.specs.Kept.{KeepsAttempts, KeepsRows}
+use Rattle.farm_types.specs.Operators.{slot_named}
 use Rattle.farm_types.specs.Run.{IsSound}
 use Rattle.farm_types.specs.Step.{act_refusal}
 use Rattle.farm_changes.specs.Change.{FitsMore, IsReady, after_change, with_more, with_rows}
@@ -42,6 +43,7 @@ with_more_joined f b moment (more.Show name) = refl
 with_more_joined f b moment (more.Alloc facility tag) = refl
 with_more_joined f b moment (more.Sub sub size burst) = refl
 with_more_joined f b moment (more.Boot planned line) = refl
+with_more_joined f b moment (more.Paused job paused) = refl
 with_more_joined f b moment (more.Job placing spec) = refl
 
 pub joined_change : (f : Farm) (b : DependLists) (change : Change) → joined (after_change f change) b ≡ after_change (joined f b) change
@@ -53,6 +55,7 @@ more_apart f b (more.Show name) fits = fits
 more_apart f b (more.Alloc facility tag) fits = fits
 more_apart f b (more.Sub sub size burst) fits = fits
 more_apart f b (more.Boot planned line) fits = fits
+more_apart f b (more.Paused job paused) fits = fits
 more_apart f b (more.Job placing spec) fits = record { limits = fits.limits; accepted = fits.accepted; placed = fits.placed }
 
 more_joined : (f : Farm) (b : DependLists) (m : More) → FitsMore f m → FitsMore (joined f b) m
@@ -61,6 +64,7 @@ more_joined f b (more.Show name) fits = fits
 more_joined f b (more.Alloc facility tag) fits = fits
 more_joined f b (more.Sub sub size burst) fits = fits
 more_joined f b (more.Boot planned line) fits = fits
+more_joined f b (more.Paused job paused) fits = fits
 more_joined f b (more.Job placing spec) fits = record { limits = fits.limits; accepted = fits.accepted; placed = fits.placed }
 
 -- a change that fits the farm fits its books, and the other way round
@@ -75,6 +79,7 @@ ready_joined f b change ready =
 -- ---- refusals
 
 pub refusal_joined : (f : Farm) (b : DependLists) (act : Act) → act_refusal (joined f b) act ≡ act_refusal f act
+unfolding slot_named
 refusal_joined f b Opened = refl
 refusal_joined f b (Show name) = refl
 refusal_joined f b (Alloc facility tag) = refl
@@ -84,6 +89,11 @@ refusal_joined f b (Heard heard) = refl
 refusal_joined f b (Submit spec) = refl
 refusal_joined f b (AddDepend spec) = refl
 refusal_joined f b (DropDepend depend) = refl
+refusal_joined f b (Pause job paused) = refl
+refusal_joined f b (KillJob job) = refl
+refusal_joined f b (KillFrame p) = refl
+refusal_joined f b (EatFrame p) = refl
+refusal_joined f b (RetryFrame p) = refl
 refusal_joined f b (Lock host lock) = refl
 refusal_joined f b Tick = refl
 refusal_joined f b (Book slot host) = refl
@@ -96,6 +106,7 @@ alone_more f moment (more.Show name) = refl
 alone_more f moment (more.Alloc facility tag) = refl
 alone_more f moment (more.Sub sub size burst) = refl
 alone_more f moment (more.Boot planned line) = refl
+alone_more f moment (more.Paused job paused) = refl
 alone_more f moment (more.Job placing spec) = refl
 
 -- a change of the books leaves their depends

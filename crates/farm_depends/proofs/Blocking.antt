@@ -33,7 +33,7 @@ block_by true true listed now is free = sym (ap not is ∙ not_not listed)
 block_by true false listed now is free = absurd (true≢false free)
 block_by false was listed now is free = refl
 
-waits_free : (frame : Option Frame) (unmet : Bool) → (for_some frame (λ x. is_waiting x.state || is_running x.state) && unmet) ≡ false → (on_frame is_waiting frame && unmet) ≡ false
+pub waits_free : (frame : Option Frame) (unmet : Bool) → (for_some frame (λ x. is_waiting x.state || is_running x.state) && unmet) ≡ false → (on_frame is_waiting frame && unmet) ≡ false
 waits_free None unmet free = refl
 waits_free (Some x) unmet free = first (is_waiting x.state) free
   where
@@ -48,7 +48,7 @@ pub slots_stay : (f : Farm) (ns : List NewDepend) → (with_all f ns).slots ≡ 
 slots_stay f [] = refl
 slots_stay f (n ∷ ns) = slots_stay (with_row f n) ns
 
-block_makes : (change : ℕ → ℕ) (f : Farm) → record f { slots = blocked_from change f 0 f.slots } ≡ with_blocked change f
+pub block_makes : (change : ℕ → ℕ) (f : Farm) → record f { slots = blocked_from change f 0 f.slots } ≡ with_blocked change f
 unfolding with_blocked
 block_makes change f = refl
 

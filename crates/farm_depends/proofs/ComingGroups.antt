@@ -1,32 +1,28 @@
 -- The groups of a depend whose ends are there, and what is refused of it.
-use Rattle.std.proofs.Common.{◌≡◌, ℕ, ◌<◌, ◌≤◌, Bool, true, false, List, [], ◌∷◌, ◌++◌, length, get_or, Option, None, Some, Err, Ok, Result, All, refl, sym, ap, subst, ◌∙◌, arith}
-use Rattle.std.specs.List.{list_all, slice_get}
+use Rattle.std.proofs.Common.{◌≡◌, ℕ, ◌≤◌, List, [], ◌∷◌, ◌++◌, length, get_or, Option, None, Some, Err, All, refl, sym, ap, ◌∙◌, arith}
+use Rattle.std.specs.List.{slice_get}
 use Rattle.std.proofs.lemmas.Option.{slice_get-get_or}
-use Rattle.farm_types.specs.declared.depend.DependRow.{DependRow}
 use Rattle.farm_types.specs.declared.depend.DependSpec.{DependSpec}
 use Rattle.farm_types.specs.declared.depend.Group.{Group}
-use Rattle.farm_types.specs.declared.depend.Place.{Place}
-use Rattle.farm_types.specs.declared.depend.Shape.{Shape}
 use Rattle.farm_types.specs.declared.limits.TheConstants.{MOST_FRAMES}
 use Rattle.farm_types.specs.declared.refusal.Refusal.{Refusal}
 use Rattle.farm_types.specs.DependActs.{end_of, new_depend, new_groups, or_else, place_refusal}
 use Rattle.farm_types.specs.Depends.{groups_of, shape_of}
 use Rattle.farm_types.specs.Farm.{Farm}
 use Rattle.farm_types.specs.Groups.{all_slots, groups_by, part_at, part_of}
-use Rattle.farm_types.specs.Kept.{KeepsRows, is_end_there}
-use Rattle.depend_book.specs.declared.new_depend.NewDepend.{NewDepend}
+use Rattle.farm_types.specs.Kept.{KeepsRows}
 use Rattle.depend_graph.specs.Graph.{IsGroup}
 use Rattle.depend_law.proofs.Among.{Among, among_then}
 use Rattle.depend_law.proofs.Placed.{HoldsOf}
 use Rattle.depend_law.proofs.GroupSlots.{group_waiters, groups_among}
 use Rattle.depend_law.proofs.Waiters.{DependHolds, all_waiters, depend_holds, end_pending, job_shape}
-use Rattle.farm_changes.specs.declared.fault.PrepareFault.{PrepareFault}
-use Rattle.farm_changes.specs.declared.fault.PrepareFault.TheVariants.{Refused, NoMemory}
+use Rattle.farm_places.specs.declared.fault.PrepareFault.{PrepareFault}
+use Rattle.farm_places.specs.declared.fault.PrepareFault.TheVariants.{Refused, NoMemory}
 use Rattle.farm_depends.specs.declared.counts.Counts.{Counts}
-use Rattle.farm_depends.specs.declared.ends.FoundEnd.{FoundEnd}
+use Rattle.farm_places.specs.declared.ends.FoundEnd.{FoundEnd}
 use Rattle.farm_depends.specs.Coming.{Comes, groups_refusal_with, refusal_with, waiters_of}
-use Rattle.farm_depends.specs.Ends.{FindsEnd, IsEnd, Refuses}
-use Rattle.farm_depends.proofs.ShownParts.{groups_shown}
+use Rattle.farm_places.specs.Ends.{FindsEnd, IsEnd, Refuses}
+use Rattle.farm_places.proofs.ShownParts.{groups_shown}
 use Rattle.farm_depends.proofs.ToCome.{place_there}
 
 module _ (f : Farm) (rows : KeepsRows f) (spec : DependSpec) (waiter : place_refusal f spec.waiter ≡ None) (target : place_refusal f spec.target ≡ None) where

@@ -1,18 +1,17 @@
 -- Depends that come in turn: each as in the farm without the others, but for the counts.
-use Rattle.std.proofs.Common.{◌≡◌, ℕ, zero, suc, ◌+◌, ◌<◌, ◌≤◌, Bool, true, false, cond, List, [], ◌∷◌, ◌++◌, length, map, get_or, take, drop, Option, Some, None, All, refl, sym, ap, subst, ◌∙◌, arith, length-append}
-use Rattle.std.specs.List.{slice_get, sum_by}
+use Rattle.std.proofs.Common.{◌≡◌, ℕ, zero, suc, ◌+◌, ◌<◌, cond, List, [], ◌∷◌, ◌++◌, length, map, get_or, take, drop, Option, Some, None, All, refl, sym, ap, subst, ◌∙◌, arith, length-append}
+use Rattle.std.specs.List.{slice_get}
 use Rattle.std.proofs.lemmas.List.{drop_more, map_push, take_more}
 use Rattle.std.proofs.lemmas.List.Sums.{sum_by-append, sum_by-cons}
 use Rattle.std.proofs.lemmas.Option.{get_or_from_slice_get, none-some, same_Some, slice_get_within}
 use Rattle.farm_types.specs.declared.depend.DependRow.{DependRow}
 use Rattle.farm_types.specs.declared.depend.DependSpec.{DependSpec}
-use Rattle.farm_types.specs.declared.depend.Group.{Group}
 use Rattle.farm_types.specs.declared.depend.MetRow.{MetRow}
 use Rattle.farm_types.specs.declared.job.JobSpec.{JobSpec}
 use Rattle.farm_types.specs.Formed.{IsFormedOwn}
 use Rattle.std.proofs.Common.{Err}
-use Rattle.farm_changes.specs.declared.fault.PrepareFault.{PrepareFault}
-use Rattle.farm_changes.specs.declared.fault.PrepareFault.TheVariants.{Refused, NoMemory}
+use Rattle.farm_places.specs.declared.fault.PrepareFault.{PrepareFault}
+use Rattle.farm_places.specs.declared.fault.PrepareFault.TheVariants.{Refused, NoMemory}
 use Rattle.farm_types.specs.declared.refusal.Refusal.{Refusal}
 use Rattle.farm_types.specs.DependActs.{add_depend, depend_refusal, depends_refusal, new_depend, new_groups, or_else, place_refusal}
 use Rattle.farm_types.specs.Depends.{groups_left, groups_of}

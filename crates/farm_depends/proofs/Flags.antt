@@ -1,16 +1,17 @@
 -- Frames are done one after the other: the flags and the groups of the graph after them, whatever their order.
 use Rattle.std.proofs.Common.{◌≡◌, ◌≢◌, ℕ, suc, ◌<◌, Bool, true, false, cond, ◌||◌, eqb, List, [], ◌∷◌, map, length, Option, Some, None, refl, sym, ap, subst, ◌∙◌, ◌⊎◌, inl, inr}
-use Rattle.std.specs.List.{list_all, list_any, slice_get, slice_set}
+use Rattle.std.specs.List.{list_any, slice_get, slice_set}
 use Rattle.std.proofs.Math.ListN.{length-set}
-use Rattle.std.proofs.lemmas.Bool.{and_from, and_parts, eq-eqb, ne_eqb, false≢true, or_cases, or_left, or_right}
+use Rattle.std.proofs.lemmas.Bool.{and_from, and_parts, eq-eqb, ne_eqb, false≢true, or_left, or_right}
 use Rattle.std.proofs.lemmas.Option.{slice_get_within}
 use Rattle.farm_types.specs.declared.depend.Group.{Group}
 use Rattle.farm_types.specs.Depends.{are_done}
 use Rattle.farm_types.specs.Farm.{for_some}
 use Rattle.farm_types.proofs.Changed.{places, slice_get-set_other, slice_get-set_same}
-use Rattle.farm_types.proofs.Lists.{list_all-at, list_all-from_at, slice_get_below}
+use Rattle.farm_types.proofs.Lists.{slice_get_below}
 use Rattle.depend_graph.specs.Graph.{GraphLists, Watch, Watched, completed, completed_in, is_completed, is_flagged, with_all_done, with_done}
 use Rattle.farm_depends.specs.Follow.{is_listed}
+use Rattle.depend_law.proofs.Fewer.{are_done_more}
 use Rattle.depend_law.proofs.Stable.{list_all-same}
 use Rattle.farm_depends.proofs.Zips.{list_any-alike, list_any-at, map_in_turn, map_kept, or_none}
 
@@ -40,7 +41,7 @@ flag_set flags s slot within (inr apart) =
     flag_other flags s slot apart ∙ sym (ap (λ (b : Bool). is_flagged flags slot || b) (ne_eqb s slot (λ e. apart (sym e))) ∙ or_none (is_flagged flags slot))
 
 -- what was done is done
-flagged_within : (flags : List Bool) (slot : ℕ) (o : Option Bool) → slice_get flags slot ≡ o → for_some o (λ flag. flag) ≡ true → slot < length flags
+pub flagged_within : (flags : List Bool) (slot : ℕ) (o : Option Bool) → slice_get flags slot ≡ o → for_some o (λ flag. flag) ≡ true → slot < length flags
 flagged_within flags slot None at is = absurd (false≢true is)
 flagged_within flags slot (Some flag) at is = slice_get_within flags slot flag at
 
@@ -65,22 +66,6 @@ flags_are flags (s ∷ ss) slot within =
     ∙ (ap (λ (b : Bool). b || is_listed ss slot) (flag_set flags s slot (within 0 s refl) (places slot s)) ∙ or_assoc (is_flagged flags slot) (eqb s slot) (is_listed ss slot))
 
 -- ---- targets
-
-any_step : (p q : ℕ → Bool) → ((slot : ℕ) → p slot ≡ true → q slot ≡ true) → (t : ℕ) (ts : List ℕ) → (p t ≡ true) ⊎ (list_any p ts ≡ true) → (list_any p ts ≡ true → list_any q ts ≡ true) → list_any q (t ∷ ts) ≡ true
-any_step p q more t ts (inl here) rest = or_left (q t) (list_any q ts) (more t here)
-any_step p q more t ts (inr later) rest = or_right (q t) (list_any q ts) (rest later)
-
-any_more : (p q : ℕ → Bool) → ((slot : ℕ) → p slot ≡ true → q slot ≡ true) → (ts : List ℕ) → list_any p ts ≡ true → list_any q ts ≡ true
-any_more p q more [] h = h
-any_more p q more (t ∷ ts) h = any_step p q more t ts (or_cases (p t) (list_any p ts) h) (any_more p q more ts)
-
-done_by : (p q : ℕ → Bool) → ((slot : ℕ) → p slot ≡ true → q slot ≡ true) → (ts : List ℕ) (b : Bool) → cond b (list_any p ts) (list_all p ts) ≡ true → cond b (list_any q ts) (list_all q ts) ≡ true
-done_by p q more ts true h = any_more p q more ts h
-done_by p q more ts false h = list_all-from_at q ts (λ n t at. more t (list_all-at p ts n t h at))
-
--- more are done
-pub are_done_more : (p q : ℕ → Bool) (g : Group) → ((slot : ℕ) → p slot ≡ true → q slot ≡ true) → are_done p g ≡ true → are_done q g ≡ true
-are_done_more p q g more h = done_by p q more g.targets g.any h
 
 -- the same are done
 pub are_done_alike : (p q : ℕ → Bool) (g : Group) → ((k t : ℕ) → slice_get g.targets k ≡ Some t → p t ≡ q t) → are_done p g ≡ are_done q g

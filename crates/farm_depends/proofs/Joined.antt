@@ -1,17 +1,23 @@
 -- What an act does to the books beside the depends, it does to the whole farm.
-use Rattle.std.proofs.Common.{◌≡◌, ℕ, Bool, true, false, cond, List, [], ◌∷◌, Option, None, Some, refl, ap, ◌∙◌}
+use Rattle.std.proofs.Common.{◌≡◌, ℕ, Bool, true, false, cond, List, [], ◌∷◌, Option, None, Some, refl, ap, sym, ◌∙◌}
 use Rattle.farm_types.specs.declared.attempt.DoneItem.{DoneItem}
 use Rattle.farm_types.specs.declared.attempt.ProcRow.{ProcRow}
 use Rattle.farm_types.specs.declared.boot.BootLine.{BootLine}
 use Rattle.farm_types.specs.declared.entry.Act.{Act}
-use Rattle.farm_types.specs.declared.entry.Act.TheVariants.{Opened, Show, Alloc, Sub, Boot, Heard, Submit, AddDepend, DropDepend, Lock, Tick, Book}
+use Rattle.farm_types.specs.declared.entry.Act.TheVariants.{Opened, Show, Alloc, Sub, Boot, Heard, Submit, AddDepend, DropDepend, Pause, KillJob, KillFrame, EatFrame, RetryFrame, Lock, Tick, Book}
 use Rattle.farm_types.specs.declared.entry.Entry.{Entry}
+use Rattle.farm_types.specs.declared.entry.FramePlace.{FramePlace}
 use Rattle.farm_types.specs.declared.entry.HeardAct.{HeardAct}
 use Rattle.farm_types.specs.declared.job.JobSpec.{JobSpec}
+use Rattle.farm_types.specs.declared.rows.JobRow.{JobRow}
+use Rattle.farm_types.specs.declared.slot_row.SlotRow.{SlotRow}
+use Rattle.farm_types.specs.declared.states.FrameState.TheVariants.{Dead, Eaten}
 use Rattle.farm_types.specs.declared.states.LockState.{LockState}
 use Rattle.farm_types.specs.declared.sub_line.SubLine.{SubLine}
+use Rattle.farm_types.specs.DependActs.{pending_named}
 use Rattle.farm_types.specs.Farm.{Farm, alloc_named, changed_at, host_named, show_named}
 use Rattle.farm_types.specs.Hosts.{heard_row}
+use Rattle.farm_types.specs.Operators.{retried_row, slot_named, stopped_row, with_frame, with_killed, with_paused, with_row_at}
 use Rattle.farm_types.specs.Step.{acted, after_act, after_boot, after_heard, after_lock, after_sub, after_submit, at_moment, end_all, end_attempt, ended_row, expire, is_live, moment_of, new_proc, sub_named, with_proc}
 use Rattle.depend_book.specs.Book.{DependLists, joined}
 
@@ -53,6 +59,26 @@ module _ (b : DependLists) where
   joined_proc f slot None = refl
   joined_proc f slot (Some p) = refl
 
+  joined_pause : (f : Farm) (paused : Bool) (o : Option JobRow) → joined (with_paused f paused o) b ≡ with_paused (joined f b) paused o
+  joined_pause f paused None = refl
+  joined_pause f paused (Some j) = refl
+
+  joined_kill : (f : Farm) (o : Option JobRow) → joined (with_killed f o) b ≡ with_killed (joined f b) o
+  joined_kill f None = refl
+  joined_kill f (Some j) = refl
+
+  joined_row : (f : Farm) (change : SlotRow → SlotRow) (o : Option ℕ) → joined (with_row_at f change o) b ≡ with_row_at (joined f b) change o
+  joined_row f change None = refl
+  joined_row f change (Some slot) = refl
+
+  -- the same frame is named
+  pub joined_named : (f : Farm) (p : FramePlace) → slot_named (joined f b) p ≡ slot_named f p
+  unfolding slot_named
+  joined_named f p = refl
+
+  joined_frame : (f : Farm) (p : FramePlace) (change : SlotRow → SlotRow) → joined (with_frame f p change) b ≡ with_frame (joined f b) p change
+  joined_frame f p change = joined_row f change (slot_named f p) ∙ ap (with_row_at (joined f b) change) (sym (joined_named f p))
+
   joined_act : (f : Farm) (moment : ℕ) (act : Act) → joined (after_act f moment act) b ≡ after_act (joined f b) moment act
   joined_act f moment Opened = refl
   joined_act f moment (Show name) = refl
@@ -63,6 +89,11 @@ module _ (b : DependLists) where
   joined_act f moment (Submit spec) = joined_submit f spec (show_named f spec.show)
   joined_act f moment (AddDepend spec) = refl
   joined_act f moment (DropDepend depend) = refl
+  joined_act f moment (Pause job paused) = joined_pause f paused (pending_named f job)
+  joined_act f moment (KillJob job) = joined_kill f (pending_named f job)
+  joined_act f moment (KillFrame p) = joined_frame f p (stopped_row Dead)
+  joined_act f moment (EatFrame p) = joined_frame f p (stopped_row Eaten)
+  joined_act f moment (RetryFrame p) = joined_frame f p retried_row
   joined_act f moment (Lock host lock) = joined_lock f lock (host_named f host)
   joined_act f moment Tick = refl
   joined_act f moment (Book slot host) = joined_proc f slot (new_proc f slot host moment)

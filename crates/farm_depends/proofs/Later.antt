@@ -5,7 +5,7 @@ use Rattle.farm_types.specs.declared.depend.DependRow.{DependRow}
 use Rattle.farm_types.specs.declared.depend.DependSpec.{DependSpec}
 use Rattle.farm_types.specs.declared.depend.MetRow.{MetRow}
 use Rattle.farm_types.specs.declared.entry.Act.{Act}
-use Rattle.farm_types.specs.declared.entry.Act.TheVariants.{Heard, Submit, AddDepend, DropDepend}
+use Rattle.farm_types.specs.declared.entry.Act.TheVariants.{Heard, Submit, AddDepend, DropDepend, KillJob, EatFrame, RetryFrame}
 use Rattle.farm_types.specs.declared.entry.Entry.{Entry}
 use Rattle.farm_types.specs.declared.job.JobSpec.{JobSpec}
 use Rattle.farm_types.specs.declared.slot_row.SlotRow.{SlotRow}
@@ -19,8 +19,8 @@ use Rattle.depend_book.specs.Book.{DependLists, joined}
 use Rattle.depend_book.specs.declared.new_depend.NewDepend.{NewDepend}
 use Rattle.farm_changes.specs.Change.{Makes, after_change}
 use Rattle.farm_changes.specs.declared.change.Change.{Change}
-use Rattle.farm_changes.specs.declared.fault.PrepareFault.{PrepareFault}
-use Rattle.farm_changes.specs.declared.fault.PrepareFault.TheVariants.{Refused, NoMemory}
+use Rattle.farm_places.specs.declared.fault.PrepareFault.{PrepareFault}
+use Rattle.farm_places.specs.declared.fault.PrepareFault.TheVariants.{Refused, NoMemory}
 use Rattle.farm_depends.specs.Follow.{AreRoomy, FollowFits, Follows, IsDropThere, IsRoomy, PreparesFollow, after_follow, slots_after, with_all, with_row, without}
 use Rattle.farm_depends.specs.declared.follow.Follow.{Follow}
 
@@ -86,6 +86,9 @@ module _ (moment : ℕ) where
   followed_later f (Submit spec) = depends_later f spec.depends
   followed_later f (AddDepend spec) = blocked_settle_later raised (add_depend f spec)
   followed_later f (DropDepend depend) = settle_later (dropped f depend)
+  followed_later f (KillJob job) = settle_later f
+  followed_later f (EatFrame p) = settle_later f
+  followed_later f (RetryFrame p) = blocked_later kept_version f
   followed_later f other = refl
 
   -- ---- what follows

@@ -66,7 +66,7 @@ twice_step : (p q : ℕ → Bool) (x : ℕ) (b : Bool) (xs ys : List ℕ) → fi
 twice_step p q x true xs ys rest = ap (λ (zs : List ℕ). cond (p x) (x ∷ zs) zs) rest ∙ ap (λ (c : Bool). cond c (x ∷ ys) ys) (sym (and_one (p x)))
 twice_step p q x false xs ys rest = rest ∙ ap (λ (c : Bool). cond c (x ∷ ys) ys) (sym (and_right (p x) false refl))
 
-filter_twice : (p q : ℕ → Bool) (xs : List ℕ) → filter p (filter q xs) ≡ filter (λ x. p x && q x) xs
+pub filter_twice : (p q : ℕ → Bool) (xs : List ℕ) → filter p (filter q xs) ≡ filter (λ x. p x && q x) xs
 filter_twice p q [] = refl
 filter_twice p q (x ∷ xs) = twice_step p q x (q x) (filter q xs) (filter (λ y. p y && q y) xs) (filter_twice p q xs)
 

@@ -1,12 +1,9 @@
 -- The name of a job's frame, read from the job's shape.
-use Rattle.std.proofs.Common.{◌≡◌, ℕ, ℤ, zero, suc, ◌<◌, ◌≤◌, Bool, true, false, cond, eqb, List, [], ◌∷◌, ◌++◌, length, map, Option, Some, None, refl, sym, ap, ◌∙◌, ◌⊎◌, inl, inr, arith}
+use Rattle.std.proofs.Common.{◌≡◌, ℕ, ℤ, zero, suc, Bool, true, false, cond, eqb, List, [], ◌∷◌, length, map, Option, Some, None, refl, sym, ap, ◌∙◌, ◌⊎◌, inl, inr, arith}
 use Rattle.std.specs.List.{slice_get}
 use Rattle.std.proofs.lemmas.Bool.{eq-eqb, eqb-true}
 use Rattle.std.proofs.lemmas.Option.{none-some, same_Some}
-use Rattle.farm_types.specs.declared.depend.LayerShape.{LayerShape}
 use Rattle.farm_types.specs.declared.rows.LayerRow.{LayerRow}
-use Rattle.farm_types.specs.declared.slot_row.Frame.{Frame}
-use Rattle.farm_types.specs.declared.slot_row.SlotRow.{SlotRow}
 use Rattle.farm_types.specs.DependActs.{frame_name_at, layer_name_of, name_of_frame, name_of_slot}
 use Rattle.farm_types.specs.Depends.{layer_shape, shape_of, slots_placed}
 use Rattle.farm_types.specs.Farm.{Farm, layers_of}
@@ -17,9 +14,9 @@ use Rattle.farm_types.specs.Ranges.{range_numbers}
 use Rattle.farm_types.specs.Step.{lists_of}
 use Rattle.farm_law.proofs.KeptJobsAdded.{in_either}
 use Rattle.farm_depends.specs.Placed.{name_in, named_or, number_among}
-use Rattle.farm_depends.specs.Shapes.{AreLayers}
-use Rattle.farm_depends.proofs.KeptShapes.{length-placed, named_at}
-use Rattle.farm_depends.proofs.ShownParts.{layers_of_are}
+use Rattle.farm_places.specs.Shapes.{AreLayers}
+use Rattle.farm_places.proofs.KeptShapes.{length-placed, named_at}
+use Rattle.farm_places.proofs.ShownParts.{layers_of_are}
 
 -- ---- numbers by slots
 

@@ -1,7 +1,7 @@
 -- Which of a new job's frames its depends block.
-use Rattle.std.proofs.Common.{◌≡◌, ℕ, zero, suc, ◌+◌, ◌<◌, ◌≤◌, ◌&&◌, ◌||◌, Bool, true, false, cond, not, eqb, List, [], ◌∷◌, ◌++◌, length, map, filter, get_or, Option, Some, None, All, refl, sym, ap, subst, ◌∙◌, arith}
+use Rattle.std.proofs.Common.{◌≡◌, ℕ, zero, suc, ◌&&◌, ◌||◌, Bool, true, false, cond, not, eqb, List, [], ◌∷◌, ◌++◌, length, filter, get_or, Option, Some, None, All, refl, sym, ap, subst, ◌∙◌, arith}
 use Rattle.std.specs.Prelude.{nat_eq}
-use Rattle.std.specs.List.{IsDistinct, list_all, list_any, slice_get}
+use Rattle.std.specs.List.{IsDistinct, list_all, slice_get}
 use Rattle.std.proofs.lemmas.Bool.{eq-eqb, eqb-true, lt-ltb, false≢true}
 use Rattle.std.proofs.lemmas.List.Elements.{All-filter}
 use Rattle.std.proofs.lemmas.List.Folds.{list_all-append}
@@ -15,11 +15,11 @@ use Rattle.farm_types.specs.declared.limits.TheConstants.{SLOT_LIMIT}
 use Rattle.farm_types.specs.declared.rows.JobRow.{JobRow}
 use Rattle.farm_types.specs.declared.slot_row.Frame.{Frame}
 use Rattle.farm_types.specs.declared.slot_row.SlotRow.{SlotRow}
-use Rattle.farm_types.specs.DependActs.{end_of, new_groups, place_refusal}
-use Rattle.farm_types.specs.Depends.{are_done, groups_of, is_done, is_done_state, shape_of}
+use Rattle.farm_types.specs.DependActs.{new_groups, place_refusal}
+use Rattle.farm_types.specs.Depends.{is_done, is_done_state, shape_of}
 use Rattle.farm_types.specs.Farm.{Farm, for_some}
 use Rattle.farm_types.specs.Groups.{all_slots}
-use Rattle.farm_types.specs.Jobs.{fresh_slot, frames_of, is_free, place_frames, slot_with}
+use Rattle.farm_types.specs.Jobs.{frames_of, is_free, place_frames, slot_with}
 use Rattle.farm_types.specs.Kept.{is_of_pending}
 use Rattle.farm_types.proofs.Lists.{and_both, list_all-from_at}
 use Rattle.farm_law.proofs.KeptJobsAdded.{new_pending}

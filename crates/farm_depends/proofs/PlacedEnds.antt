@@ -1,16 +1,15 @@
 -- Ends of a job's depends in the farm with the job, and what is refused of them.
-use Rattle.std.proofs.Common.{◌≡◌, ℕ, suc, ◌+◌, ◌<◌, ◌≤◌, ◌||◌, Bool, true, false, cond, eqb, List, [], ◌∷◌, ◌++◌, length, Option, Some, None, Err, Ok, Result, All, option_map, refl, sym, ap, subst, ◌∙◌, arith}
+use Rattle.std.proofs.Common.{◌≡◌, ℕ, suc, ◌||◌, Bool, true, false, cond, eqb, List, [], ◌∷◌, ◌++◌, length, Option, Some, None, Err, Ok, Result, All, option_map, refl, sym, ap, subst, ◌∙◌, arith}
 use Rattle.std.specs.List.{find, list_any, position_or_len, slice_get}
 use Rattle.std.specs.Str.{bytes_eq}
 use Rattle.std.specs.Cmp.Lexicographic.{nat_list_eq_equiv}
 use Rattle.std.proofs.lemmas.Slice.Eq.{bytes_eq-Decides}
 use Rattle.std.proofs.lemmas.Bool.{ne_eqb, false≢true}
 use Rattle.std.proofs.lemmas.List.Folds.{find_at}
-use Rattle.std.proofs.lemmas.Option.{none-some, same_Some}
+use Rattle.std.proofs.lemmas.Option.{none-some}
 use Rattle.farm_types.specs.declared.depend.DependEnd.{DependEnd}
 use Rattle.farm_types.specs.declared.depend.DependSpec.{DependSpec}
 use Rattle.farm_types.specs.declared.depend.Group.{Group}
-use Rattle.farm_types.specs.declared.depend.LayerShape.{LayerShape}
 use Rattle.farm_types.specs.declared.depend.Place.{Place}
 use Rattle.farm_types.specs.declared.depend.Shape.{Shape}
 use Rattle.farm_types.specs.declared.job.JobSpec.{JobSpec}
@@ -22,10 +21,9 @@ use Rattle.farm_types.specs.declared.slot_row.SlotRow.{SlotRow}
 use Rattle.farm_types.specs.declared.states.FrameState.{FrameState}
 use Rattle.farm_types.specs.declared.states.FrameState.TheVariants as frame_state
 use Rattle.farm_types.specs.Booking.{is_waiting}
-use Rattle.farm_types.specs.DependActs.{end_of, end_refusal, frame_name_at, is_running, new_groups, number_of, or_else, part_refusal, pending_named, place_refusal, runs_already, runs_at, waits_for_itself}
+use Rattle.farm_types.specs.DependActs.{end_of, end_refusal, frame_name_at, is_running, new_groups, number_of, or_else, pending_named, place_refusal, runs_already, runs_at, waits_for_itself}
 use Rattle.farm_types.specs.Depends.{shape_of}
 use Rattle.farm_types.specs.Farm.{Farm, for_some}
-use Rattle.farm_types.specs.Groups.{all_slots}
 use Rattle.farm_types.specs.Jobs.{is_pending_named, job_row}
 use Rattle.farm_types.specs.Rising.{job_key}
 use Rattle.farm_types.proofs.Lists.{for_some_true}
@@ -33,18 +31,18 @@ use Rattle.farm_law.proofs.KeptJobsLists.{find_none, found_later, found_more, ri
 use Rattle.depend_law.proofs.Placed.{HoldsOf}
 use Rattle.depend_book.specs.declared.new_depend.NewDepend.{NewDepend}
 use Rattle.depend_graph.specs.Graph.{IsGroup}
-use Rattle.farm_changes.specs.declared.fault.PrepareFault.{PrepareFault}
-use Rattle.farm_changes.specs.declared.fault.PrepareFault.TheVariants.{Refused, NoMemory}
+use Rattle.farm_places.specs.declared.fault.PrepareFault.{PrepareFault}
+use Rattle.farm_places.specs.declared.fault.PrepareFault.TheVariants.{Refused, NoMemory}
 use Rattle.farm_depends.specs.declared.counts.Counts.{Counts}
-use Rattle.farm_depends.specs.declared.ends.FoundEnd.{FoundEnd}
+use Rattle.farm_places.specs.declared.ends.FoundEnd.{FoundEnd}
 use Rattle.farm_depends.specs.declared.own.OwnJob.{OwnJob}
 use Rattle.farm_depends.specs.Coming.{Comes, counts_full, groups_refusal_with, refusal_with, self_refusal, started_refusal, waits_at}
-use Rattle.farm_depends.specs.Ends.{FindsEnd, IsEnd, ShowsPart, shape_refusal}
+use Rattle.farm_places.specs.Ends.{FindsEnd, IsEnd, ShowsPart, shape_refusal}
 use Rattle.farm_depends.specs.Placed.{CanPlace, EndsIn, GroupsBetween, IsOwn, name_in, own_groups, own_refusal, placed}
 use Rattle.farm_depends.proofs.ComingGroups.{found_groups, new_are_groups, refusal_is, waiter_among, waiter_holds}
 use Rattle.farm_depends.proofs.OwnNames.{name_is}
 use Rattle.farm_depends.proofs.PlacedFarm.{IsPlaced, job_accepted, other_shape, own_waits, placed_is}
-use Rattle.farm_depends.proofs.ShownParts.{IsPending, all_shown, part_is, pending_is, refusal_shown}
+use Rattle.farm_places.proofs.ShownParts.{IsPending, all_shown, part_is, pending_is, refusal_shown}
 
 -- equal bytes are one name
 pub same_name : (a b : List ℕ) → bytes_eq a b ≡ true → a ≡ b

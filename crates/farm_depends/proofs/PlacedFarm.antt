@@ -1,25 +1,22 @@
 -- The farm with a job: its lists, its other jobs, and the job's own frames.
-use Rattle.std.proofs.Common.{◌≡◌, ℕ, ℤ, zero, suc, ◌+◌, ◌<◌, ◌≤◌, ◌&&◌, ◌||◌, Bool, true, false, cond, not, eqb, List, [], ◌∷◌, ◌++◌, length, map, get_or, Option, Some, None, option_map, All, refl, sym, ap, subst, ◌∙◌, ◌⊎◌, inl, inr, arith, append-nil}
-use Rattle.std.specs.List.{filter, find, list_all, list_any, slice_get, position_or_len}
-use Rattle.std.specs.Str.{bytes_eq}
-use Rattle.std.specs.Option.{option_and_then}
+use Rattle.std.proofs.Common.{◌≡◌, ℕ, ℤ, suc, ◌+◌, ◌&&◌, Bool, true, false, not, eqb, List, [], ◌∷◌, ◌++◌, length, map, Option, Some, None, All, refl, sym, ap, ◌∙◌, arith, append-nil}
+use Rattle.std.specs.List.{list_all, slice_get, position_or_len}
 use Rattle.std.proofs.lemmas.Bool.{eq-eqb, eqb-true, ne_eqb, false≢true}
 use Rattle.std.proofs.lemmas.List.Elements.{filter-append}
 use Rattle.std.proofs.lemmas.List.Folds.{find_at}
-use Rattle.std.proofs.lemmas.Option.{none-some, same_Some}
+use Rattle.std.proofs.lemmas.Option.{none-some}
 use Rattle.farm_types.specs.declared.depend.LayerShape.{LayerShape}
 use Rattle.farm_types.specs.declared.job.JobSpec.{JobSpec}
 use Rattle.farm_types.specs.declared.job.LayerSpec.{LayerSpec}
-use Rattle.farm_types.specs.declared.rows.JobRow.{JobRow}
 use Rattle.farm_types.specs.declared.rows.LayerRow.{LayerRow}
 use Rattle.farm_types.specs.declared.slot_row.Frame.{Frame}
 use Rattle.farm_types.specs.declared.slot_row.SlotRow.{SlotRow}
 use Rattle.farm_types.specs.declared.limits.TheConstants.{LAST_VERSION}
 use Rattle.farm_types.specs.Booking.{is_waiting}
-use Rattle.farm_types.specs.Depends.{layer_shape, or_first, shape_of, slot_placed, slots_placed}
+use Rattle.farm_types.specs.Depends.{layer_shape, or_first, shape_of, slots_placed}
 use Rattle.farm_types.specs.Farm.{Farm, for_some, has_facility, is_placed, layers_of, show_named, slot_from}
 use Rattle.farm_types.specs.Formed.{IsFormedLayer}
-use Rattle.farm_types.specs.Jobs.{frames_of, is_pending_named, job_refusal, job_row, layer_row, layer_rows, new_frame, place_frames}
+use Rattle.farm_types.specs.Jobs.{frames_of, job_refusal, job_row, layer_row, layer_rows, place_frames}
 use Rattle.farm_types.specs.Kept.{KeepsJobs, for_any, is_kept_frame, is_kept_slot, layer_in}
 use Rattle.farm_types.specs.Ranges.{range_numbers}
 use Rattle.farm_types.specs.Step.{after_submit, lists_of, submit_refusal}

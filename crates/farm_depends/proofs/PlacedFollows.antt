@@ -1,5 +1,5 @@
 -- What follows a job that is placed.
-use Rattle.std.proofs.Common.{◌≡◌, ℕ, ◌||◌, Bool, true, false, List, [], length, Option, Some, None, Err, All, refl, sym, ap, subst, ◌∙◌, inr, arith}
+use Rattle.std.proofs.Common.{◌≡◌, ℕ, false, List, [], length, Option, Some, None, Err, All, refl, sym, ap, subst, ◌∙◌, inl, inr, arith}
 use Rattle.std.specs.Prelude.{nat_eq}
 use Rattle.std.specs.List.{IsDistinct, slice_get}
 use Rattle.std.proofs.lemmas.Option.{none-some}
@@ -14,13 +14,13 @@ use Rattle.farm_types.specs.Farm.{Farm, show_named}
 use Rattle.farm_types.specs.Formed.{IsFormedJob}
 use Rattle.farm_types.specs.Kept.{KeepsRows}
 use Rattle.farm_types.specs.Step.{act_refusal, after_submit}
-use Rattle.depend_law.proofs.Stable.{SameGroups, left_same}
+use Rattle.depend_law.proofs.Stable.{left_same}
 use Rattle.depend_book.specs.Book.{DependLists, IsBook, joined, marks_of}
 use Rattle.depend_book.specs.declared.new_depend.NewDepend.{NewDepend}
 use Rattle.depend_graph.specs.Graph as graph
 use Rattle.depend_graph.specs.Graph.{IsGroup, is_flagged}
-use Rattle.farm_changes.specs.declared.fault.PrepareFault.{PrepareFault}
-use Rattle.farm_changes.specs.declared.fault.PrepareFault.TheVariants.{Refused, NoMemory}
+use Rattle.farm_places.specs.declared.fault.PrepareFault.{PrepareFault}
+use Rattle.farm_places.specs.declared.fault.PrepareFault.TheVariants.{Refused, NoMemory}
 use Rattle.farm_depends.specs.declared.counts.Counts.{Counts}
 use Rattle.farm_depends.specs.declared.follow.Follow.{Follow}
 use Rattle.farm_depends.specs.declared.own.OwnJob.{OwnJob}
@@ -31,6 +31,7 @@ use Rattle.farm_depends.specs.Placed.{CanPlace, IsOwn, blocked_own, follow_own, 
 use Rattle.farm_depends.proofs.ComingGroups.{new_are_groups}
 use Rattle.farm_depends.proofs.ComingInTurn.{all_are, all_roomy, allowed_each, in_turn, own_at, refused_alike, waiters_alike}
 use Rattle.farm_depends.proofs.PlacedBlocked.{blocked_are, blocked_differ, blocked_movable, done_same}
+use Rattle.farm_depends.proofs.Reopened.{none_reopened}
 use Rattle.farm_depends.proofs.ToCome.{left_is, placed_farm, placed_groups, placed_rows}
 
 -- ---- rows without depends
@@ -129,21 +130,17 @@ module _ (f : Farm) (b : DependLists) (book : IsBook b) (whole : IsWhole f b) (s
         (λ (g : Farm). depends_refusal g spec.depends ≡ None → ((slot : ℕ) → is_listed blocked slot ≡ is_listed (all_unmet_waiters g spec.depends) slot) → after_follow g (follow_placed g spec.depends blocked) ≡ with_depends g spec.depends)
         farm_is (λ none same. placed_farm old spec whole.kept formed accepted blocked none differ same) allowed listed
 
-    or_none : (t : Bool) → t ≡ (t || false)
-    or_none true = refl
-    or_none false = refl
-
     fits : FollowFits old farm (follow_placed farm spec.depends blocked)
     unfolding IsDistinct
     fits =
         record {
           groups_stay = groups_stay;
-          one_kind = inr refl;
+          one_kind = inr (inl (refl, refl));
           room = all_roomy farm spec.depends each allowed;
           drop_there = tt;
           done_differ = tt;
           undone = λ k d within. absurd (omega arith);
-          done_are = λ slot. done slot ∙ or_none (is_done f.slots slot);
+          done_are = λ slot. done slot ∙ none_reopened (is_done f.slots slot);
           opened_movable = λ k d within. absurd (omega arith);
           blocked_movable = movable;
         }
@@ -176,6 +173,6 @@ module _ (f : Farm) (b : DependLists) (book : IsBook b) (whole : IsWhole f b) (s
         let listed = λ (slot : ℕ).
         ap (λ (ms : List NewDepend). is_listed (blocked_own b.graph.done own ms) slot) are
         ∙ (blocked_are f spec can_place own mine b.graph.done whole.fits.done spec.depends each slot ∙ ap (λ (us : List ℕ). is_listed us slot) unmet_alike) in
-        let all = is ∙ ap (λ (ms : List NewDepend). record { depends = ms; spares = []; dropped = None; done = []; opened = []; blocked = blocked; raises = false; count = 0 }) (are ∙ coming_same) in
+        let all = is ∙ ap (λ (ms : List NewDepend). record { depends = ms; spares = []; dropped = None; done = []; reopened = None; opened = []; blocked = blocked; raises = false; count = 0 }) (are ∙ coming_same) in
         subst (Follows old farm (act.Submit spec)) (sym all)
         (follows blocked (sym refusal_same ∙ none) (each_group each) (blocked_differ f spec can_place own mine b.graph.done ns) listed (blocked_movable f spec can_place own mine b.graph.done ns) (done_same f spec can_place))

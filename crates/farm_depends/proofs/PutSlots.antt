@@ -30,7 +30,7 @@ here : (change : SlotRow → SlotRow) (slots : List SlotRow) (n : ℕ) (o : Opti
 here change slots n None at = ap (λ (o : Option SlotRow). slice_get (changed_by slots n change o) n) at ∙ at
 here change slots n (Some s) at = changed_at_same slots n change s at
 
-one_by : (change : SlotRow → SlotRow) (slots : List SlotRow) (n i : ℕ) (b : Bool) → eqb n i ≡ b → slice_get (changed_at slots n change) i ≡ option_map (picked change b) (slice_get slots i)
+pub one_by : (change : SlotRow → SlotRow) (slots : List SlotRow) (n i : ℕ) (b : Bool) → eqb n i ≡ b → slice_get (changed_at slots n change) i ≡ option_map (picked change b) (slice_get slots i)
 one_by change slots n i true is =
     ap (λ (k : ℕ). slice_get (changed_at slots k change) i) (eqb-true n i is) ∙ here change slots i (slice_get slots i) refl
 one_by change slots n i false is = changed_at_other slots n i change (λ e. eqb-false n i is (sym e)) ∙ sym (option_map_same (slice_get slots i))

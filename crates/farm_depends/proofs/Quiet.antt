@@ -1,38 +1,44 @@
 -- Acts that nothing follows: the farm stays settled.
-use Rattle.std.proofs.Common.{◌≡◌, inl, ℕ, ◌||◌, Bool, true, false, [], Option, None, Some, refl, sym, subst, ap, ◌∙◌}
+use Rattle.std.proofs.Common.{◌≡◌, inl, ℕ, true, List, [], Option, None, Some, refl, sym, subst, ap, ◌∙◌}
 use Rattle.std.specs.List.{IsDistinct}
 use Rattle.std.specs.Prelude.{nat_eq}
 use Rattle.std.proofs.lemmas.List.Elements.{All-nil}
 use Rattle.farm_types.specs.declared.entry.Act.{Act}
-use Rattle.farm_types.specs.declared.entry.Act.TheVariants.{Opened, Show, Alloc, Sub, Boot, Heard, Submit, AddDepend, DropDepend, Lock, Tick, Book}
+use Rattle.farm_types.specs.declared.entry.Act.TheVariants.{Opened, Show, Alloc, Sub, Boot, Heard, Submit, AddDepend, DropDepend, Pause, KillJob, KillFrame, EatFrame, RetryFrame, Lock, Tick, Book}
 use Rattle.farm_types.specs.declared.entry.Entry.{Entry}
 use Rattle.farm_types.specs.declared.boot.BootLine.{BootLine}
 use Rattle.farm_types.specs.declared.depend.DependSpec.{DependSpec}
+use Rattle.farm_types.specs.declared.entry.FramePlace.{FramePlace}
 use Rattle.farm_types.specs.declared.entry.HeardAct.{HeardAct}
 use Rattle.farm_types.specs.declared.job.JobSpec.{JobSpec}
 use Rattle.farm_types.specs.declared.states.LockState.{LockState}
 use Rattle.farm_types.specs.declared.sub_line.SubLine.{SubLine}
 use Rattle.farm_types.specs.Booking.{may_record}
+use Rattle.farm_types.specs.DependActs.{pending_named}
 use Rattle.farm_types.specs.Depends.{is_done}
 use Rattle.farm_types.specs.Farm.{Farm, alloc_named, changed_at, host_named}
 use Rattle.farm_types.specs.Run.{IsSound}
 use Rattle.farm_types.specs.Settle.{with_met}
-use Rattle.farm_types.specs.Step.{HasCondition, acted, after_act, after_boot, after_lock, after_sub, at_moment, booked_row, expire, follow_refusal, followed, moment_of, new_proc, proc_of, sub_named, with_proc}
+use Rattle.farm_types.specs.Step.{HasCondition, act_refusal, acted, after_act, after_boot, after_lock, after_sub, at_moment, booked_row, expire, follow_refusal, followed, moment_of, new_proc, proc_of, sub_named, with_proc}
 use Rattle.farm_law.proofs.Booked.{booking_makes}
 use Rattle.farm_law.proofs.CanBook.{can_book}
+use Rattle.farm_law.proofs.KeptRuns.{refusal_later}
 use Rattle.farm_law.proofs.Lost.{expire_sound}
 use Rattle.farm_law.proofs.SafeRuns.{allowed_later}
 use Rattle.depend_law.proofs.Carries.{CarriesAll, all_same, all_turns, carries_then}
 use Rattle.depend_law.proofs.KeptTurns.{boot_frames, boot_turns, booked_turn, expire_carries}
 use Rattle.depend_law.proofs.Shapes.{booked_frames}
 use Rattle.depend_law.proofs.Stable.{met_stays}
+use Rattle.depend_law.proofs.Stops.{kill_frame_carries, pause_carries}
 use Rattle.depend_law.proofs.Turns.{turns_changed}
 use Rattle.depend_book.specs.Book.{DependLists, joined}
 use Rattle.farm_changes.specs.Change.{Makes, after_change}
 use Rattle.farm_changes.specs.declared.change.Change.{Change}
 use Rattle.farm_depends.specs.Fits.{IsWhole}
 use Rattle.farm_depends.specs.Follow.{Counts, FollowFits, Follows, nothing_follows}
+use Rattle.farm_depends.proofs.Beside.{refusal_joined}
 use Rattle.farm_depends.proofs.Joined.{joined_acted}
+use Rattle.farm_depends.proofs.Reopened.{none_reopened}
 
 -- nothing follows the act
 abbrev pub IsQuiet : Act → Type 0
@@ -40,6 +46,9 @@ IsQuiet (Heard heard) = ⊥
 IsQuiet (Submit spec) = ⊥
 IsQuiet (AddDepend spec) = ⊥
 IsQuiet (DropDepend depend) = ⊥
+IsQuiet (KillJob job) = ⊥
+IsQuiet (EatFrame p) = ⊥
+IsQuiet (RetryFrame p) = ⊥
 IsQuiet act = Unit {0}
 
 -- ---- one after the other
@@ -78,32 +87,37 @@ book_carries f slot host moment allowed =
     (all_turns f g refl refl refl refl refl (booked_frames p f.slots slot)
     (turns_changed f.slots slot (booked_row p) r.slot can.slot_is (booked_turn p r.slot r.frame can.frame_is can.waits)))
 
-act_carries : (f : Farm) (moment : ℕ) (act : Act) → IsQuiet act → HasCondition f act → IsSound f → CarriesAll f (after_act f moment act)
-act_carries f moment Opened quiet allowed ok = all_same f (after_act f moment Opened) refl refl refl refl refl refl
-act_carries f moment (Show name) quiet allowed ok = all_same f (after_act f moment (Show name)) refl refl refl refl refl refl
-act_carries f moment (Alloc facility tag) quiet allowed ok = all_same f (after_act f moment (Alloc facility tag)) refl refl refl refl refl refl
-act_carries f moment (Sub line) quiet allowed ok = sub_carries f line (sub_named f line)
-act_carries f moment (Boot line) quiet allowed ok =
+act_carries : (f : Farm) (moment : ℕ) (act : Act) → IsQuiet act → act_refusal f act ≡ None → HasCondition f act → IsSound f → CarriesAll f (after_act f moment act)
+act_carries f moment Opened quiet accepted allowed ok = all_same f (after_act f moment Opened) refl refl refl refl refl refl
+act_carries f moment (Show name) quiet accepted allowed ok = all_same f (after_act f moment (Show name)) refl refl refl refl refl refl
+act_carries f moment (Alloc facility tag) quiet accepted allowed ok = all_same f (after_act f moment (Alloc facility tag)) refl refl refl refl refl refl
+act_carries f moment (Sub line) quiet accepted allowed ok = sub_carries f line (sub_named f line)
+act_carries f moment (Boot line) quiet accepted allowed ok =
     all_then f (expire f moment) (after_act f moment (Boot line)) (expire_carries f moment ok)
     (boot_carries (expire f moment) line moment (alloc_named f line.alloc) (expire_sound f moment ok))
-act_carries f moment (Heard heard) quiet allowed ok = absurd quiet
-act_carries f moment (Submit spec) quiet allowed ok = absurd quiet
-act_carries f moment (AddDepend spec) quiet allowed ok = absurd quiet
-act_carries f moment (DropDepend depend) quiet allowed ok = absurd quiet
-act_carries f moment (Lock host lock) quiet allowed ok = lock_carries f lock (host_named f host)
-act_carries f moment Tick quiet allowed ok = expire_carries f moment ok
-act_carries f moment (Book slot host) quiet allowed ok = book_carries f slot host moment allowed
+act_carries f moment (Heard heard) quiet accepted allowed ok = absurd quiet
+act_carries f moment (Submit spec) quiet accepted allowed ok = absurd quiet
+act_carries f moment (AddDepend spec) quiet accepted allowed ok = absurd quiet
+act_carries f moment (DropDepend depend) quiet accepted allowed ok = absurd quiet
+act_carries f moment (Pause job paused) quiet accepted allowed ok = pause_carries f paused (pending_named f job)
+act_carries f moment (KillJob job) quiet accepted allowed ok = absurd quiet
+act_carries f moment (KillFrame p) quiet accepted allowed ok = kill_frame_carries f p accepted
+act_carries f moment (EatFrame p) quiet accepted allowed ok = absurd quiet
+act_carries f moment (RetryFrame p) quiet accepted allowed ok = absurd quiet
+act_carries f moment (Lock host lock) quiet accepted allowed ok = lock_carries f lock (host_named f host)
+act_carries f moment Tick quiet accepted allowed ok = expire_carries f moment ok
+act_carries f moment (Book slot host) quiet accepted allowed ok = book_carries f slot host moment allowed
 
 sound_later : (f : Farm) (moment : ℕ) → IsSound f → IsSound (at_moment f moment)
 sound_later f moment ok = record { cores = ok.cores; memory = ok.memory; attempts = ok.attempts }
 
 -- at the entry's moment
-pub quiet_carries : (f : Farm) (e : Entry) → IsQuiet e.act → HasCondition f e.act → IsSound f → CarriesAll f (acted f e)
-quiet_carries f e quiet allowed ok =
+pub quiet_carries : (f : Farm) (e : Entry) → IsQuiet e.act → act_refusal f e.act ≡ None → HasCondition f e.act → IsSound f → CarriesAll f (acted f e)
+quiet_carries f e quiet accepted allowed ok =
     let moment = moment_of f e.moment in
     let now = at_moment f moment in
     all_then f now (acted f e) (all_same f now refl refl refl refl refl refl)
-    (act_carries now moment e.act quiet (allowed_later f moment e.act allowed) (sound_later f moment ok))
+    (act_carries now moment e.act quiet (refusal_later f moment e.act ∙ accepted) (allowed_later f moment e.act allowed) (sound_later f moment ok))
 
 -- ---- what follows
 
@@ -123,15 +137,16 @@ says_nothing f g (Heard heard) quiet = absurd quiet
 says_nothing f g (Submit spec) quiet = absurd quiet
 says_nothing f g (AddDepend spec) quiet = absurd quiet
 says_nothing f g (DropDepend depend) quiet = absurd quiet
+says_nothing f g (Pause job paused) quiet = record { accepted = refl; farm = refl; counts = tt }
+says_nothing f g (KillJob job) quiet = absurd quiet
+says_nothing f g (KillFrame p) quiet = record { accepted = refl; farm = refl; counts = tt }
+says_nothing f g (EatFrame p) quiet = absurd quiet
+says_nothing f g (RetryFrame p) quiet = absurd quiet
 says_nothing f g (Lock host lock) quiet = record { accepted = refl; farm = refl; counts = tt }
 says_nothing f g Tick quiet = record { accepted = refl; farm = refl; counts = tt }
 says_nothing f g (Book slot host) quiet = record { accepted = refl; farm = refl; counts = tt }
 
-or_none : (b : Bool) → b ≡ (b || false)
-or_none true = refl
-or_none false = refl
-
-none_differ : IsDistinct nat_eq []
+pub none_differ : IsDistinct nat_eq []
 unfolding IsDistinct
 none_differ = tt
 
@@ -139,12 +154,12 @@ pub nothing_fits : (f g : Farm) → CarriesAll f g → FollowFits f g nothing_fo
 nothing_fits f g c =
     record {
       groups_stay = λ i d at unmet. c.carries.same.groups i d at unmet;
-      one_kind = inl (refl, refl);
+      one_kind = inl ((refl, refl), refl);
       room = tt;
       drop_there = tt;
       done_differ = none_differ;
       undone = All-nil _;
-      done_are = λ slot. c.done slot ∙ or_none (is_done f.slots slot);
+      done_are = λ slot. c.done slot ∙ none_reopened (is_done f.slots slot);
       opened_movable = All-nil _;
       blocked_movable = All-nil _;
     }
@@ -166,19 +181,25 @@ pub quiet_follows : (f : Farm) (b : DependLists) (e : Entry) (change : Change) �
 quiet_follows f b e change whole allowed made quiet =
     let after : joined (after_change f change) b ≡ acted (joined f b) e = ap (λ (g : Farm). joined g b) made.farm ∙ joined_acted b f e in
     subst (λ (g : Farm). Follows (joined f b) g e.act nothing_follows) (sym after)
-    (nothing_after (joined f b) (acted (joined f b) e) e.act quiet (quiet_carries (joined f b) e quiet allowed whole.kept.rows.sound) whole.kept.depends.met)
+    (nothing_after (joined f b) (acted (joined f b) e) e.act quiet (quiet_carries (joined f b) e quiet (refusal_joined f b e.act ∙ made.accepted) allowed whole.kept.rows.sound) whole.kept.depends.met)
 
 -- an act that none of these is
-pub quiet_by : (act : Act) → ((heard : HeardAct) → act ≡ Heard heard → ⊥) → ((spec : JobSpec) → act ≡ Submit spec → ⊥) → ((spec : DependSpec) → act ≡ AddDepend spec → ⊥) → ((depend : ℕ) → act ≡ DropDepend depend → ⊥) → IsQuiet act
-quiet_by Opened a b c d = tt
-quiet_by (Show name) a b c d = tt
-quiet_by (Alloc facility tag) a b c d = tt
-quiet_by (Sub line) a b c d = tt
-quiet_by (Boot line) a b c d = tt
-quiet_by (Heard heard) a b c d = a heard refl
-quiet_by (Submit spec) a b c d = b spec refl
-quiet_by (AddDepend spec) a b c d = c spec refl
-quiet_by (DropDepend depend) a b c d = d depend refl
-quiet_by (Lock host lock) a b c d = tt
-quiet_by Tick a b c d = tt
-quiet_by (Book slot host) a b c d = tt
+pub quiet_by : (act : Act) → ((heard : HeardAct) → act ≡ Heard heard → ⊥) → ((spec : JobSpec) → act ≡ Submit spec → ⊥) → ((spec : DependSpec) → act ≡ AddDepend spec → ⊥) → ((depend : ℕ) → act ≡ DropDepend depend → ⊥)
+    → ((job : List ℕ) → act ≡ KillJob job → ⊥) → ((p : FramePlace) → act ≡ EatFrame p → ⊥) → ((p : FramePlace) → act ≡ RetryFrame p → ⊥) → IsQuiet act
+quiet_by Opened heard submit add drop kill eat retry = tt
+quiet_by (Show name) heard submit add drop kill eat retry = tt
+quiet_by (Alloc facility tag) heard submit add drop kill eat retry = tt
+quiet_by (Sub line) heard submit add drop kill eat retry = tt
+quiet_by (Boot line) heard submit add drop kill eat retry = tt
+quiet_by (Heard of) heard submit add drop kill eat retry = heard of refl
+quiet_by (Submit spec) heard submit add drop kill eat retry = submit spec refl
+quiet_by (AddDepend spec) heard submit add drop kill eat retry = add spec refl
+quiet_by (DropDepend depend) heard submit add drop kill eat retry = drop depend refl
+quiet_by (Pause job paused) heard submit add drop kill eat retry = tt
+quiet_by (KillJob job) heard submit add drop kill eat retry = kill job refl
+quiet_by (KillFrame p) heard submit add drop kill eat retry = tt
+quiet_by (EatFrame p) heard submit add drop kill eat retry = eat p refl
+quiet_by (RetryFrame p) heard submit add drop kill eat retry = retry p refl
+quiet_by (Lock host lock) heard submit add drop kill eat retry = tt
+quiet_by Tick heard submit add drop kill eat retry = tt
+quiet_by (Book slot host) heard submit add drop kill eat retry = tt

@@ -1,5 +1,5 @@
 -- What follows a depend that is dropped: frames open, and are counted.
-use Rattle.std.proofs.Common.{◌≡◌, ◌≤◌, ◌+◌, inr, ℕ, suc, zero, ◌||◌, Bool, true, false, cond, List, [], ◌∷◌, length, filter, Option, None, Some, All, refl, sym, ap, subst, ◌∙◌, arith}
+use Rattle.std.proofs.Common.{◌≡◌, ◌≤◌, ◌+◌, inl, inr, ℕ, suc, zero, Bool, true, false, cond, List, [], ◌∷◌, length, filter, Option, None, Some, All, refl, sym, ap, subst, ◌∙◌, arith}
 use Rattle.std.specs.Prelude.{Err, decimal, is_some, nat_eq}
 use Rattle.std.specs.List.{IsDistinct}
 use Rattle.std.proofs.lemmas.List.Elements.{All-nil}
@@ -7,21 +7,23 @@ use Rattle.farm_types.specs.declared.depend.DependRow.{DependRow}
 use Rattle.farm_types.specs.declared.entry.Act.TheVariants as act
 use Rattle.farm_types.specs.declared.limits.TheConstants.{SLOT_LIMIT}
 use Rattle.farm_types.specs.declared.refusal.Refusal.{Refusal}
-use Rattle.farm_types.specs.declared.refusal.Refusal.TheVariants.{Satisfied}
+use Rattle.farm_types.specs.declared.refusal.Refusal.TheVariants.{Unknown, Satisfied}
 use Rattle.farm_types.specs.DependActs.{depend_at, drop_refusal}
 use Rattle.farm_types.specs.Depends.{is_done}
 use Rattle.farm_types.specs.Farm.{Farm}
 use Rattle.depend_graph.specs.Graph.{has_depend, has_opened, numbers_from, opened_between, without_depend}
 use Rattle.depend_book.specs.Book.{DependLists, IsBook, joined}
-use Rattle.farm_changes.specs.Change.{IsUnknown}
-use Rattle.farm_changes.specs.declared.fault.PrepareFault.{PrepareFault}
-use Rattle.farm_changes.specs.declared.fault.PrepareFault.TheVariants.{Refused, NoMemory}
+use Rattle.farm_places.specs.Ends.{IsRefusal}
+use Rattle.farm_places.specs.declared.fault.PrepareFault.{PrepareFault}
+use Rattle.farm_places.specs.declared.fault.PrepareFault.TheVariants.{Refused, NoMemory}
 use Rattle.farm_depends.specs.Fits.{IsWhole}
-use Rattle.farm_depends.specs.Follow.{AreRoomy, Follows, IsDropThere, IsMovable, PreparesFollow, is_listed}
+use Rattle.farm_depends.specs.Follow.{AreRoomy, Follows, IsDropThere, IsMovable, PreparesFollow}
 use Rattle.farm_depends.specs.declared.follow.Follow.{Follow}
 use Rattle.farm_depends.proofs.Dropped.{dropping, dropping_count, dropping_farm}
 use Rattle.farm_depends.proofs.OpenUnmet.{depend_there}
 use Rattle.farm_depends.proofs.Opens.{blocked_in, blocked_movable}
+use Rattle.farm_depends.proofs.Reopened.{done_listed}
+use Rattle.farm_depends.proofs.Zips.{or_none}
 
 -- ---- how many
 
@@ -47,10 +49,6 @@ dropping_few f b n = few_numbers (blocked_in f.slots) (has_opened b.graph.depend
 
 -- ---- what follows
 
-or_none : (c : Bool) → c ≡ (c || false)
-or_none true = refl
-or_none false = refl
-
 none_differ : IsDistinct nat_eq []
 unfolding IsDistinct
 none_differ = tt
@@ -63,19 +61,19 @@ module _ (f : Farm) (b : DependLists) (n : ℕ) (whole : IsWhole f b) (book : Is
   pub drop_in_graph : has_depend b.graph n ≡ true
   drop_in_graph = sym (depend_there f b book whole.fits n) ∙ there
 
-  pub drop_follows : d.met_all ≡ false → (w : Follow) → w.depends ≡ [] → w.spares ≡ [] → w.dropped ≡ Some n → w.done ≡ [] → w.opened ≡ dropping f b n → w.blocked ≡ [] → w.count ≡ length w.opened
+  pub drop_follows : d.met_all ≡ false → (w : Follow) → w.depends ≡ [] → w.spares ≡ [] → w.dropped ≡ Some n → w.done ≡ [] → w.reopened ≡ None → w.opened ≡ dropping f b n → w.blocked ≡ [] → w.count ≡ length w.opened
       → Follows (joined f b) (joined f b) (act.DropDepend n) w
-  drop_follows unmet w depends spares dropped done opened blocked count =
+  drop_follows unmet w depends spares dropped done reopened opened blocked count =
       record {
         accepted = ap (drop_refusal n) found ∙ ap (λ (c : Bool). cond {A = Option Refusal} c (Some Satisfied) None) unmet;
         fits = record {
           groups_stay = λ i e at left. refl;
-          one_kind = inr done;
+          one_kind = inr (inl (done, reopened));
           room = subst (AreRoomy (joined f b)) (sym depends) tt;
           drop_there = subst (IsDropThere (joined f b)) (sym dropped) there;
           done_differ = subst (IsDistinct nat_eq) (sym done) none_differ;
           undone = subst (All (λ slot. is_done f.slots slot ≡ false)) (sym done) (All-nil _);
-          done_are = λ slot. or_none (is_done f.slots slot) ∙ ap (λ (list : List ℕ). is_done f.slots slot || is_listed list slot) (sym done);
+          done_are = λ slot. sym (or_none (is_done f.slots slot)) ∙ done_listed (is_done f.slots slot) [] w slot done reopened;
           opened_movable =
               subst (All (IsMovable f.slots)) (sym opened)
               (blocked_movable (joined f b) whole.kept.rows.sound (opened_between b.graph.depends (without_depend b.graph n).depends));
@@ -89,7 +87,7 @@ module _ (f : Farm) (b : DependLists) (n : ℕ) (whole : IsWhole f b) (book : Is
 -- ---- refusals
 
 -- no depend of that number is there
-pub drop_unknown : (f g : Farm) (n : ℕ) (fault : PrepareFault) → depend_at f n ≡ None → IsUnknown (decimal n) fault → PreparesFollow f g (act.DropDepend n) (Err fault)
+pub drop_unknown : (f g : Farm) (n : ℕ) (fault : PrepareFault) → depend_at f n ≡ None → IsRefusal (Unknown (decimal n)) fault → PreparesFollow f g (act.DropDepend n) (Err fault)
 drop_unknown f g n (Refused why) none unknown = ap (drop_refusal n) none ∙ ap Some (sym unknown)
 drop_unknown f g n NoMemory none unknown = tt
 

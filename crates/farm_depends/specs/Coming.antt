@@ -13,8 +13,8 @@ use Rattle.farm_types.specs.Farm.{Farm, for_some}
 use Rattle.farm_types.specs.declared.limits.TheConstants.{LAST_DEPEND, MOST_DEPENDS, MOST_GROUPS}
 use Rattle.depend_graph.specs.Graph.{is_flagged}
 use Rattle.depend_book.specs.declared.new_depend.NewDepend.{NewDepend}
-use Rattle.farm_changes.specs.declared.fault.PrepareFault.{PrepareFault}
-use Rattle.farm_changes.specs.declared.fault.PrepareFault.TheVariants.{Refused, NoMemory}
+use Rattle.farm_places.specs.declared.fault.PrepareFault.{PrepareFault}
+use Rattle.farm_places.specs.declared.fault.PrepareFault.TheVariants.{Refused, NoMemory}
 use Rattle.farm_depends.specs.declared.counts.Counts.{Counts}
 use Rattle.farm_depends.specs.declared.follow.Follow.{Follow}
 use Rattle.farm_depends.specs.Follow.{all_coming, coming}
@@ -53,6 +53,7 @@ follow_added f spec =
       spares = [];
       dropped = None;
       done = [];
+      reopened = None;
       opened = [];
       blocked = filter (waits_at f.slots) (unmet_waiters f spec);
       raises = true;
@@ -62,7 +63,7 @@ follow_added f spec =
 -- the depends of a job that was placed, which block these frames
 abbrev pub follow_placed : Farm → List DependSpec → List ℕ → Follow
 follow_placed f specs blocked =
-    record { depends = all_coming f specs; spares = []; dropped = None; done = []; opened = []; blocked = blocked; raises = false; count = 0 }
+    record { depends = all_coming f specs; spares = []; dropped = None; done = []; reopened = None; opened = []; blocked = blocked; raises = false; count = 0 }
 
 -- ---- refusals, by counts
 
@@ -138,6 +139,7 @@ follow_new slots done n =
       spares = [];
       dropped = None;
       done = [];
+      reopened = None;
       opened = [];
       blocked = filter (waits_at slots) (unmet_by done n.groups);
       raises = true;

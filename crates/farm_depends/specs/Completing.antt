@@ -7,11 +7,15 @@ use Rattle.farm_types.specs.Depends.{is_done, is_done_state}
 use Rattle.farm_types.specs.Farm.{for_some}
 use Rattle.farm_types.specs.Settle.{is_blocked}
 use Rattle.farm_draft.specs.Rows.{slot_of}
+use Rattle.depend_graph.specs.Graph.{is_flagged}
+use Rattle.farm_depends.specs.Follow.{is_listed}
 
--- the act is a host's report
-abbrev pub IsReport : Act → Type 0
-IsReport (act.Heard heard) = Unit {0}
-IsReport other = ⊥
+-- the act may complete frames
+abbrev pub IsCompleting : Act → Type 0
+IsCompleting (act.Heard heard) = Unit {0}
+IsCompleting (act.KillJob job) = Unit {0}
+IsCompleting (act.EatFrame p) = Unit {0}
+IsCompleting other = ⊥
 
 abbrev pub is_done_row : SlotRow → Bool
 is_done_row s = for_some s.frame (λ x. is_done_state x.state)
@@ -30,3 +34,14 @@ is_blocked_in slots slot = for_some (slice_get slots slot) (λ (s : SlotRow). fo
 
 abbrev pub blocked_among : List SlotRow → List ℕ → List ℕ
 blocked_among slots list = filter (is_blocked_in slots) list
+
+-- the frame in the slot is blocked, and isn't among those that are done
+abbrev pub is_left_blocked : List SlotRow → List ℕ → ℕ → Bool
+is_left_blocked slots done slot = is_blocked_in slots slot && not (is_listed done slot)
+
+abbrev pub left_blocked : List SlotRow → List ℕ → List ℕ → List ℕ
+left_blocked slots done list = filter (is_left_blocked slots done) list
+
+-- the slots that have no mark
+abbrev pub unmarked_among : List Bool → List ℕ → List ℕ
+unmarked_among marks list = filter (λ slot. not (is_flagged marks slot)) list

@@ -1,5 +1,5 @@
--- What follows an act of depends: which depends come or go, which frames are done, and which open or are blocked.
-use Rattle.std.specs.Prelude.{ℕ, ◌≡◌, ◌==◌, ◌||◌, ◌+◌, ◌≤◌, ◌<◌, ◌⊎◌, All, Bool, true, false, List, [], ◌∷◌, ◌++◌, map, length, slice_get, is_some, Option, None, Some, IsSomeAnd, Result, Ok, Err}
+-- What follows an act of depends: which depends come or go, which frames are done, or not any more, and which open or are blocked.
+use Rattle.std.specs.Prelude.{ℕ, ◌≡◌, ◌==◌, ◌&&◌, ◌||◌, ◌+◌, ◌≤◌, ◌<◌, ◌⊎◌, All, Bool, true, false, not, List, [], ◌∷◌, ◌++◌, map, length, slice_get, is_some, Option, None, Some, IsSomeAnd, Result, Ok, Err}
 use Rattle.std.specs.List.{IsDistinct, list_any}
 use Rattle.std.specs.Prelude.{nat_eq}
 use Rattle.farm_types.specs.declared.depend.DependRow.{DependRow}
@@ -17,14 +17,14 @@ use Rattle.farm_types.specs.Step.{follow_refusal, followed}
 use Rattle.farm_types.specs.declared.limits.TheConstants.{LAST_DEPEND, MOST_DEPENDS, MOST_GROUPS}
 use Rattle.depend_graph.specs.Graph.{IsGroup, has_depend}
 use Rattle.depend_graph.specs.Spare.{SpareLists, spare_of}
-use Rattle.depend_book.specs.Book.{CanAdd, DependLists, all_done_in, dropped_in, with_new}
+use Rattle.depend_book.specs.Book.{CanAdd, DependLists, all_done_in, done_in, dropped_in, with_new}
 use Rattle.depend_book.specs.declared.new_depend.NewDepend.{NewDepend}
-use Rattle.farm_changes.specs.declared.fault.PrepareFault.{PrepareFault}
-use Rattle.farm_changes.specs.declared.fault.PrepareFault.TheVariants.{Refused, NoMemory}
+use Rattle.farm_places.specs.declared.fault.PrepareFault.{PrepareFault}
+use Rattle.farm_places.specs.declared.fault.PrepareFault.TheVariants.{Refused, NoMemory}
 use Rattle.farm_depends.specs.declared.follow.Follow.{Follow}
 
 abbrev pub nothing_follows : Follow
-nothing_follows = record { depends = []; spares = []; dropped = None; done = []; opened = []; blocked = []; raises = false; count = 0 }
+nothing_follows = record { depends = []; spares = []; dropped = None; done = []; reopened = None; opened = []; blocked = []; raises = false; count = 0 }
 
 -- ---- depends that come
 
@@ -104,15 +104,24 @@ abbrev pub IsDropThere : Farm → Option ℕ → Type 0
 IsDropThere f None = Unit {0}
 IsDropThere f (Some depend) = is_some (depend_at f depend) ≡ true
 
--- depends come or go, or frames are done, not both
+-- no depend comes or goes
+abbrev pub NoneCome : Follow → Type 0
+NoneCome w = (w.depends ≡ []) × (w.dropped ≡ None)
+
+-- frames are done, or depends come or go, or a frame isn't done any more
 abbrev pub IsOneKind : Follow → Type 0
-IsOneKind w = ((w.depends ≡ []) × (w.dropped ≡ None)) ⊎ (w.done ≡ [])
+IsOneKind w = (NoneCome w × (w.reopened ≡ None)) ⊎ (((w.done ≡ []) × (w.reopened ≡ None)) ⊎ (NoneCome w × (w.done ≡ [])))
 
 abbrev pub is_listed : List ℕ → ℕ → Bool
 is_listed slots slot = list_any (λ n. n == slot) slots
 
+-- the slot is the one named
+abbrev pub is_one : Option ℕ → ℕ → Bool
+is_one None slot = false
+is_one (Some n) slot = n == slot
+
 -- What follows fits the farm, `old` before the act and `f` after it: the groups of what isn't satisfied stayed, exactly the frames named are done that
--- weren't, and each frame that opens or is blocked has no attempt.
+-- weren't, or aren't any more, and each frame that opens or is blocked has no attempt.
 pub record FollowFits (old f : Farm) (w : Follow) : Type 0 where
   pub groups_stay : (i : ℕ) (d : DependRow) → slice_get old.depends i ≡ Some d → d.met_all ≡ false → groups_of f d ≡ groups_of old d
   pub one_kind : IsOneKind w
@@ -120,7 +129,7 @@ pub record FollowFits (old f : Farm) (w : Follow) : Type 0 where
   pub drop_there : IsDropThere f w.dropped
   pub done_differ : IsDistinct nat_eq w.done
   pub undone : All (λ slot. is_done old.slots slot ≡ false) w.done
-  pub done_are : (slot : ℕ) → is_done f.slots slot ≡ (is_done old.slots slot || is_listed w.done slot)
+  pub done_are : (slot : ℕ) → is_done f.slots slot ≡ ((is_done old.slots slot && not (is_one w.reopened slot)) || is_listed w.done slot)
   pub opened_movable : All (IsMovable f.slots) w.opened
   pub blocked_movable : All (IsMovable f.slots) w.blocked
 
@@ -161,8 +170,13 @@ abbrev pub drop_in : DependLists → Option ℕ → DependLists
 drop_in b None = b
 drop_in b (Some depend) = dropped_in b depend
 
+-- the frame in the slot isn't done any more
+abbrev pub reopened_in : DependLists → Option ℕ → DependLists
+reopened_in b None = b
+reopened_in b (Some slot) = done_in b slot false
+
 abbrev pub depends_after : DependLists → Follow → DependLists
-depends_after b w = all_done_in (drop_in (with_new_all b w.depends) w.dropped) w.done
+depends_after b w = all_done_in (reopened_in (drop_in (with_new_all b w.depends) w.dropped) w.reopened) w.done
 
 -- each depend that comes fits the book in turn
 abbrev pub CanAddAll : DependLists → List NewDepend → Type 0

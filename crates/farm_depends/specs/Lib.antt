@@ -1,7 +1,6 @@
 pub mod Coming
 pub mod Completing
-pub mod Ends
 pub mod Fits
 pub mod Follow
 pub mod Placed
-pub mod Shapes
+pub mod Retrying

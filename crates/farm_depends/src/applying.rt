@@ -39,7 +39,7 @@ fn reserve_all(
     Ok(spares)
 }
 
-/// Takes what follows into the books: depends come or go, frames are done, open, or are blocked. Its memory was taken; it takes none.
+/// Takes what follows into the books: depends come or go, frames are done, or not any more, open, or are blocked. Its memory was taken; it takes none.
 pub fn apply_follow(books: &mut Books, depends: &mut Depends, follow: Follow)
     requires { CanFollow books.old.slots depends.old follow }
     ensures books { books.new ≡ record books.old { slots = slots_after books.old.slots follow } }
@@ -50,6 +50,7 @@ pub fn apply_follow(books: &mut Books, depends: &mut Depends, follow: Follow)
         spares,
         dropped,
         done,
+        reopened,
         opened,
         blocked,
         raises,
@@ -58,6 +59,9 @@ pub fn apply_follow(books: &mut Books, depends: &mut Depends, follow: Follow)
     add_all(depends, coming, spares);
     if let Some(depend) = dropped {
         depends.drop_depend(depend);
+    }
+    if let Some(slot) = reopened {
+        depends.set_done(slot, false);
     }
     depends.complete(done.as_slice());
     open_all(books, opened.as_slice());

@@ -5,13 +5,13 @@ ghost use Rattle.std.specs.List.{list_any};
 ghost use Rattle.farm_types.specs.DependActs.{frame_name_at, runs_already, runs_at, waits_for_itself};
 ghost use Rattle.depend_graph.specs.Graph.{IsGroup};
 ghost use Rattle.farm_depends.specs.Coming.{self_refusal, started_refusal};
-ghost use Rattle.farm_depends.specs.Ends.{Refuses};
+ghost use Rattle.farm_places.specs.Ends.{Refuses};
 
 use crate::marks::{first_marked, mark, no_marks};
 use crate::refused::{self_depend, started};
 use command_text::frame_name;
 use farm_books::Books;
-use farm_changes::PrepareFault;
+use farm_places::PrepareFault;
 use farm_types::{FrameState, Group, Slot, Text};
 use job_book::Jobs;
 use std::alloc::{AllocError, Global};

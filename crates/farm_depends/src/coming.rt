@@ -5,15 +5,14 @@ ghost use Rattle.farm_types.specs.Kept.{KeepsRows};
 ghost use Rattle.farm_types.specs.declared.limits.TheConstants.{MOST_GROUPS};
 ghost use Rattle.depend_graph.specs.Graph.{IsGroup};
 ghost use Rattle.farm_depends.specs.Coming.{Comes, groups_refusal_with};
-ghost use Rattle.farm_depends.specs.Ends.{IsEnd, Refuses};
+ghost use Rattle.farm_places.specs.Ends.{IsEnd, Refuses};
 
 use crate::checks::{check_self, check_started};
 use crate::counts::{Counts, check_full};
-use crate::ends::{FoundEnd, find_end};
 use depend_book::NewDepend;
 use depend_kinds::groups;
 use farm_books::Books;
-use farm_changes::PrepareFault;
+use farm_places::{FoundEnd, PrepareFault, find_end};
 use farm_types::{DependSpec, Group, Items};
 use std::alloc::Global;
 

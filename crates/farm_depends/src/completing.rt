@@ -1,23 +1,28 @@
 //! What follows completions, and a depend that goes.
 
-ghost use Rattle.std.specs.Prelude.{◌≡◌, decimal, IfOk};
+ghost use Rattle.std.specs.Prelude.{◌≡◌, ◌≤◌, decimal, length, IfOk};
 ghost use Rattle.farm_types.specs.Depends.{is_done};
 ghost use Rattle.farm_types.specs.declared.entry.Act.TheVariants as act;
-ghost use Rattle.farm_changes.specs.Change.{IsUnknown, Makes, after_change};
+ghost use Rattle.farm_types.specs.declared.limits.TheConstants.{SLOT_LIMIT};
+ghost use Rattle.farm_types.specs.declared.refusal.Refusal.TheVariants.{Unknown};
+ghost use Rattle.farm_places.specs.Ends.{IsRefusal};
+ghost use Rattle.farm_changes.specs.Change.{Makes, after_change};
 ghost use Rattle.depend_book.specs.Book.{joined};
-ghost use Rattle.farm_depends.specs.Completing.{IsReport, blocked_among, is_blocked_in, is_done_row, newly_done};
+ghost use Rattle.farm_depends.specs.Completing.{IsCompleting, blocked_among, is_blocked_in, is_done_row, left_blocked, newly_done, unmarked_among};
 ghost use Rattle.farm_depends.specs.Fits.{IsWhole};
 ghost use Rattle.farm_depends.specs.Follow.{PreparesFollow};
 
 use crate::follow::Follow;
+use crate::marks::{is_marked, mark, no_marks};
 use depend_book::Depends;
 use farm_books::Books;
-use farm_changes::{Change, PrepareFault};
+use farm_changes::Change;
+use farm_places::PrepareFault;
 use farm_types::{DependNo, Entry, FrameState, Items, Refusal, Slot, SlotRow, Text};
 use std::alloc::{AllocError, Global};
 
-/// What follows a report, for whose act `change` was prepared: its completions meet groups, and frames open.
-pub(crate) fn follow_report(
+/// What follows an act that may complete frames, for which `change` was prepared: its completions meet groups, and frames open.
+pub(crate) fn follow_completed(
     alloc: Global,
     books: &Books,
     depends: &Depends,
@@ -26,18 +31,19 @@ pub(crate) fn follow_report(
 ) -> Result<Follow, PrepareFault>
     requires whole { IsWhole books.now depends.now }
     requires made { Makes books.now entry.now change.now }
-    requires heard { IsReport entry.now.act }
+    requires completing { IsCompleting entry.now.act }
     ensures { PreparesFollow (joined books.now depends.now) (joined (after_change books.now change.now) depends.now) entry.now.act result }
 {
     depends.kept();
     let done = newly_done(alloc, books, change.slot_rows())?;
     let opening = depends.would_open(alloc, done.as_slice())?;
-    let opened = blocked_among(alloc, books, opening.as_slice())?;
+    let opened = left_blocked(alloc, books, done.as_slice(), opening.as_slice())?;
     Ok(Follow {
         depends: Items::new(alloc),
         spares: Items::new(alloc),
         dropped: None,
         done,
+        reopened: None,
         opened,
         blocked: Items::new(alloc),
         raises: false,
@@ -72,6 +78,7 @@ pub(crate) fn follow_drop(
         spares: Items::new(alloc),
         dropped: Some(depend),
         done: Items::new(alloc),
+        reopened: None,
         opened,
         blocked: Items::new(alloc),
         raises: false,
@@ -81,7 +88,7 @@ pub(crate) fn follow_drop(
 
 // No depend of that number is there.
 fn unknown(alloc: Global, depend: DependNo) -> PrepareFault
-    ensures { IsUnknown (decimal depend) result }
+    ensures { IsRefusal (Unknown (decimal depend)) result }
 {
     match depend.0.to_string(alloc) {
         Ok(name) => PrepareFault::Refused {
@@ -123,6 +130,41 @@ fn blocked_among(alloc: Global, books: &Books, slots: &[Slot]) -> Result<Items<S
     Ok(blocked)
 }
 
+// The slots among these whose frames are blocked, but for those that are done. Where blocked frames are among those, as operators eat them, all slots of
+// the farm are marked once.
+fn left_blocked(
+    alloc: Global,
+    books: &Books,
+    done: &[Slot],
+    slots: &[Slot],
+) -> Result<Items<Slot>, AllocError>
+    requires { length books.now.slots ≤ SLOT_LIMIT }
+    ensures { IfOk result (λ left. left ≡ left_blocked books.now.slots done.now slots.now) }
+{
+    let blocked = blocked_among(alloc, books, slots)?;
+    let eaten = blocked_among(alloc, books, done)?;
+    if eaten.is_empty() {
+        return Ok(blocked);
+    }
+    let mut marks = no_marks(alloc)?;
+    mark(&mut marks, eaten.as_slice());
+    let left = unmarked_among(alloc, marks.as_slice(), blocked.as_slice())?;
+    Ok(left)
+}
+
+// The slots among these that have no mark.
+fn unmarked_among(alloc: Global, marks: &[bool], slots: &[Slot]) -> Result<Items<Slot>, AllocError>
+    ensures { IfOk result (λ unmarked. unmarked ≡ unmarked_among marks.now slots.now) }
+{
+    let mut unmarked = Items::new(alloc);
+    for slot in slots {
+        if !is_marked(marks, *slot) {
+            unmarked.push(*slot)?;
+        }
+    }
+    Ok(unmarked)
+}
+
 // Whether the frame in the row is done.
 fn is_done(row: &SlotRow) -> bool
     ensures { result ≡ is_done_row row.now }
@@ -133,8 +175,8 @@ fn is_done(row: &SlotRow) -> bool
     }
 }
 
-// Whether the frame in the slot is done.
-fn is_done_in(books: &Books, slot: Slot) -> bool
+/// Whether the frame in the slot is done.
+pub(crate) fn is_done_in(books: &Books, slot: Slot) -> bool
     ensures { result ≡ is_done books.now.slots slot }
 {
     match books.slot(slot) {

@@ -5,11 +5,11 @@ ghost use Rattle.depend_graph.specs.Graph.{groups_left};
 ghost use Rattle.farm_types.specs.declared.limits.TheConstants.{LAST_DEPEND, MOST_DEPENDS, MOST_GROUPS};
 ghost use Rattle.farm_depends.specs.Coming.{counts_full, counts_more};
 ghost use Rattle.farm_types.specs.declared.refusal.Refusal.TheVariants.{Full};
-ghost use Rattle.farm_changes.specs.declared.fault.PrepareFault.TheVariants.{Refused};
-ghost use Rattle.farm_depends.specs.Ends.{Refuses};
+ghost use Rattle.farm_places.specs.declared.fault.PrepareFault.TheVariants.{Refused};
+ghost use Rattle.farm_places.specs.Ends.{Refuses};
 
 use depend_book::Depends;
-use farm_changes::PrepareFault;
+use farm_places::PrepareFault;
 use farm_types::{Counted, LAST_DEPEND, MOST_DEPENDS, MOST_GROUPS, Refusal};
 
 /// How many depends there are, how many groups those have together that aren't satisfied, and the next depend's number.

@@ -9,7 +9,7 @@ use farm_types::{DependNo, Items, Slot};
 use std::alloc::Global;
 
 /// What follows an act of depends: the depends that come, with the memory that was taken for each, in the same order; the one that is dropped; the
-/// frames that the act completes; those that open; those that are blocked, and whether these leave their version. `count` is what the reply to a depend
+/// frames that the act completes; the one that isn't done any more; those that open; those that are blocked, and whether these leave their version. `count` is what the reply to a depend
 /// or a drop counts: the frames that wait unmet, and those that open.
 #[derive(Debug, Drop)]
 pub struct Follow {
@@ -17,6 +17,7 @@ pub struct Follow {
     pub spares: Items<GraphSpare>,
     pub dropped: Option<DependNo>,
     pub done: Items<Slot>,
+    pub reopened: Option<Slot>,
     pub opened: Items<Slot>,
     pub blocked: Items<Slot>,
     pub raises: bool,
@@ -32,6 +33,7 @@ pub(crate) fn follow_nothing(alloc: Global) -> Follow
         spares: Items::new(alloc),
         dropped: None,
         done: Items::new(alloc),
+        reopened: None,
         opened: Items::new(alloc),
         blocked: Items::new(alloc),
         raises: false,

@@ -8,7 +8,6 @@ mod checks;
 mod coming;
 mod completing;
 mod counts;
-mod ends;
 mod follow;
 mod marks;
 mod moving;
@@ -16,7 +15,7 @@ mod own;
 mod own_coming;
 mod preparing;
 mod refused;
-mod shapes;
+mod retrying;
 mod submitted;
 
 pub use applying::{apply_follow, reserve_follow};

@@ -3,10 +3,9 @@
 ghost use Rattle.std.specs.Prelude.{◌≡◌, length, IfOk};
 ghost use Rattle.farm_depends.specs.Placed.{CanPlace, EndsIn, IsOwn, name_in, number_among, own_shapes};
 
-use crate::ends::{check_part, end_in};
 use command_text::frame_name;
 use farm_books::Books;
-use farm_changes::PrepareFault;
+use farm_places::{PrepareFault, check_part, end_in};
 use farm_types::{
     DependEnd, Items, JobNo, JobSpec, LayerShape, LayerSpec, Place, Shape, Slot, Text,
 };

@@ -4,18 +4,17 @@ ghost use Rattle.std.specs.Prelude.{◌≡◌, ◌≤◌, All};
 ghost use Rattle.farm_types.specs.declared.limits.TheConstants.{MOST_GROUPS};
 ghost use Rattle.depend_graph.specs.Graph.{IsGroup};
 ghost use Rattle.farm_depends.specs.Coming.{ComeAll, Comes};
-ghost use Rattle.farm_depends.specs.Ends.{Refuses};
+ghost use Rattle.farm_places.specs.Ends.{Refuses};
 ghost use Rattle.farm_depends.specs.Placed.{CanPlace, GroupsBetween, IsOwn, own_groups, own_refusal, placed};
 
 use crate::checks::waits_for_itself;
 use crate::counts::{Counts, check_full, counts_more};
-use crate::ends::find_end;
 use crate::own::{OwnJob, name_in, own_end};
 use crate::refused::self_depend;
 use depend_book::NewDepend;
 use depend_kinds::groups;
 use farm_books::Books;
-use farm_changes::PrepareFault;
+use farm_places::{PrepareFault, find_end};
 use farm_types::{DependEnd, DependSpec, Group, Items, JobSpec, LayerShape, Shape};
 use std::alloc::Global;
 

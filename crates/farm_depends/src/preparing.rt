@@ -14,13 +14,15 @@ ghost use Rattle.farm_depends.specs.Follow.{PreparesFollow};
 
 use crate::blocked::{unmet_waiters, waiting_among};
 use crate::coming::coming;
-use crate::completing::{follow_drop, follow_report};
+use crate::completing::{follow_completed, follow_drop};
 use crate::counts::counts_of;
 use crate::follow::{Follow, follow_nothing};
+use crate::retrying::follow_retried;
 use crate::submitted::follow_submit;
 use depend_book::{Depends, NewDepend};
 use farm_books::Books;
-use farm_changes::{Change, PrepareFault};
+use farm_changes::Change;
+use farm_places::PrepareFault;
 use farm_types::{Act, DependSpec, Entry, Items, JobSpec, Slot};
 use std::alloc::{AllocError, Global};
 
@@ -39,8 +41,12 @@ pub fn prepare_follow(
     requires made { Makes books.now entry.now change.now }
     ensures { PreparesFollow (joined books.now depends.now) (joined (after_change books.now change.now) depends.now) entry.now.act result }
 {
+    depends.kept();
     match &entry.act {
-        Act::Heard(_) => follow_report(alloc, books, depends, entry, change),
+        Act::Heard(_) => follow_completed(alloc, books, depends, entry, change),
+        Act::KillJob { .. } => follow_completed(alloc, books, depends, entry, change),
+        Act::EatFrame(_) => follow_completed(alloc, books, depends, entry, change),
+        Act::RetryFrame(place) => follow_retried(alloc, books, depends, place),
         Act::Submit(spec) => follow_submit(alloc, books, depends, spec),
         Act::AddDepend(spec) => follow_depend(alloc, books, depends, spec),
         Act::DropDepend { depend } => follow_drop(alloc, books, depends, *depend),
@@ -89,7 +95,7 @@ fn follow_of(
     blocked: Items<Slot>,
     count: u32,
 ) -> Result<Follow, AllocError>
-    ensures { IfOk result (λ follow. follow ≡ record { depends = new ∷ []; spares = []; dropped = None; done = []; opened = []; blocked = blocked; raises = true; count = count }) }
+    ensures { IfOk result (λ follow. follow ≡ record { depends = new ∷ []; spares = []; dropped = None; done = []; reopened = None; opened = []; blocked = blocked; raises = true; count = count }) }
 {
     let mut depends = Items::new(alloc);
     depends.push(new)?;
@@ -98,6 +104,7 @@ fn follow_of(
         spares: Items::new(alloc),
         dropped: None,
         done: Items::new(alloc),
+        reopened: None,
         opened: Items::new(alloc),
         blocked,
         raises: true,

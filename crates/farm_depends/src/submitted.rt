@@ -20,7 +20,7 @@ use crate::own::{OwnJob, own_job};
 use crate::own_coming::all_coming;
 use depend_book::{Depends, NewDepend};
 use farm_books::Books;
-use farm_changes::PrepareFault;
+use farm_places::PrepareFault;
 use farm_types::{Items, JobSpec};
 use std::alloc::{AllocError, Global};
 
@@ -63,6 +63,7 @@ fn follow_own(
         spares: Items::new(alloc),
         dropped: None,
         done: Items::new(alloc),
+        reopened: None,
         opened: Items::new(alloc),
         blocked,
         raises: false,

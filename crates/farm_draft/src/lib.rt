@@ -3,10 +3,13 @@
 
 mod draft;
 mod ends;
+mod killed;
 mod life;
 mod loses;
 mod rows;
+mod stopped;
 mod verdict;
 
 pub use draft::Draft;
 pub use rows::Rows;
+pub use stopped::{retried_row, stopped_row};

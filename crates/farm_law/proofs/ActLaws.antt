@@ -10,18 +10,25 @@ use Rattle.farm_law.proofs.Hosts.{opened_law, heard_law, lock_law}
 use Rattle.farm_law.proofs.KeepsLaw.{KeepsLaw, law_same, law_then, law_unchanged, law_of_same_rows}
 use Rattle.farm_law.proofs.Lost.{expire_law}
 use Rattle.farm_law.proofs.Once.{CountsOnce, counts_none, counts_then, counts_in}
+use Rattle.farm_law.proofs.Paused.{pause_law}
 use Rattle.farm_law.proofs.Placed.{submit_law}
 use Rattle.farm_law.proofs.RowsStay.{AllocStays, slots_same, hosts_same, jobs_same}
 use Rattle.farm_law.proofs.Spent.{spent_stays}
+use Rattle.farm_law.proofs.Stopped.{IsStopped, frame_stops, job_stops, retried_stops, row_stops, stops_law}
 use Rattle.farm_types.proofs.Stays.{EachStays-append}
+use Rattle.farm_types.specs.DependActs.{pending_named}
 use Rattle.farm_types.specs.Farm.{Farm, changed_at, host_named, show_named, alloc_named}
 use Rattle.farm_types.specs.Hosts.{heard_row}
+use Rattle.farm_types.specs.Operators.{retried_row, slot_named, stopped_row, with_frame, with_killed}
 use Rattle.farm_types.specs.Run.{IsSound, HasItsHosts, ActsSafely, counted_by, counted_of, counted_in}
 use Rattle.farm_types.specs.Step.{HasCondition, after_act, after_heard, after_boot, after_sub, sub_named, expire, end_all}
 use Rattle.farm_types.specs.declared.entry.Act.{Act}
-use Rattle.farm_types.specs.declared.entry.Act.TheVariants.{Opened, Alloc, Sub, Boot, Heard, Submit, Lock, Tick, Book}
+use Rattle.farm_types.specs.declared.entry.Act.TheVariants.{Opened, Alloc, Sub, Boot, Heard, Submit, Pause, KillJob, KillFrame, EatFrame, RetryFrame, Lock, Tick, Book}
+use Rattle.farm_types.specs.declared.entry.FramePlace.{FramePlace}
 use Rattle.farm_types.specs.declared.entry.HeardAct.{HeardAct}
 use Rattle.farm_types.specs.declared.rows.AllocRow.{AllocRow}
+use Rattle.farm_types.specs.declared.slot_row.SlotRow.{SlotRow}
+use Rattle.farm_types.specs.declared.states.FrameState.TheVariants.{Dead, Eaten}
 use Rattle.farm_types.specs.declared.sub_line.SubLine.{SubLine}
 
 -- ---- what it keeps
@@ -35,6 +42,9 @@ sub_law : (f : Farm) (line : SubLine) (o : Option ℕ) → KeepsLaw f (after_sub
 sub_law f line None = law_same f
 sub_law f line (Some sub) = law_of_same_rows f (after_sub f line (Some sub)) refl refl refl refl
 
+frame_law : (f : Farm) (p : FramePlace) (change : SlotRow → SlotRow) → ((s : SlotRow) → IsStopped s (change s)) → KeepsLaw f (with_frame f p change)
+frame_law f p change stops = stops_law f (with_frame f p change) (frame_stops change stops f (slot_named f p))
+
 pub act_law : (f : Farm) (moment : ℕ) (act : Act) → HasCondition f act → KeepsLaw f (after_act f moment act)
 act_law f moment Opened allowed = opened_law f moment
 act_law f moment (Alloc facility tag) allowed = alloc_law f (record { facility = facility; tag = tag } ∷ [])
@@ -46,6 +56,11 @@ act_law f moment (Heard heard) allowed =
     let now = expire f moment in
     law_then f now (after_heard now heard moment (host_named f heard.host)) (expire_law f moment) (report_law now heard moment (host_named f heard.host))
 act_law f moment (Submit spec) allowed = submit_law f spec (show_named f spec.show)
+act_law f moment (Pause job paused) allowed = pause_law f paused (pending_named f job)
+act_law f moment (KillJob job) allowed = stops_law f (with_killed f (pending_named f job)) (job_stops f (pending_named f job))
+act_law f moment (KillFrame p) allowed = frame_law f p (stopped_row Dead) (row_stops Dead refl)
+act_law f moment (EatFrame p) allowed = frame_law f p (stopped_row Eaten) (row_stops Eaten refl)
+act_law f moment (RetryFrame p) allowed = frame_law f p retried_row retried_stops
 act_law f moment (Lock host lock) allowed = lock_law f lock (host_named f host)
 act_law f moment Tick allowed = expire_law f moment
 act_law f moment (Book slot host) allowed = book_law f slot host moment allowed

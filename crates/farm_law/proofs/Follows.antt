@@ -4,7 +4,7 @@ use Rattle.std.specs.List.{AllZip}
 use Rattle.std.proofs.lemmas.Bool.{false≢true, ltb-true}
 use Rattle.farm_types.specs.declared.depend.DependSpec.{DependSpec}
 use Rattle.farm_types.specs.declared.entry.Act.{Act}
-use Rattle.farm_types.specs.declared.entry.Act.TheVariants.{Heard, Submit, AddDepend, DropDepend}
+use Rattle.farm_types.specs.declared.entry.Act.TheVariants.{Heard, Submit, AddDepend, DropDepend, KillJob, EatFrame, RetryFrame}
 use Rattle.farm_types.specs.declared.limits.TheConstants.{LAST_VERSION}
 use Rattle.farm_types.specs.declared.slot_row.Frame.{Frame}
 use Rattle.farm_types.specs.declared.slot_row.SlotRow.{SlotRow}
@@ -214,4 +214,7 @@ act_follows (Heard heard) f = settle_follows f
 act_follows (Submit spec) f = with_depends_follows f spec.depends
 act_follows (AddDepend spec) f = after_depend_follows f spec
 act_follows (DropDepend depend) f = follows_then f (dropped f depend) (settle (dropped f depend)) (dropped_follows f depend) (settle_follows (dropped f depend))
+act_follows (KillJob job) f = settle_follows f
+act_follows (EatFrame p) f = settle_follows f
+act_follows (RetryFrame p) f = blocked_all_follow kept_version kept_raises f
 act_follows act f = follows_same f

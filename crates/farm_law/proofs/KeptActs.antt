@@ -8,16 +8,21 @@ use Rattle.std.proofs.lemmas.Option.{option_and_then_some}
 use Rattle.farm_types.proofs.Passes.{option_map-from}
 use Rattle.farm_types.specs.Booking.{may_record}
 use Rattle.farm_types.specs.declared.entry.Act.{Act}
-use Rattle.farm_types.specs.declared.entry.Act.TheVariants.{Opened, Show, Alloc, Sub, Boot, Heard, Submit, AddDepend, DropDepend, Lock, Tick, Book}
+use Rattle.farm_types.specs.declared.entry.Act.TheVariants.{Opened, Show, Alloc, Sub, Boot, Heard, Submit, AddDepend, DropDepend, Pause, KillJob, KillFrame, EatFrame, RetryFrame, Lock, Tick, Book}
+use Rattle.farm_types.specs.declared.entry.FramePlace.{FramePlace}
 use Rattle.farm_types.specs.declared.job.JobSpec.{JobSpec}
+use Rattle.farm_types.specs.declared.slot_row.SlotRow.{SlotRow}
+use Rattle.farm_types.specs.declared.states.FrameState.TheVariants.{Dead, Eaten}
 use Rattle.farm_types.specs.declared.states.LockState.{LockState}
 use Rattle.farm_types.specs.declared.sub_line.SubLine.{SubLine}
+use Rattle.farm_types.specs.DependActs.{pending_named}
 use Rattle.farm_types.specs.Farm.{Farm, alloc_named, changed_at, has_facility, host_named, show_named, sub_of}
 use Rattle.farm_types.specs.Formed.{IsFormedAct, IsFormedJob}
 use Rattle.farm_types.specs.Hosts.{locked_row, reopened_row}
 use Rattle.farm_types.specs.Jobs.{frames_of, job_refusal, layer_rows}
 use Rattle.farm_types.specs.Kept.{KeepsRows, KeepsJobs, alloc_label, show_label}
 use Rattle.farm_types.specs.Limits.{SubKeepsLimits}
+use Rattle.farm_types.specs.Operators.{retried_row, slot_named, stopped_row, with_frame, with_killed}
 use Rattle.farm_types.specs.Step.{HasCondition, act_refusal, after_act, after_lock, after_sub, after_submit, booked_row, expire, lists_of, new_proc, proc_of, sub_named, sub_row, submit_refusal, with_proc}
 use Rattle.farm_law.proofs.ActLaws.{act_law}
 use Rattle.farm_law.proofs.Booked.{book_law, booking_makes}
@@ -30,9 +35,12 @@ use Rattle.farm_law.proofs.KeptChanges.{kept_boot, kept_expire, kept_report, nam
 use Rattle.farm_law.proofs.KeptHosts.{hosts_changed, hosts_mapped, hosts_more_allocs, keeps_locked, keeps_reopened}
 use Rattle.farm_law.proofs.KeptJobs.{jobs_booked, jobs_more_shows, jobs_submitted}
 use Rattle.farm_law.proofs.KeptNames.{accepted_by, named_within}
+use Rattle.farm_law.proofs.KeptPaused.{kept_pause}
 use Rattle.farm_law.proofs.KeptServes.{layers_more, left_same, left_placed, locked_serve, reopened_serve}
 use Rattle.farm_law.proofs.KeptShows.{allocs_more, shows_more, subs_more, subs_set, subs_stay}
+use Rattle.farm_law.proofs.KeptStopped.{kept_stops}
 use Rattle.farm_law.proofs.Placed.{job_waits, submit_law}
+use Rattle.farm_law.proofs.Stopped.{IsStopped, frame_stops, job_stops, retried_stops, row_stops}
 
 -- ---- what names something that is there
 
@@ -96,6 +104,10 @@ kept_lock f lock (Some host) k =
       attempts = attempts_left f g (named_by f g law.rows refl refl refl) (left_all f.hosts g.hosts f.slots (locked_serve f.hosts lock host)) k.attempts;
       sound = sound_by f g law k;
     }
+
+-- a frame is killed, eaten or retried
+kept_frame : (f : Farm) (p : FramePlace) (change : SlotRow → SlotRow) → ((s : SlotRow) → IsStopped s (change s)) → KeepsRows f → KeepsRows (with_frame f p change)
+kept_frame f p change stops k = kept_stops f (with_frame f p change) (frame_stops change stops f (slot_named f p)) k
 
 -- ---- bookings
 
@@ -169,6 +181,11 @@ kept_act f moment (Heard heard) formed accepted allowed now k = kept_report (exp
 kept_act f moment (Submit spec) formed accepted allowed now k = kept_submit f spec (show_named f spec.show) refl accepted formed k
 kept_act f moment (AddDepend spec) formed accepted allowed now k = k
 kept_act f moment (DropDepend depend) formed accepted allowed now k = k
+kept_act f moment (Pause job paused) formed accepted allowed now k = kept_pause f paused (pending_named f job) k
+kept_act f moment (KillJob job) formed accepted allowed now k = kept_stops f (with_killed f (pending_named f job)) (job_stops f (pending_named f job)) k
+kept_act f moment (KillFrame p) formed accepted allowed now k = kept_frame f p (stopped_row Dead) (row_stops Dead refl) k
+kept_act f moment (EatFrame p) formed accepted allowed now k = kept_frame f p (stopped_row Eaten) (row_stops Eaten refl) k
+kept_act f moment (RetryFrame p) formed accepted allowed now k = kept_frame f p retried_row retried_stops k
 kept_act f moment (Lock host lock) formed accepted allowed now k = kept_lock f lock (host_named f host) k
 kept_act f moment Tick formed accepted allowed now k = kept_expire f moment k
 kept_act f moment (Book slot host) formed accepted allowed now k = kept_book f slot host moment allowed now k

@@ -1,5 +1,5 @@
 -- Lists whose keys rise, what is found or left out of a list, and names that stand once.
-use Rattle.std.proofs.Common.{◌≡◌, ℕ, suc, zero, ◌+◌, ◌<◌, ◌≤◌, Bool, true, false, cond, List, [], ◌∷◌, ◌++◌, map, Option, Some, None, refl, ap, subst, ◌∙◌, arith}
+use Rattle.std.proofs.Common.{◌≡◌, ℕ, suc, zero, ◌+◌, ◌<◌, ◌≤◌, Bool, true, false, cond, List, [], ◌∷◌, ◌++◌, map, Option, Some, None, refl, ap, sym, subst, ◌∙◌, arith}
 use Rattle.std.specs.Prelude.{bytes_eq}
 use Rattle.std.specs.List.{AllByRecursion, IsDistinct, filter, find, list_any, slice_get}
 use Rattle.std.specs.Option.{option_or}
@@ -32,6 +32,12 @@ rising_below key low (y ∷ ys) high (suc n) x rise at = rising_below key (key y
 rising_lower : {X : Type 0} (key : X → ℕ) (low mid : ℕ) (ys : List X) (high : ℕ) → low ≤ mid → IsRising key mid ys high → IsRising key low ys high
 rising_lower key low mid [] high h rise = omega (arith, h, rise)
 rising_lower key low mid (y ∷ ys) high h rise = (omega (arith, h, rise.0), rise.1)
+
+-- keys that stay rise as they did
+pub rising-map : {X : Type 0} (key : X → ℕ) (change : X → X) → ((x : X) → key (change x) ≡ key x) → (low : ℕ) (xs : List X) (high : ℕ) → IsRising key low xs high → IsRising key low (map change xs) high
+rising-map key change same low [] high rise = rise
+rising-map key change same low (x ∷ xs) high rise =
+    subst (λ (n : ℕ). (low ≤ n) × IsRising key (n + 1) (map change xs) high) (sym (same x)) (rise.0, rising-map key change same (key x + 1) xs high rise.1)
 
 -- two such lists one after the other
 pub rising-append : {X : Type 0} (key : X → ℕ) (low mid high : ℕ) (xs ys : List X) → IsRising key low xs mid → IsRising key mid ys high → IsRising key low (xs ++ ys) high

@@ -1,5 +1,5 @@
 -- Lists related item by item: what carries over from one to the other.
-use Rattle.std.proofs.Common.{◌≡◌, ℕ, suc, zero, Bool, true, List, [], ◌∷◌, map, Some, refl, sym, subst, arith}
+use Rattle.std.proofs.Common.{◌≡◌, ℕ, ◌≤◌, suc, zero, Bool, true, List, [], ◌∷◌, map, Some, refl, sym, subst, arith}
 use Rattle.std.specs.List.{AllZip, list_all, slice_get, sum_by}
 use Rattle.std.specs.Cmp.Derive.{both_true}
 use Rattle.std.proofs.lemmas.List.Sums.{sum_by-cons}
@@ -73,3 +73,11 @@ module _ {X : Type 0} (R : X → X → Type 0) where
   zip_sum weight each (x ∷ xs) [] zip = absurd zip
   zip_sum weight each (x ∷ xs) (y ∷ ys) zip =
       omega (arith, sum_by-cons weight x xs, sum_by-cons weight y ys, each x y zip.0, zip_sum weight each xs ys zip.1)
+
+  -- a weight that no item has more of than the one that it was
+  pub zip_sum_most : (weight : X → ℕ) → ((x y : X) → R x y → weight y ≤ weight x) → (xs ys : List X) → AllZip R xs ys → sum_by weight ys ≤ sum_by weight xs
+  zip_sum_most weight each [] [] zip = omega arith
+  zip_sum_most weight each [] (y ∷ ys) zip = absurd zip
+  zip_sum_most weight each (x ∷ xs) [] zip = absurd zip
+  zip_sum_most weight each (x ∷ xs) (y ∷ ys) zip =
+      omega (arith, sum_by-cons weight x xs, sum_by-cons weight y ys, each x y zip.0, zip_sum_most weight each xs ys zip.1)

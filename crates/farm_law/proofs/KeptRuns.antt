@@ -1,5 +1,5 @@
 -- Every legal run from a farm that keeps its rows ends in such a farm.
-use Rattle.std.proofs.Common.{◌≡◌, List, [], ◌∷◌, Option, Some, None, refl, sym, arith}
+use Rattle.std.proofs.Common.{◌≡◌, ℕ, List, [], ◌∷◌, Option, Some, None, refl, sym, ◌∙◌, arith}
 use Rattle.std.proofs.lemmas.Option.{none-some}
 use Rattle.farm_law.proofs.KeptActs.{kept_act}
 use Rattle.farm_law.proofs.KeptChanges.{kept_later}
@@ -9,8 +9,10 @@ use Rattle.farm_types.specs.DependActs.{or_else}
 use Rattle.farm_types.specs.Farm.{Farm}
 use Rattle.farm_types.specs.Formed.{IsFormed}
 use Rattle.farm_types.specs.Kept.{KeepsRows}
+use Rattle.farm_types.specs.Operators.{slot_named}
 use Rattle.farm_types.specs.Run.{IsLegal, IsLegalStep, run_of}
 use Rattle.farm_types.specs.Step.{HasCondition, act_refusal, acted, after, at_moment, follow_refusal, moment_of}
+use Rattle.farm_types.specs.declared.entry.Act.{Act}
 use Rattle.farm_types.specs.declared.entry.Entry.{Entry}
 
 -- ---- refusals
@@ -29,12 +31,17 @@ follow_accepted f e legal = (neither (act_refusal f e.act) (follow_refusal f e.a
 
 -- ---- one entry
 
+-- what an act is refused is the same at another moment
+pub refusal_later : (f : Farm) (moment : ℕ) (act : Act) → act_refusal (at_moment f moment) act ≡ act_refusal f act
+unfolding slot_named
+refusal_later f moment act = refl
+
 -- the act alone
 pub kept_acted : (f : Farm) (e : Entry) → IsFormed e → act_refusal f e.act ≡ None → HasCondition f e.act → KeepsRows f → KeepsRows (acted f e)
 kept_acted f e formed accepted allowed k =
     let moment = moment_of f e.moment in
     let now = kept_later f moment (omega arith) (omega (arith, k.moment_within, formed.moment_within)) k in
-    kept_act (at_moment f moment) moment e.act formed.act_formed accepted (allowed_later f moment e.act allowed) (omega arith) now
+    kept_act (at_moment f moment) moment e.act formed.act_formed (refusal_later f moment e.act ∙ accepted) (allowed_later f moment e.act allowed) (omega arith) now
 
 -- the act, and then what follows of it
 pub kept_step : (f : Farm) (e : Entry) → IsLegalStep f e → KeepsRows f → KeepsRows (after f e)

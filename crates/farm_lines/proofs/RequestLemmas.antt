@@ -5,11 +5,11 @@ use Rattle.std.specs.List.{All, list_all}
 use Rattle.std.specs.Option.{IfSome}
 use Rattle.std.proofs.lemmas.Bool.{and_parts}
 use Rattle.serde_json.specs.Data.{Members}
-use Rattle.cue_json.specs.Fields.{Fault, ◌>>=◌, of_kind, object_at, others_at, text_at, whole_at, has_key}
+use Rattle.cue_json.specs.Fields.{Fault, ◌>>=◌, of_kind, object_at, others_at, signed_at, text_at, whole_at, has_key}
 use Rattle.cue_json.specs.Lines.{object_in}
 use Rattle.farm_types.specs.declared.job.JobSpec.{JobSpec}
 use Rattle.farm_types.specs.declared.rows.AllocRow.{AllocRow}
-use Rattle.farm_types.specs.Formed.{AreFree, IsFormed, IsFormedAct, IsFormedBoot, IsFormedDepend, IsFormedDone, IsFormedJob, IsFormedSub}
+use Rattle.farm_types.specs.Formed.{AreFree, IsFormed, IsFormedAct, IsFormedBoot, IsFormedDepend, IsFormedDone, IsFormedFrame, IsFormedJob, IsFormedSub}
 use Rattle.farm_types.specs.Forms.{is_name_text, is_tag_text}
 use Rattle.farm_types.specs.Limits.{IsBetween}
 use Rattle.farm_lines.specs.declared.boot_form.BootForm.{BootForm}
@@ -19,14 +19,16 @@ use Rattle.farm_lines.specs.declared.request.Request.TheVariants as request
 use Rattle.farm_lines.specs.declared.sub_form.SubForm.{SubForm}
 use Rattle.farm_lines.specs.DependLines.{depend_at}
 use Rattle.farm_lines.specs.Fields.{name_at, list_of, optional_whole_at}
+use Rattle.farm_lines.specs.OperatorLines.{asks_pause, frame_at, frame_keys, frame_of_job_at, job_at, job_keys, kill_at, killed_at, names_frame}
 use Rattle.farm_lines.specs.Points.{before_point, after_point}
-use Rattle.farm_lines.specs.Request.{LockLine, attempt_at, done_at, done_keys, report_at, report_keys, show_at, name_keys, alloc_parts, alloc_of_name, alloc_name_at, alloc_at, sub_form_at, sub_keys, boot_keys, lock_keys, lock_at, sub_line_of, sub_line_at, boot_form_at, boot_line_of, boot_line_at, lock_line_at, tick_keys, drop_at, drop_keys, submit_keys, after_others, submit_at, asked, judged, asks_alloc, asks_lock, asks_tick, by_op, after_op, request_in, request_of}
+use Rattle.farm_lines.specs.Request.{LockLine, attempt_at, done_at, done_keys, report_at, report_keys, show_at, name_keys, alloc_parts, alloc_of_name, alloc_name_at, alloc_at, sub_form_at, sub_keys, boot_keys, lock_keys, lock_at, sub_line_of, sub_line_at, boot_form_at, boot_line_of, boot_line_at, lock_line_at, tick_keys, drop_at, drop_keys, submit_keys, after_others, submit_at, asked, judged, asks_alloc, asks_kill, asks_lock, asks_tick, by_op, after_op, request_in, request_of}
 use Rattle.farm_lines.specs.Spec.{SpecError, Field, Range, Amount, formed, number_at, tags_at, within, spec_at}
 use Rattle.farm_lines.specs.Transcript.{act_of, entry_of}
 use Rattle.farm_lines.proofs.DependLemmas.{depend_formed}
 use Rattle.farm_lines.proofs.FieldLemmas.{step, step_any, ok_at, either, kind_formed, name_formed, whole_formed, tags_formed, list_formed}
 use Rattle.farm_lines.proofs.SpecLemmas.{form_first, spec_formed, within_formed}
-use Rattle.farm_types.specs.declared.limits.TheConstants.{LAST_BOOT, LAST_DEPEND, LAST_SLOT, LAST_VERSION, LEAST_CORES, LEAST_MEMORY, MOST_BURST, MOST_CORES, MOST_MEMORY, MOST_TAGS}
+use Rattle.farm_types.specs.declared.limits.TheConstants.{LAST_BOOT, LAST_DEPEND, LAST_SLOT, LAST_VERSION, LEAST_CORES, LEAST_MEMORY, MOST_BURST, MOST_CORES, MOST_EXIT, MOST_MEMORY, MOST_TAGS}
+use Rattle.farm_lines.specs.declared.limits.TheConstants.{LEAST_FRAME, MOST_FRAME}
 
 -- ---- reports
 
@@ -41,15 +43,15 @@ unfolding done_at
 done_formed ms =
     step (λ n. (0 ≤ n) × (n ≤ LAST_SLOT)) IsFormedDone (whole_at (codes "slot") 0 LAST_SLOT ms) _ (whole_formed (codes "slot") 0 LAST_SLOT ms) (λ slot slotted.
     step (λ n. (0 ≤ n) × (n ≤ LAST_VERSION)) IsFormedDone (whole_at (codes "version") 0 LAST_VERSION ms) _ (whole_formed (codes "version") 0 LAST_VERSION ms) (λ version versioned.
-    step (λ n. (0 ≤ n) × (n ≤ 0)) IsFormedDone (whole_at (codes "status") 0 0 ms) _ (whole_formed (codes "status") 0 0 ms) (λ status exited.
-    step (λ n. (0 ≤ n) × (n ≤ 0)) IsFormedDone (whole_at (codes "signal") 0 0 ms) _ (whole_formed (codes "signal") 0 0 ms) (λ signal signalled.
+    step (λ n. (0 ≤ n) × (n ≤ MOST_EXIT)) IsFormedDone (whole_at (codes "status") 0 MOST_EXIT ms) _ (whole_formed (codes "status") 0 MOST_EXIT ms) (λ status exited.
+    step (λ n. (0 ≤ n) × (n ≤ MOST_EXIT)) IsFormedDone (whole_at (codes "signal") 0 MOST_EXIT ms) _ (whole_formed (codes "signal") 0 MOST_EXIT ms) (λ signal signalled.
     step AreFree IsFormedDone (optional_whole_at (codes "free") 0 MOST_CORES ms) _ (free_formed (codes "free") ms) (λ free freed.
     step_any IsFormedDone (others_at done_keys ms) _ (λ none.
     record {
       slot_within = slotted.1;
       version_within = versioned.1;
-      status_within = omega (arith, exited.1);
-      signal_within = omega (arith, signalled.1);
+      status_within = exited.1;
+      signal_within = signalled.1;
       free_within = freed;
     }))))))
 
@@ -184,11 +186,39 @@ drop_formed ms =
     step (IsBetween 1 LAST_DEPEND) (IsBetween 1 LAST_DEPEND) (whole_at (codes "depend") 1 LAST_DEPEND ms) _ (whole_formed (codes "depend") 1 LAST_DEPEND ms) (λ depend numbered.
     step_any (IsBetween 1 LAST_DEPEND) (others_at drop_keys ms) _ (λ none. numbered))
 
--- ---- a line
+-- ---- what operators ask
 
 -- the act of what is asked is within its forms and limits
 abbrev AsksFormed : Request → Type 0
 AsksFormed what = IsFormedAct (act_of what)
+
+abbrev IsName : List ℕ → Type 0
+IsName name = is_name_text name ≡ true
+
+job_formed : (ms : Members) → IfOk (job_at ms) IsName
+unfolding job_at
+job_formed ms = step IsName IsName (name_at (codes "job") ms) _ (name_formed (codes "job") ms) (λ job named. step_any IsName (others_at job_keys ms) _ (λ none. named))
+
+frame_of_job_formed : (job : List ℕ) (ms : Members) → IsName job → IfOk (frame_of_job_at job ms) IsFormedFrame
+unfolding frame_of_job_at
+frame_of_job_formed job ms named =
+    step IsName IsFormedFrame (name_at (codes "layer") ms) _ (name_formed (codes "layer") ms) (λ layer layered.
+    step_any IsFormedFrame (signed_at (codes "frame") LEAST_FRAME MOST_FRAME ms) _ (λ frame.
+    step_any IsFormedFrame (others_at frame_keys ms) _ (λ none. record { job = named; layer = layered })))
+
+frame_formed : (ms : Members) → IfOk (frame_at ms) IsFormedFrame
+unfolding frame_at
+frame_formed ms = step IsName IsFormedFrame (name_at (codes "job") ms) _ (name_formed (codes "job") ms) (λ job named. frame_of_job_formed job ms named)
+
+killed_formed : (framed : Bool) (job : List ℕ) (ms : Members) → IsName job → IfOk (killed_at framed job ms) AsksFormed
+killed_formed true job ms named = step IsFormedFrame AsksFormed (frame_of_job_at job ms) _ (frame_of_job_formed job ms named) (λ p formed. formed)
+killed_formed false job ms named = step_any AsksFormed (others_at job_keys ms) _ (λ none. named)
+
+kill_formed : (ms : Members) → IfOk (kill_at ms) AsksFormed
+unfolding kill_at
+kill_formed ms = step IsName AsksFormed (name_at (codes "job") ms) _ (name_formed (codes "job") ms) (λ job named. killed_formed (names_frame ms) job ms named)
+
+-- ---- a line
 
 asked_formed : {X : Type 0} (P : X → Type 0) (asks : X → Request) (read : Result X Fault) → IfOk read P → ((x : X) → P x → AsksFormed (asks x)) → IfOk (asked asks read) AsksFormed
 asked_formed P asks (Ok x) h is = is x h
@@ -213,8 +243,13 @@ by_op_formed ms op =
     (either AsksFormed (bytes_eq op (codes "submit")) _ _ (judged_formed IsFormedJob request.Submit (submit_at ms) (submit_formed ms) (λ spec h. h))
     (either AsksFormed (bytes_eq op (codes "depend")) _ _ (asked_formed IsFormedDepend request.Depend (depend_at ms) (depend_formed ms) (λ spec h. h))
     (either AsksFormed (bytes_eq op (codes "drop")) _ _ (asked_formed (IsBetween 1 LAST_DEPEND) request.Drop (drop_at ms) (drop_formed ms) (λ depend h. h))
+    (either AsksFormed (bytes_eq op (codes "pause")) _ _ (asked_formed IsName (asks_pause true) (job_at ms) (job_formed ms) (λ job h. h))
+    (either AsksFormed (bytes_eq op (codes "resume")) _ _ (asked_formed IsName (asks_pause false) (job_at ms) (job_formed ms) (λ job h. h))
+    (either AsksFormed (bytes_eq op (codes "kill")) _ _ (asked_formed AsksFormed asks_kill (kill_at ms) (kill_formed ms) (λ killed h. h))
+    (either AsksFormed (bytes_eq op (codes "eat")) _ _ (asked_formed IsFormedFrame request.EatFrame (frame_at ms) (frame_formed ms) (λ p h. h))
+    (either AsksFormed (bytes_eq op (codes "retry")) _ _ (asked_formed IsFormedFrame request.RetryFrame (frame_at ms) (frame_formed ms) (λ p h. h))
     (either AsksFormed (bytes_eq op (codes "tick")) _ _ (asked_formed (λ none. Unit {0}) asks_tick (others_at tick_keys ms) (any_formed (others_at tick_keys ms)) (λ none h. h))
-    tt)))))))))
+    tt))))))))))))))
 
 after_op_formed : (ms : Members) (op : Result (List ℕ) Fault) → IfOk (after_op ms op) AsksFormed
 after_op_formed ms (Ok op) = by_op_formed ms op

@@ -1,6 +1,7 @@
 pub mod DependLines
 pub mod FieldFaults
 pub mod Fields
+pub mod OperatorLines
 pub mod Points
 pub mod Reply
 pub mod Request

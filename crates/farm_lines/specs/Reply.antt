@@ -15,7 +15,7 @@ use Rattle.farm_types.specs.declared.entry.Act.{Act}
 use Rattle.farm_types.specs.declared.entry.Act.TheVariants as act
 use Rattle.farm_lines.specs.declared.launch.Launch.{Launch}
 use Rattle.farm_types.specs.declared.refusal.Refusal.{Refusal}
-use Rattle.farm_types.specs.declared.refusal.Refusal.TheVariants.{Unknown, Exists, WrongBoot, Stale, FarmFull, Satisfied, SelfDepend, Started, Full}
+use Rattle.farm_types.specs.declared.refusal.Refusal.TheVariants.{Unknown, Exists, WrongBoot, Stale, FarmFull, Satisfied, WrongState, VersionSpent, SelfDepend, Started, Full}
 use Rattle.farm_types.specs.declared.refusal.Counted.{Counted}
 use Rattle.farm_types.specs.declared.refusal.Counted.TheVariants as counted
 use Rattle.farm_types.specs.declared.dispatch.Cut.{Cut}
@@ -27,6 +27,8 @@ use Rattle.farm_types.specs.declared.rows.JobRow.{JobRow}
 use Rattle.farm_types.specs.declared.rows.LayerRow.{LayerRow}
 use Rattle.farm_types.specs.declared.slot_row.Frame.{Frame}
 use Rattle.farm_types.specs.declared.slot_row.SlotRow.{SlotRow}
+use Rattle.farm_types.specs.declared.states.FrameState.{FrameState}
+use Rattle.farm_types.specs.declared.states.FrameState.TheVariants as frame_state
 use Rattle.farm_types.specs.Farm.{Farm, job_at, layer_at}
 use Rattle.farm_types.specs.Names.{frame_name, expanded}
 use Rattle.farm_lines.specs.Request.{RequestError, BadLine, BadRange, BadAmount}
@@ -94,6 +96,15 @@ counted_word counted.Depends = codes "depends"
 counted_word counted.Groups = codes "groups"
 counted_word counted.DependNumbers = codes "depend_numbers"
 
+abbrev pub state_word : FrameState → List ℕ
+state_word frame_state.Waiting = codes "WAITING"
+state_word frame_state.Setup = codes "SETUP"
+state_word frame_state.Running = codes "RUNNING"
+state_word frame_state.Succeeded = codes "SUCCEEDED"
+state_word frame_state.Depend = codes "DEPEND"
+state_word frame_state.Dead = codes "DEAD"
+state_word frame_state.Eaten = codes "EATEN"
+
 unfoldable pub refusal_data : Refusal → Data
 refusal_data (Unknown name) =
     object (member (codes "code") (whole 3) (member (codes "name") (string name) (member (codes "ok") (boolean false) (member (codes "why") (string (codes "unknown")) no_members))))
@@ -107,6 +118,10 @@ refusal_data (FarmFull free) =
     object (member (codes "code") (whole 9) (member (codes "free") (whole free) (member (codes "ok") (boolean false) (member (codes "why") (string (codes "farm_full")) no_members))))
 refusal_data Satisfied =
     object (member (codes "code") (whole 11) (member (codes "ok") (boolean false) (member (codes "state") (string (codes "SATISFIED")) (member (codes "why") (string (codes "wrong_state")) no_members))))
+refusal_data (WrongState state) =
+    object (member (codes "code") (whole 11) (member (codes "ok") (boolean false) (member (codes "state") (string (state_word state)) (member (codes "why") (string (codes "wrong_state")) no_members))))
+refusal_data (VersionSpent frame) =
+    object (member (codes "code") (whole 14) (member (codes "frame") (string frame) (member (codes "ok") (boolean false) (member (codes "why") (string (codes "version_spent")) no_members))))
 refusal_data (SelfDepend frame) =
     object (member (codes "code") (whole 12) (member (codes "frame") (string frame) (member (codes "ok") (boolean false) (member (codes "why") (string (codes "self_depend")) no_members))))
 refusal_data (Started frame) =
@@ -138,6 +153,9 @@ depend_data depend unmet = object (member (codes "depend") (whole depend) (membe
 unfoldable pub dropped_data : ℕ → Data
 dropped_data opened = object (member (codes "ok") (boolean true) (member (codes "opened") (whole opened) no_members))
 
+unfoldable pub ended_data : ℕ → Data
+ended_data ended = object (member (codes "ended") (whole ended) (member (codes "ok") (boolean true) no_members))
+
 unfoldable pub tick_data : ℕ → ℕ → Data
 tick_data down lost = object (member (codes "down") (whole down) (member (codes "lost") (whole lost) (member (codes "ok") (boolean true) no_members)))
 
@@ -153,6 +171,7 @@ ok_reply entry (answer.Boot boot nonce) = reply.Boot boot nonce
 ok_reply entry (answer.Submitted frames) = reply.Submitted frames (job_named entry)
 ok_reply entry (answer.DependAdded depend unmet) = reply.Depend depend unmet
 ok_reply entry (answer.DependDropped opened) = reply.Dropped opened
+ok_reply entry (answer.Ended ended) = reply.Ended ended
 ok_reply entry (answer.Tick down lost) = reply.Tick down lost
 ok_reply entry other = reply.Done
 
@@ -238,6 +257,7 @@ reply_data (reply.Tick down lost) = tick_data down lost
 reply_data (reply.Submitted frames job) = submit_data frames job
 reply_data (reply.Depend depend unmet) = depend_data depend unmet
 reply_data (reply.Dropped opened) = dropped_data opened
+reply_data (reply.Ended ended) = ended_data ended
 reply_data (reply.Report r) = report_data r.boot r.seq (cut_text r.cut) r.acks r.kills r.launches
 reply_data (reply.BadLine field) = bad_line field
 reply_data reply.TooLong = too_long

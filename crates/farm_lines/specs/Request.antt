@@ -1,5 +1,5 @@
 -- What a line asks, read field by field, or its first fault.
-use Rattle.std.specs.Prelude.{ℕ, ◌&&◌, List, [], ◌∷◌, codes, length, Option, None, Some, Result, Ok, Err, ⊤, bytes_eq, if◌then◌else◌}
+use Rattle.std.specs.Prelude.{ℕ, ◌&&◌, true, false, List, [], ◌∷◌, codes, length, Option, None, Some, Result, Ok, Err, ⊤, bytes_eq, if◌then◌else◌}
 use Rattle.serde_json.specs.Data.{Members}
 use Rattle.cue_json.specs.Fields.{Fault, field_of, ◌>>=◌, of_kind, text_at, whole_at, object_at, others_at}
 use Rattle.cue_json.specs.Lines.{object_in}
@@ -20,9 +20,10 @@ use Rattle.farm_types.specs.declared.sub_line.SubLine.{SubLine}
 use Rattle.farm_lines.specs.DependLines.{depend_at}
 use Rattle.farm_lines.specs.Fields.{name_at, optional_whole_at, list_of}
 use Rattle.farm_types.specs.Forms.{is_tag_text}
+use Rattle.farm_lines.specs.OperatorLines.{asks_pause, frame_at, job_at, kill_at}
 use Rattle.farm_lines.specs.Points.{before_point, after_point}
 use Rattle.farm_lines.specs.Spec.{SpecError, Field, Range, Amount, formed, number_at, tags_at, within, spec_at}
-use Rattle.farm_types.specs.declared.limits.TheConstants.{LAST_BOOT, LAST_DEPEND, LAST_SLOT, LAST_VERSION, LEAST_CORES, LEAST_MEMORY, MOST_BURST, MOST_CORES, MOST_MEMORY, MOST_TAGS}
+use Rattle.farm_types.specs.declared.limits.TheConstants.{LAST_BOOT, LAST_DEPEND, LAST_SLOT, LAST_VERSION, LEAST_CORES, LEAST_MEMORY, MOST_BURST, MOST_CORES, MOST_EXIT, MOST_MEMORY, MOST_TAGS}
 
 -- the first fault of a malformed line: the field at fault, empty where the line is no JSON object; a layer's range has a fault; or the amount of a field
 -- is outside its limits
@@ -49,7 +50,7 @@ done_keys = codes "free" ∷ codes "signal" ∷ codes "slot" ∷ codes "status" 
 unfoldable pub done_at : Members → Result DoneItem Fault
 done_at ms =
     whole_at (codes "slot") 0 LAST_SLOT ms >>= λ slot. whole_at (codes "version") 0 LAST_VERSION ms >>= λ version.
-    whole_at (codes "status") 0 0 ms >>= λ status. whole_at (codes "signal") 0 0 ms >>= λ signal.
+    whole_at (codes "status") 0 MOST_EXIT ms >>= λ status. whole_at (codes "signal") 0 MOST_EXIT ms >>= λ signal.
     optional_whole_at (codes "free") 0 MOST_CORES ms >>= λ free. others_at done_keys ms >>= λ none.
     Ok (record { attempt = record { slot = slot; version = version }; exit = record { status = status; signal = signal }; free = free })
 
@@ -204,6 +205,9 @@ asks_alloc a = request.Alloc a.facility a.tag
 abbrev pub asks_lock : LockLine → Request
 asks_lock line = request.Lock line.host line.lock
 
+abbrev pub asks_kill : Request → Request
+asks_kill killed = killed
+
 abbrev pub asks_tick : ⊤ → Request
 asks_tick none = request.Tick
 
@@ -219,8 +223,13 @@ by_op ms op =
     else (if bytes_eq op (codes "submit") then judged request.Submit (submit_at ms)
     else (if bytes_eq op (codes "depend") then asked request.Depend (depend_at ms)
     else (if bytes_eq op (codes "drop") then asked request.Drop (drop_at ms)
+    else (if bytes_eq op (codes "pause") then asked (asks_pause true) (job_at ms)
+    else (if bytes_eq op (codes "resume") then asked (asks_pause false) (job_at ms)
+    else (if bytes_eq op (codes "kill") then asked asks_kill (kill_at ms)
+    else (if bytes_eq op (codes "eat") then asked request.EatFrame (frame_at ms)
+    else (if bytes_eq op (codes "retry") then asked request.RetryFrame (frame_at ms)
     else (if bytes_eq op (codes "tick") then asked asks_tick (others_at tick_keys ms)
-    else Err (BadLine (codes "op")))))))))))
+    else Err (BadLine (codes "op"))))))))))))))))
 
 abbrev pub after_op : Members → Result (List ℕ) Fault → Result Request RequestError
 after_op ms (Ok op) = by_op ms op

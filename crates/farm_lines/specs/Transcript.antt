@@ -79,6 +79,11 @@ act_of (request.Lock host lock) = act.Lock host lock
 act_of (request.Submit spec) = act.Submit spec
 act_of (request.Depend spec) = act.AddDepend spec
 act_of (request.Drop depend) = act.DropDepend depend
+act_of (request.Pause job paused) = act.Pause job paused
+act_of (request.KillJob job) = act.KillJob job
+act_of (request.KillFrame p) = act.KillFrame p
+act_of (request.EatFrame p) = act.EatFrame p
+act_of (request.RetryFrame p) = act.RetryFrame p
 act_of request.Tick = act.Tick
 
 abbrev pub entry_of : Request → ℕ → Entry

@@ -7,7 +7,7 @@ use frame_range::RangeFault;
 /// A reply: one variant for each set of keys of an ok reply, and for each refusal.
 #[derive(Debug, Drop)]
 pub enum Reply {
-    /// Done, with nothing to tell: for a show, an allocation and a host's lock.
+    /// Done, with nothing to tell: for a show, an allocation, a host's lock, and a job that is paused or resumed.
     Done,
     Sub {
         booked: Cores,
@@ -34,6 +34,10 @@ pub enum Reply {
     /// How many frames wait for no other any more, and are ready to run.
     Dropped {
         opened: u32,
+    },
+    /// How many attempts ended.
+    Ended {
+        ended: u32,
     },
     Report(ReportReply),
     BadLine {

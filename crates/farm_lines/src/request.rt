@@ -1,13 +1,14 @@
 //! What a line asks.
 
 use crate::report::Report;
-use farm_types::{BootLine, DependNo, DependSpec, JobSpec, LockState, SubLine, Text};
+use farm_types::{BootLine, DependNo, DependSpec, FramePlace, JobSpec, LockState, SubLine, Text};
 use frame_range::RangeFault;
 use std::alloc::AllocError;
 use std::fmt;
 
 /// What a line asks: that a show or an allocation be added, a subscription set, a host's boot or report taken, a host
-/// locked or opened, a job submitted, a depend added or dropped, or that time be seen to have passed.
+/// locked or opened, a job submitted, paused, resumed or killed, a depend added or dropped, a frame killed, eaten or retried, or that time be
+/// seen to have passed.
 #[derive(Debug, Drop)]
 pub enum Request {
     Show { name: Text },
@@ -19,6 +20,11 @@ pub enum Request {
     Submit(JobSpec),
     Depend(DependSpec),
     Drop { depend: DependNo },
+    Pause { job: Text, paused: bool },
+    KillJob { job: Text },
+    KillFrame(FramePlace),
+    EatFrame(FramePlace),
+    RetryFrame(FramePlace),
     Tick,
 }
 

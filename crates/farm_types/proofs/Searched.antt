@@ -1,5 +1,5 @@
 -- A binary search by keys that rise ends at the place of the first item with the key, or says that there is none.
-use Rattle.std.proofs.Common.{◌≡◌, ℕ, zero, suc, ◌+◌, ◌<◌, ◌≤◌, eqb, leb, ltb, true, false, List, [], ◌∷◌, length, get_or, Result, Ok, Err, ◌⊎◌, inl, inr, refl, sym, ◌∙◌, arith}
+use Rattle.std.proofs.Common.{◌≡◌, ℕ, zero, suc, ◌+◌, ◌<◌, ◌≤◌, eqb, leb, ltb, true, false, List, [], ◌∷◌, length, get_or, Result, Ok, Err, ◌⊎◌, inl, inr, refl, sym, arith}
 use Rattle.std.specs.List.{position_or_len}
 use Rattle.std.specs.Result.{result_unwrap_or}
 use Rattle.std.specs.List.Sorted.{IsSearchInRange, IsBinarySearchResult, IsNonDecreasingBy, IsPartitionPoint}

@@ -1,5 +1,5 @@
 -- Depends that come and go, and when the farm refuses them.
-use Rattle.std.specs.Prelude.{ℕ, ℤ, ◌==◌, ◌+◌, ◌∷◌, [], ◌++◌, Bool, true, false, not, List, map, filter, length, sum_by, Option, None, Some, find, option_map, is_none, slice_get, nat_lt, nat_le, bytes_eq, decimal, if◌then◌else◌}
+use Rattle.std.specs.Prelude.{ℕ, ℤ, ◌==◌, ◌+◌, ◌∷◌, [], ◌++◌, Bool, true, false, not, List, map, filter, length, sum_by, Option, None, Some, find, option_map, slice_get, nat_lt, nat_le, bytes_eq, decimal, if◌then◌else◌}
 use Rattle.std.specs.List.{list_any}
 use Rattle.std.specs.Ordering.{int_eq}
 use Rattle.farm_types.specs.declared.depend.DependEnd.{DependEnd}
@@ -16,7 +16,7 @@ use Rattle.farm_types.specs.declared.slot_row.Frame.{Frame}
 use Rattle.farm_types.specs.declared.slot_row.SlotRow.{SlotRow}
 use Rattle.farm_types.specs.declared.states.FrameState.{FrameState}
 use Rattle.farm_types.specs.declared.states.FrameState.TheVariants as frame_state
-use Rattle.farm_types.specs.Depends.{groups_left, groups_of, is_met, waits_in}
+use Rattle.farm_types.specs.Depends.{groups_left, groups_of, is_met}
 use Rattle.farm_types.specs.Farm.{Farm, for_some, layer_at, layers_of}
 use Rattle.farm_types.specs.Jobs.{is_pending_named}
 use Rattle.farm_types.specs.Names.{frame_name}

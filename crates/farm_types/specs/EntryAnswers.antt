@@ -7,11 +7,12 @@ use Rattle.farm_types.specs.declared.entry.Entry.{Entry}
 use Rattle.farm_types.specs.declared.entry.Act.{Act}
 use Rattle.farm_types.specs.declared.entry.Act.TheVariants as act
 use Rattle.farm_types.specs.declared.rows.HostRow.{HostRow}
-use Rattle.farm_types.specs.DependActs.{add_depend, dropped, unmet_of}
+use Rattle.farm_types.specs.DependActs.{add_depend, dropped, pending_named, unmet_of}
 use Rattle.farm_types.specs.Farm.{Farm, host_named}
 use Rattle.farm_types.specs.Hosts.{count_unheard, is_same_life}
 use Rattle.farm_types.specs.Lost.{count_on}
 use Rattle.farm_types.specs.Jobs.{frames_in}
+use Rattle.farm_types.specs.Operators.{count_at, count_of, slot_row_named}
 use Rattle.farm_types.specs.Settle.{opened_by, settle}
 use Rattle.farm_types.specs.Step.{is_silent, moment_of, sub_named}
 use Rattle.farm_types.specs.Sums.{booked_in}
@@ -40,6 +41,11 @@ answer_at f moment (act.Heard heard) = answer.Heard
 answer_at f moment (act.Submit spec) = answer.Submitted (frames_in spec.layers)
 answer_at f moment (act.AddDepend spec) = answer.DependAdded f.next_depend (unmet_of (settle (add_depend f spec)) f.next_depend)
 answer_at f moment (act.DropDepend depend) = answer.DependDropped (opened_by (dropped f depend))
+answer_at f moment (act.Pause job paused) = answer.Paused
+answer_at f moment (act.KillJob job) = answer.Ended (count_of f (pending_named f job))
+answer_at f moment (act.KillFrame p) = answer.Ended (count_at (slot_row_named f p))
+answer_at f moment (act.EatFrame p) = answer.Ended (count_at (slot_row_named f p))
+answer_at f moment (act.RetryFrame p) = answer.Ended (count_at (slot_row_named f p))
 answer_at f moment (act.Lock host lock) = answer.Lock
 answer_at f moment act.Tick = answer.Tick (count_unheard moment f.hosts) (count_on (is_silent f moment) f.slots)
 answer_at f moment (act.Book slot host) = answer.Booked

@@ -10,6 +10,7 @@ use Rattle.farm_types.specs.declared.depend.Place.{Place}
 use Rattle.farm_types.specs.declared.entry.Act.{Act}
 use Rattle.farm_types.specs.declared.entry.Act.TheVariants as act
 use Rattle.farm_types.specs.declared.entry.Entry.{Entry}
+use Rattle.farm_types.specs.declared.entry.FramePlace.{FramePlace}
 use Rattle.farm_types.specs.declared.entry.HeardAct.{HeardAct}
 use Rattle.farm_types.specs.declared.job.JobSpec.{JobSpec}
 use Rattle.farm_types.specs.declared.job.LayerSpec.{LayerSpec}
@@ -123,6 +124,11 @@ pub record IsFormedJob (spec : JobSpec) : Type 0 where
   pub each_layer : All IsFormedLayer spec.layers
   pub each_depend : All (IsFormedOwn spec.name) spec.depends
 
+-- a frame of a layer of a job; its number may be any
+pub record IsFormedFrame (p : FramePlace) : Type 0 where
+  pub job : is_name_text p.job ≡ true
+  pub layer : is_name_text p.layer ≡ true
+
 -- what an entry does; of a booking its condition says more
 abbrev pub IsFormedAct : Act → Type 0
 IsFormedAct act.Opened = Unit {0}
@@ -134,6 +140,11 @@ IsFormedAct (act.Heard heard) = IsFormedHeard heard
 IsFormedAct (act.Submit spec) = IsFormedJob spec
 IsFormedAct (act.AddDepend spec) = IsFormedDepend spec
 IsFormedAct (act.DropDepend depend) = IsBetween 1 LAST_DEPEND depend
+IsFormedAct (act.Pause job paused) = is_name_text job ≡ true
+IsFormedAct (act.KillJob job) = is_name_text job ≡ true
+IsFormedAct (act.KillFrame p) = IsFormedFrame p
+IsFormedAct (act.EatFrame p) = IsFormedFrame p
+IsFormedAct (act.RetryFrame p) = IsFormedFrame p
 IsFormedAct (act.Lock host lock) = is_name_text host ≡ true
 IsFormedAct act.Tick = Unit {0}
 IsFormedAct (act.Book slot host) = Unit {0}

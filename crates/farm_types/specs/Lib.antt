@@ -14,6 +14,7 @@ pub mod Kept
 pub mod Limits
 pub mod Lost
 pub mod Names
+pub mod Operators
 pub mod Ranges
 pub mod Rising
 pub mod Run

@@ -1,5 +1,5 @@
 -- What follows once frames are done, or depends came or went: groups are met, depends satisfied, and frames opened or blocked.
-use Rattle.std.specs.Prelude.{ℕ, ◌==◌, ◌&&◌, ◌||◌, ◌+◌, Bool, true, false, not, List, [], ◌∷◌, ◌++◌, map, filter, length, Option, None, Some, option_map, slice_get, nat_lt, if◌then◌else◌}
+use Rattle.std.specs.Prelude.{ℕ, ◌&&◌, ◌||◌, ◌+◌, Bool, true, false, not, List, [], ◌∷◌, ◌++◌, map, filter, option_map, nat_lt, if◌then◌else◌}
 use Rattle.std.specs.List.{list_all}
 use Rattle.farm_types.specs.declared.depend.DependRow.{DependRow}
 use Rattle.farm_types.specs.declared.depend.Group.{Group}

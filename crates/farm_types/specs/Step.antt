@@ -29,8 +29,9 @@ use Rattle.farm_types.specs.declared.verdict.Verdict.TheVariants as verdict
 use Rattle.farm_types.specs.Farm.{Farm, for_some, changed_at, job_at, layer_at, sub_of, host_named, show_named, has_facility, alloc_name, alloc_named}
 use Rattle.farm_types.specs.Verdict.{verdict_of}
 use Rattle.farm_types.specs.Booking.{may_record}
-use Rattle.farm_types.specs.DependActs.{after_depend, depend_at, depend_refusal, depends_refusal, drop_refusal, dropped, or_else, with_depends}
-use Rattle.farm_types.specs.Settle.{settle}
+use Rattle.farm_types.specs.DependActs.{after_depend, depend_at, depend_refusal, depends_refusal, drop_refusal, dropped, or_else, pending_named, with_depends}
+use Rattle.farm_types.specs.Operators.{frame_act_refusal, job_there_refusal, may_eat, may_kill, retried_row, retry_refusal, stopped_row, with_frame, with_killed, with_paused}
+use Rattle.farm_types.specs.Settle.{kept_version, settle, with_blocked}
 use Rattle.farm_types.specs.Hosts.{heard_row, reopened_row, locked_row, is_unheard, silenced, is_same_life, booted}
 use Rattle.farm_types.specs.Jobs.{JobLists, with_job, job_refusal}
 use Rattle.farm_types.specs.Lost.{lose_on}
@@ -116,6 +117,11 @@ act_refusal f (act.Heard heard) = host_refusal f heard (host_named f heard.host)
 act_refusal f (act.Submit spec) = submit_refusal f spec (show_named f spec.show)
 act_refusal f (act.AddDepend spec) = None
 act_refusal f (act.DropDepend depend) = None
+act_refusal f (act.Pause job paused) = job_there_refusal job (pending_named f job)
+act_refusal f (act.KillJob job) = job_there_refusal job (pending_named f job)
+act_refusal f (act.KillFrame p) = frame_act_refusal may_kill f p
+act_refusal f (act.EatFrame p) = frame_act_refusal may_eat f p
+act_refusal f (act.RetryFrame p) = retry_refusal f p
 act_refusal f (act.Lock host lock) = name_refusal host (host_named f host)
 act_refusal f act.Tick = None
 act_refusal f (act.Book slot host) = None
@@ -256,6 +262,11 @@ after_act f moment (act.Heard heard) = after_heard (expire f moment) heard momen
 after_act f moment (act.Submit spec) = after_submit f spec (show_named f spec.show)
 after_act f moment (act.AddDepend spec) = f
 after_act f moment (act.DropDepend depend) = f
+after_act f moment (act.Pause job paused) = with_paused f paused (pending_named f job)
+after_act f moment (act.KillJob job) = with_killed f (pending_named f job)
+after_act f moment (act.KillFrame p) = with_frame f p (stopped_row frame_state.Dead)
+after_act f moment (act.EatFrame p) = with_frame f p (stopped_row frame_state.Eaten)
+after_act f moment (act.RetryFrame p) = with_frame f p retried_row
 after_act f moment (act.Lock host lock) = after_lock f lock (host_named f host)
 after_act f moment act.Tick = expire f moment
 after_act f moment (act.Book slot host) = with_proc f slot (new_proc f slot host moment)
@@ -280,13 +291,16 @@ follow_refusal f other = None
 abbrev pub refusal_of : Farm → Entry → Option Refusal
 refusal_of f e = or_else (act_refusal f e.act) (follow_refusal f e.act)
 
--- What follows of depends: those that come or go, what completions meet, and which frames open. After every other act nothing follows: the
--- farms of legal runs are settled (`KeepsDepends`).
+-- What follows of depends: those that come or go, what frames that are done meet, which frames open, and that a frame which is retried is blocked
+-- where it isn't open. After every other act nothing follows: the farms of legal runs are settled (`KeepsDepends`).
 abbrev pub followed : Act → Farm → Farm
 followed (act.Heard heard) f = settle f
 followed (act.Submit spec) f = with_depends f spec.depends
 followed (act.AddDepend spec) f = after_depend f spec
 followed (act.DropDepend depend) f = settle (dropped f depend)
+followed (act.KillJob job) f = settle f
+followed (act.EatFrame p) f = settle f
+followed (act.RetryFrame p) f = with_blocked kept_version f
 followed other f = f
 
 -- the farm after an entry that it doesn't refuse

@@ -33,6 +33,11 @@ pub enum Answer {
     DependDropped {
         opened: u32,
     },
+    Paused,
+    /// How many attempts ended.
+    Ended {
+        ended: u32,
+    },
     Lock,
     /// How many hosts went down, and how many attempts were lost.
     Tick {

@@ -18,8 +18,8 @@ pub struct Entry {
 }
 
 /// What an entry does: the scheduler was opened; a show or an allocation is added; a subscription is set; a host
-/// booted; a host was heard; a job is submitted; a depend is added or dropped; a host is locked or opened; time passed; or a
-/// waiting frame is booked on a host. Each amount is within its limits.
+/// booted; a host was heard; a job is submitted; a depend is added or dropped; a job is paused or resumed, or killed; a frame is killed, eaten or
+/// retried; a host is locked or opened; time passed; or a waiting frame is booked on a host. Each amount is within its limits.
 #[derive(Debug, Drop)]
 pub enum Act {
     Opened,
@@ -31,9 +31,22 @@ pub enum Act {
     Submit(JobSpec),
     AddDepend(DependSpec),
     DropDepend { depend: DependNo },
+    Pause { job: Text, paused: bool },
+    KillJob { job: Text },
+    KillFrame(FramePlace),
+    EatFrame(FramePlace),
+    RetryFrame(FramePlace),
     Lock { host: Text, lock: LockState },
     Tick,
     Book { slot: Slot, host: HostNo },
+}
+
+/// A frame, by its number in a layer of a job.
+#[derive(Debug, Drop)]
+pub struct FramePlace {
+    pub job: Text,
+    pub layer: Text,
+    pub frame: i32,
 }
 
 /// What a host's report says, but for what it runs: its boot number, the report's sequence number, and the

@@ -27,7 +27,7 @@ pub use depend::{
     DependEnd, DependKind, DependRow, DependSpec, Group, LayerShape, MetRow, Place, Shape,
 };
 pub use dispatch::{Candidate, Cut, Rank};
-pub use entry::{Act, Entry, HeardAct};
+pub use entry::{Act, Entry, FramePlace, HeardAct};
 pub use items::Items;
 pub use job::{JobSpec, LayerSpec};
 pub use limits::{

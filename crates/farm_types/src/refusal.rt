@@ -1,5 +1,6 @@
 //! Why the farm refuses an entry.
 
+use crate::states::FrameState;
 use crate::text::Text;
 use std::fmt;
 
@@ -18,6 +19,10 @@ pub enum Refusal {
     FarmFull { free: u32 },
     /// The depend to be dropped is satisfied already.
     Satisfied,
+    /// The frame's state, which is given, doesn't allow what is asked.
+    WrongState { state: FrameState },
+    /// The frame of that name can't be booked again, as its slot is at the last version.
+    VersionSpent { frame: Text },
     /// The frame of that name would wait for itself.
     SelfDepend { frame: Text },
     /// The frame of that name, which is to wait, runs already.
@@ -35,6 +40,10 @@ impl fmt::Display for Refusal {
             Refusal::Stale { last } => write!(f, "the host's last report is {last}"),
             Refusal::FarmFull { free } => write!(f, "the farm has {free} free slots"),
             Refusal::Satisfied => write!(f, "the depend is satisfied already"),
+            Refusal::WrongState { state } => write!(f, "the frame is {state}"),
+            Refusal::VersionSpent { frame } => {
+                write!(f, "frame `{}` can't be booked again", frame.as_str())
+            }
             Refusal::SelfDepend { frame } => {
                 write!(f, "frame `{}` would wait for itself", frame.as_str())
             }

@@ -1,5 +1,7 @@
 //! The states of frames, jobs and hosts.
 
+use std::fmt;
+
 /// The state of a frame. `Setup` stands only between a claim and its confirmation; the records never have it.
 #[derive(Clone, Copy, Debug, PartialEq, Eq)]
 pub enum FrameState {
@@ -10,6 +12,20 @@ pub enum FrameState {
     Depend,
     Dead,
     Eaten,
+}
+
+impl fmt::Display for FrameState {
+    fn fmt<W: fmt::Write>(&self, f: &mut fmt::Formatter<W>) -> fmt::Result {
+        match self {
+            FrameState::Waiting => write!(f, "waiting"),
+            FrameState::Setup => write!(f, "set up"),
+            FrameState::Running => write!(f, "running"),
+            FrameState::Succeeded => write!(f, "done"),
+            FrameState::Depend => write!(f, "blocked"),
+            FrameState::Dead => write!(f, "dead"),
+            FrameState::Eaten => write!(f, "eaten"),
+        }
+    }
 }
 
 /// The state of a job.

@@ -3,6 +3,7 @@ pub mod LayerLists
 pub mod LayerSlots
 pub mod PlacedLayers
 pub mod PlacedWaiting
+pub mod PausedJobs
 pub mod NamedJobs
 pub mod Names
 pub mod FirstWaiting

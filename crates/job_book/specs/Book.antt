@@ -51,6 +51,12 @@ abbrev pub KeepsFrame : Option SlotRow → SlotRow → Type 0
 KeepsFrame None row = ⊥
 KeepsFrame (Some old) row = IsSameFrame old.frame row.frame
 
+-- ---- changes of one job
+
+-- the job is paused, or it isn't
+abbrev pub with_pause : Bool → JobRow → JobRow
+with_pause paused j = record j { paused = paused }
+
 -- ---- what is read
 
 -- the number of the first job of that name

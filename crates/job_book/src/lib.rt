@@ -13,6 +13,7 @@ mod jobs;
 mod layer_frames;
 mod layer_index;
 mod layers_of;
+mod pause;
 mod place;
 mod place_of;
 mod placing;

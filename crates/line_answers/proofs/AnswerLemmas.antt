@@ -17,8 +17,8 @@ use Rattle.farm_core.specs.Change.{after_change}
 use Rattle.farm_core.specs.Change.{Makes, Prepares}
 use Rattle.farm_core.specs.declared.change.Change.{Change}
 use Rattle.farm_changes.specs.Change.{HasHeard}
-use Rattle.farm_changes.specs.declared.fault.PrepareFault.{PrepareFault}
-use Rattle.farm_changes.specs.declared.fault.PrepareFault.TheVariants as prepare
+use Rattle.farm_places.specs.declared.fault.PrepareFault.{PrepareFault}
+use Rattle.farm_places.specs.declared.fault.PrepareFault.TheVariants as prepare
 use Rattle.farm_types.specs.EntryAnswers.{answer_of}
 use Rattle.farm_types.specs.Dispatch.{round_for}
 use Rattle.farm_types.specs.Farm.{Farm, host_named}
@@ -82,29 +82,13 @@ faulted f moment fault.NoMemory read text fails line = unreplied f text (λ mark
 
 -- what is asked is no booking
 pub asked_condition : (f : Farm) (asked : Request) → HasCondition f (act_of asked)
-asked_condition f (request.Show name) = tt
-asked_condition f (request.Alloc facility tag) = tt
-asked_condition f (request.Sub line) = tt
-asked_condition f (request.Boot line) = tt
-asked_condition f (request.Report report) = tt
-asked_condition f (request.Lock host lock) = tt
-asked_condition f (request.Submit spec) = tt
-asked_condition f (request.Depend spec) = tt
-asked_condition f (request.Drop depend) = tt
 asked_condition f request.Tick = tt
+asked_condition f asked = tt
 
 asked_entry : (f : Farm) (moment : ℕ) (mark : Mark) (asked : Request) → ((report : Report) → asked ≡ request.Report report → ⊥)
     → asked_answer f moment mark asked ≡ entry_answer f (entry_of asked moment) (refusal_of f (entry_of asked moment))
-asked_entry f moment mark (request.Show name) other = refl
-asked_entry f moment mark (request.Alloc facility tag) other = refl
-asked_entry f moment mark (request.Sub line) other = refl
-asked_entry f moment mark (request.Boot line) other = refl
 asked_entry f moment mark (request.Report report) other = absurd (other report refl)
-asked_entry f moment mark (request.Lock host lock) other = refl
-asked_entry f moment mark (request.Submit spec) other = refl
-asked_entry f moment mark (request.Depend spec) other = refl
-asked_entry f moment mark (request.Drop depend) other = refl
-asked_entry f moment mark request.Tick other = refl
+asked_entry f moment mark asked other = refl
 
 -- a request but a report is answered by its entry
 pub answered_entry : (f new : Farm) (moment : ℕ) (text : List ℕ) (asked : Request) (e : Entry) → ((report : Report) → asked ≡ request.Report report → ⊥)

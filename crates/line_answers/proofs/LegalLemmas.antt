@@ -93,15 +93,7 @@ one f moment asked formed = entry_legal f (entry_of asked moment) (refusal_of f 
 
 asked_legal : (f : Farm) (moment : ℕ) (mark : Mark) (asked : Request) → IsFormed (entry_of asked moment) → IsLegal f (asked_answer f moment mark asked).entries
 asked_legal f moment mark (request.Report report) formed = report_legal f report moment formed mark (refusal_of f (heard_entry report moment)) refl
-asked_legal f moment mark (request.Show name) formed = one f moment (request.Show name) formed
-asked_legal f moment mark (request.Alloc facility tag) formed = one f moment (request.Alloc facility tag) formed
-asked_legal f moment mark (request.Sub line) formed = one f moment (request.Sub line) formed
-asked_legal f moment mark (request.Boot line) formed = one f moment (request.Boot line) formed
-asked_legal f moment mark (request.Lock host lock) formed = one f moment (request.Lock host lock) formed
-asked_legal f moment mark (request.Submit spec) formed = one f moment (request.Submit spec) formed
-asked_legal f moment mark (request.Depend spec) formed = one f moment (request.Depend spec) formed
-asked_legal f moment mark (request.Drop depend) formed = one f moment (request.Drop depend) formed
-asked_legal f moment mark request.Tick formed = one f moment request.Tick formed
+asked_legal f moment mark asked formed = one f moment asked formed
 
 request_legal : (f : Farm) (moment : ℕ) (mark : Mark) (read : Result Request RequestError) → ((asked : Request) → read ≡ Ok asked → IsFormed (entry_of asked moment))
     → IsLegal f (request_answer f moment mark read).entries

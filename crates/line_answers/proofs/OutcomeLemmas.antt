@@ -64,15 +64,7 @@ late_report f report moment (Some why) = refl
 late_request : (f : Farm) (moment : ℕ) (read : Result Request RequestError) → (request_answer f moment LatePlain read).entries ≡ (request_answer f moment Plain read).entries
 late_request f moment (Err error) = refl
 late_request f moment (Ok (request.Report report)) = late_report f report moment (refusal_of f (heard_entry report moment))
-late_request f moment (Ok (request.Show name)) = refl
-late_request f moment (Ok (request.Alloc facility tag)) = refl
-late_request f moment (Ok (request.Sub line)) = refl
-late_request f moment (Ok (request.Boot line)) = refl
-late_request f moment (Ok (request.Lock host lock)) = refl
-late_request f moment (Ok (request.Submit spec)) = refl
-late_request f moment (Ok (request.Depend spec)) = refl
-late_request f moment (Ok (request.Drop depend)) = refl
-late_request f moment (Ok request.Tick) = refl
+late_request f moment (Ok asked) = refl
 
 late_line : (f : Farm) (line : List ℕ) (moment : ℕ) → (answer_to f line moment LatePlain).entries ≡ (answer_to f line moment Plain).entries
 unfolding answer_to

@@ -78,6 +78,11 @@ fn act_of(asked: Request) -> Act
         Request::Submit(spec) => Act::Submit(spec),
         Request::Depend(spec) => Act::AddDepend(spec),
         Request::Drop { depend } => Act::DropDepend { depend },
+        Request::Pause { job, paused } => Act::Pause { job, paused },
+        Request::KillJob { job } => Act::KillJob { job },
+        Request::KillFrame(place) => Act::KillFrame(place),
+        Request::EatFrame(place) => Act::EatFrame(place),
+        Request::RetryFrame(place) => Act::RetryFrame(place),
         Request::Tick => Act::Tick,
     }
 }

@@ -95,6 +95,7 @@ fn ok_reply(alloc: Global, act: &Act, answer: Answer) -> Result<Reply, AllocErro
         }),
         Answer::DependAdded { depend, unmet } => Ok(Reply::Depend { depend, unmet }),
         Answer::DependDropped { opened } => Ok(Reply::Dropped { opened }),
+        Answer::Ended { ended } => Ok(Reply::Ended { ended }),
         Answer::Tick { down, lost } => Ok(Reply::Tick { down, lost }),
         _ => Ok(Reply::Done),
     }

@@ -9,7 +9,8 @@ ghost use Rattle.farm_lines.specs.Request.{attempt_at, done_at};
 
 use cue_json::{FieldFault, Map};
 use farm_types::{
-    Attempt, Cores, DoneItem, Exit, Items, LAST_SLOT, LAST_VERSION, MOST_CORES, Slot, Version,
+    Attempt, Cores, DoneItem, Exit, Items, LAST_SLOT, LAST_VERSION, MOST_CORES, MOST_EXIT, Slot,
+    Version,
 };
 use serde_json::Value;
 use std::alloc::Global;
@@ -47,8 +48,8 @@ impl Item for DoneItem {
     fn read(alloc: Global, object: &Map) -> Result<DoneItem, FieldFault> {
         let slot = cue_json::whole(alloc, object, "slot", 0, u64::from(LAST_SLOT))?;
         let version = cue_json::whole(alloc, object, "version", 0, u64::from(LAST_VERSION))?;
-        let status = cue_json::whole(alloc, object, "status", 0, 0)?;
-        let signal = cue_json::whole(alloc, object, "signal", 0, 0)?;
+        let status = cue_json::whole(alloc, object, "status", 0, u64::from(MOST_EXIT))?;
+        let signal = cue_json::whole(alloc, object, "signal", 0, u64::from(MOST_EXIT))?;
         let free = optional_cores(alloc, object, "free", MOST_CORES)?;
         cue_json::no_others(
             alloc,

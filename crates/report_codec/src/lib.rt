@@ -9,6 +9,7 @@ mod fault_reply;
 mod item;
 mod laws;
 mod lock_line;
+mod operator_line;
 mod read;
 mod read_fields;
 mod refusal_reply;

@@ -10,6 +10,7 @@ use crate::boot_line::read_boot;
 use crate::depend_line::read_depend;
 use crate::drop_line::read_drop;
 use crate::lock_line::read_lock;
+use crate::operator_line::{read_eat, read_kill, read_pause, read_retry};
 use crate::report_line::read_report;
 use crate::show_line::read_show;
 use crate::sub_line::read_sub;
@@ -65,6 +66,11 @@ fn request_by_op(alloc: Global, object: &Map, op: &str) -> Result<Request, Reque
         "submit" => read_submit(alloc, object),
         "depend" => read_depend(alloc, object),
         "drop" => read_drop(alloc, object),
+        "pause" => read_pause(alloc, object, true),
+        "resume" => read_pause(alloc, object, false),
+        "kill" => read_kill(alloc, object),
+        "eat" => read_eat(alloc, object),
+        "retry" => read_retry(alloc, object),
         "tick" => read_tick(alloc, object),
         _ => Err(RequestFault::from(FieldFault::wrong_kind(alloc, "op"))),
     }

@@ -1,12 +1,12 @@
 //! The farm's refusals.
 
 ghost use Rattle.std.specs.Prelude.{◌≡◌, OnOk};
-ghost use Rattle.farm_types.specs.declared.refusal.Refusal.TheVariants.{Unknown, Exists, WrongBoot, Stale, FarmFull, Satisfied, SelfDepend, Started, Full};
-ghost use Rattle.farm_lines.specs.Reply.{counted_word, refusal_data};
+ghost use Rattle.farm_types.specs.declared.refusal.Refusal.TheVariants.{Unknown, Exists, WrongBoot, Stale, FarmFull, Satisfied, WrongState, VersionSpent, SelfDepend, Started, Full};
+ghost use Rattle.farm_lines.specs.Reply.{counted_word, refusal_data, state_word};
 ghost use Rattle.report_codec.specs.Tokens.{added, tokens_of};
 
 use crate::reply_writer::ReplyWriter;
-use farm_types::{Counted, Refusal};
+use farm_types::{Counted, FrameState, Refusal};
 use std::alloc::AllocError;
 
 /// The refusal with its code and what it shows.
@@ -20,6 +20,8 @@ pub fn write_refusal(out: &mut ReplyWriter, why: &Refusal) -> Result<(), AllocEr
         Refusal::Stale { last } => write_stale(out, *last),
         Refusal::FarmFull { free } => write_farm_full(out, *free),
         Refusal::Satisfied => write_satisfied(out),
+        Refusal::WrongState { state } => write_wrong_state(out, *state),
+        Refusal::VersionSpent { frame } => write_version_spent(out, frame.as_str()),
         Refusal::SelfDepend { frame } => write_self_depend(out, frame.as_str()),
         Refusal::Started { frame } => write_started(out, frame.as_str()),
         Refusal::Full { limit, what } => write_full(out, *limit, *what),
@@ -99,6 +101,31 @@ fn write_satisfied(out: &mut ReplyWriter) -> Result<(), AllocError>
 }
 
 #[tactic(auto, unfolding(farm_lines::specs::Reply::refusal_data))]
+fn write_wrong_state(out: &mut ReplyWriter, state: FrameState) -> Result<(), AllocError>
+    ensures { OnOk result (out.new ≡ added out.old (tokens_of (refusal_data (WrongState state)))) }
+{
+    let state = state_word(state);
+    out.begin_object()?;
+    out.whole("code", 11)?;
+    out.truth("ok", false)?;
+    out.text("state", state)?;
+    out.text("why", "wrong_state")?;
+    out.end_object()
+}
+
+#[tactic(auto, unfolding(farm_lines::specs::Reply::refusal_data))]
+fn write_version_spent(out: &mut ReplyWriter, frame: &str) -> Result<(), AllocError>
+    ensures { OnOk result (out.new ≡ added out.old (tokens_of (refusal_data (VersionSpent frame.now)))) }
+{
+    out.begin_object()?;
+    out.whole("code", 14)?;
+    out.text("frame", frame)?;
+    out.truth("ok", false)?;
+    out.text("why", "version_spent")?;
+    out.end_object()
+}
+
+#[tactic(auto, unfolding(farm_lines::specs::Reply::refusal_data))]
 fn write_self_depend(out: &mut ReplyWriter, frame: &str) -> Result<(), AllocError>
     ensures { OnOk result (out.new ≡ added out.old (tokens_of (refusal_data (SelfDepend frame.now)))) }
 {
@@ -134,6 +161,21 @@ fn write_full(out: &mut ReplyWriter, limit: u64, what: Counted) -> Result<(), Al
     out.text("what", what)?;
     out.text("why", "full")?;
     out.end_object()
+}
+
+// The word of a reply for a frame's state.
+fn state_word(state: FrameState) -> &'static str
+    ensures { result.now ≡ state_word state }
+{
+    match state {
+        FrameState::Waiting => "WAITING",
+        FrameState::Setup => "SETUP",
+        FrameState::Running => "RUNNING",
+        FrameState::Succeeded => "SUCCEEDED",
+        FrameState::Depend => "DEPEND",
+        FrameState::Dead => "DEAD",
+        FrameState::Eaten => "EATEN",
+    }
 }
 
 // The word of a reply for what is counted.

@@ -10,6 +10,7 @@ use crate::drop_line::write_dropped;
 use crate::fault_reply::{
     write_bad_amount, write_bad_line, write_bad_range, write_no_memory, write_too_long,
 };
+use crate::operator_line::write_ended;
 use crate::refusal_reply::write_refusal;
 use crate::reply_writer::ReplyWriter;
 use crate::report_line::write_report;
@@ -46,6 +47,7 @@ fn write_object(out: &mut ReplyWriter, reply: &Reply) -> Result<(), AllocError>
         Reply::Submitted { frames, job } => write_submitted(out, *frames, job.as_str()),
         Reply::Depend { depend, unmet } => write_depend(out, *depend, *unmet),
         Reply::Dropped { opened } => write_dropped(out, *opened),
+        Reply::Ended { ended } => write_ended(out, *ended),
         Reply::Report(report) => write_report(out, report),
         Reply::BadLine { field } => write_bad_line(out, field.as_str()),
         Reply::TooLong => write_too_long(out),

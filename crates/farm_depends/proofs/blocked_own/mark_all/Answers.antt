@@ -1,4 +1,4 @@
-use Rattle.std.proofs.Common.{◌≡◌, ◌∙◌, ℕ, ◌||◌, List, sym, ap, arith, take}
+use Rattle.std.proofs.Common.{◌∙◌, ℕ, ◌||◌, List, sym, ap, arith, take}
 use Rattle.std.specs.Bool.{◌==◌}
 use Rattle.farm_types.specs.declared.depend.Group.{Group}
 use Rattle.depend_graph.specs.Graph.{is_flagged}

@@ -1,10 +1,7 @@
-use Rattle.std.proofs.Common.{◌≡◌, ◌∷◌, [], ◌++◌, ◌||◌, ◌<◌, ℕ, List, drop, take, filter, length}
-use Rattle.std.specs.List.{find, list_any}
-use Rattle.farm_types.specs.Groups.{all_slots}
+use Rattle.std.proofs.Common.{◌≡◌, ◌||◌, ◌<◌, ℕ, take, length}
 use Rattle.depend_graph.specs.Graph.{is_flagged}
-use Rattle.farm_depends.specs.Coming.{all_unmet_by, unmet_by}
+use Rattle.farm_depends.specs.Coming.{all_unmet_by}
 use Rattle.farm_depends.specs.Follow.{is_listed}
-use Rattle.farm_depends.specs.Placed.{name_in, number_among, own_shapes}
 use Rattle.farm_depends.proofs.blocked_own.mark_all.Given as goal
 
 abbrev pub invariant-loop-new : goal.invariant-loop-new

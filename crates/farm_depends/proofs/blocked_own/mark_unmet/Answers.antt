@@ -1,6 +1,5 @@
-use Rattle.std.proofs.Common.{◌≡◌, ◌∙◌, ℕ, ◌||◌, List, sym, ap, arith}
+use Rattle.std.proofs.Common.{◌∙◌, ℕ, ◌||◌, List, sym, ap, arith}
 use Rattle.std.specs.Bool.{◌==◌}
-use Rattle.farm_types.specs.declared.depend.Group.{Group}
 use Rattle.depend_graph.specs.Graph.{is_flagged}
 use Rattle.farm_depends.specs.Follow.{is_listed}
 use Rattle.farm_depends.specs.Coming.{unmet_by}

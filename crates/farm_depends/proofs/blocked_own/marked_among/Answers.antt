@@ -1,4 +1,4 @@
-use Rattle.std.proofs.Common.{◌≡◌, ◌∙◌, ◌++◌, ℕ, List, filter, sym, ap, arith, take}
+use Rattle.std.proofs.Common.{◌∙◌, ◌++◌, ℕ, List, filter, sym, ap, arith, take}
 use Rattle.std.proofs.lemmas.List.Elements.{filter-append}
 use Rattle.farm_types.specs.Groups.{all_slots}
 use Rattle.depend_graph.specs.Graph.{is_flagged}

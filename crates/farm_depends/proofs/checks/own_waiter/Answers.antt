@@ -1,4 +1,4 @@
-use Rattle.std.proofs.Common.{◌≡◌, ℕ, ◌<◌, ◌||◌, ◌∙◌, Bool, List, Option, length, replicate, false, sym, ap, arith}
+use Rattle.std.proofs.Common.{◌≡◌, ℕ, ◌||◌, ◌∙◌, Bool, List, length, false, ap, arith}
 use Rattle.std.proofs.lemmas.List.{length-replicate}
 use Rattle.std.specs.Bool.{◌==◌}
 use Rattle.std.specs.List.{find, list_any}

@@ -5,9 +5,9 @@ use Rattle.farm_types.specs.declared.depend.Group.{Group}
 use Rattle.farm_types.specs.DependActs.{new_groups}
 use Rattle.depend_book.specs.declared.new_depend.NewDepend.{NewDepend}
 use Rattle.depend_graph.specs.Graph.{IsGroup}
-use Rattle.farm_changes.specs.declared.fault.PrepareFault.{PrepareFault}
+use Rattle.farm_places.specs.declared.fault.PrepareFault.{PrepareFault}
 use Rattle.farm_depends.specs.Coming.{Comes, groups_refusal_with}
-use Rattle.farm_depends.specs.Ends.{Refuses}
+use Rattle.farm_places.specs.Ends.{Refuses}
 use Rattle.farm_depends.proofs.ComingGroups.{found_groups, new_are_groups, refusal_is, third_refused}
 use Rattle.farm_depends.proofs.coming.between.Goals as goal
 

@@ -2,9 +2,9 @@ use Rattle.std.proofs.Common.{Err, sym, subst}
 use Rattle.std.specs.Prelude.{Result}
 use Rattle.std.proofs.lemmas.Result.{err_from_is_err_and}
 use Rattle.depend_book.specs.declared.new_depend.NewDepend.{NewDepend}
-use Rattle.farm_changes.specs.declared.fault.PrepareFault.{PrepareFault}
+use Rattle.farm_places.specs.declared.fault.PrepareFault.{PrepareFault}
 use Rattle.farm_depends.specs.Coming.{Comes}
-use Rattle.farm_depends.specs.Ends.{FindsEnd}
+use Rattle.farm_places.specs.Ends.{FindsEnd}
 use Rattle.farm_depends.proofs.ComingGroups.{first_refused, second_refused}
 use Rattle.farm_depends.proofs.coming.coming.Goals as goal
 

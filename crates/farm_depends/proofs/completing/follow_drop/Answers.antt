@@ -28,4 +28,4 @@ returns c =
     let found : depend_at (joined f b) c.args.depend ≡ Some c.in-Some.row.now = sym c.row.ensures ∙ ap option_copied c.in-Some.is in
     let opened = c.in_ok-opened.ensures ∙ ap (blocked_among f.slots) (c.as_slice.ensures ∙ c.in_ok-opening.ensures) in
     drop_follows f b c.args.depend c.requires.whole c.kept.ensures c.in-Some.row.now found c.if-row.false _
-    c.new.ensures c.new-2.ensures refl c.new-3.ensures opened c.new-4.ensures c.len-count.ensures
+    c.new.ensures c.new-2.ensures refl c.new-3.ensures refl opened c.new-4.ensures c.len-count.ensures

@@ -1,4 +1,4 @@
-use Rattle.std.proofs.Common.{◌≡◌, ◌+◌, ◌∙◌, Some, None, cond, eqb, false, Bool, drop, sym, ap, arith, refl, length, rules}
+use Rattle.std.proofs.Common.{◌≡◌, ◌+◌, ◌∙◌, cond, eqb, false, Bool, drop, sym, ap, arith, refl, length, rules}
 use Rattle.std.specs.List.{slice_get}
 use Rattle.std.proofs.lemmas.Option.{slice_get_read}
 use Rattle.farm_depends.specs.Placed.{number_among}

@@ -1,4 +1,4 @@
-use Rattle.std.proofs.Common.{◌≡◌, ◌∙◌, ℕ, List, map, length, sym, ap, subst}
+use Rattle.std.proofs.Common.{◌≡◌, ◌∙◌, ℕ, List, length, ap, subst}
 use Rattle.farm_types.specs.declared.depend.LayerShape.{LayerShape}
 use Rattle.farm_types.specs.declared.depend.Shape.{Shape}
 use Rattle.farm_types.specs.declared.job.LayerSpec.{LayerSpec}

@@ -1,13 +1,11 @@
-use Rattle.std.proofs.Common.{◌≡◌, ◌<◌, ◌∙◌, ◌∷◌, [], ◌++◌, Err, None, List, length, get_or, take, sym, ap, subst, arith}
+use Rattle.std.proofs.Common.{◌≡◌, ◌<◌, ◌∙◌, ◌∷◌, [], ◌++◌, Err, List, length, get_or, take, sym, ap, subst, arith}
 use Rattle.std.specs.Prelude.{Result}
 use Rattle.std.proofs.lemmas.Result.{err_from_is_err_and}
 use Rattle.farm_types.specs.declared.depend.DependSpec.{DependSpec}
 use Rattle.farm_types.specs.DependActs.{new_groups}
 use Rattle.depend_book.specs.declared.new_depend.NewDepend.{NewDepend}
-use Rattle.farm_changes.specs.declared.fault.PrepareFault.{PrepareFault}
-use Rattle.farm_depends.specs.declared.counts.Counts.{Counts}
+use Rattle.farm_places.specs.declared.fault.PrepareFault.{PrepareFault}
 use Rattle.farm_depends.specs.Coming.{ComeAll, Comes, counts_full, counts_more, each_coming, refusal_with_all}
-use Rattle.farm_depends.specs.Follow.{coming}
 use Rattle.farm_depends.specs.Placed.{placed}
 use Rattle.farm_depends.proofs.ComingInTurn.{allowed_by, coming_more, fault_comes, left_more, own_each}
 use Rattle.farm_depends.proofs.own_coming.all_coming.Goals as goal

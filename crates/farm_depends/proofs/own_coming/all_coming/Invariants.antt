@@ -1,4 +1,4 @@
-use Rattle.std.proofs.Common.{◌≡◌, ◌≤◌, drop, take, map}
+use Rattle.std.proofs.Common.{◌≡◌, ◌≤◌, drop, take}
 use Rattle.farm_types.specs.declared.limits.TheConstants.{MOST_GROUPS}
 use Rattle.farm_depends.specs.Coming.{each_coming, refusal_with_all}
 use Rattle.farm_depends.specs.Placed.{placed}

@@ -1,12 +1,12 @@
-use Rattle.std.proofs.Common.{◌≡◌, ◌∙◌, Err, Ok, true, false, sym, ap, subst, List, ℕ}
+use Rattle.std.proofs.Common.{◌≡◌, ◌∙◌, Err, Ok, false, sym, ap, subst}
 use Rattle.std.specs.Prelude.{Result}
 use Rattle.std.specs.Str.{bytes_eq}
 use Rattle.std.proofs.lemmas.Result.{err_from_is_err_and}
 use Rattle.depend_book.specs.declared.new_depend.NewDepend.{NewDepend}
-use Rattle.farm_changes.specs.declared.fault.PrepareFault.{PrepareFault}
-use Rattle.farm_depends.specs.declared.ends.FoundEnd.{FoundEnd}
+use Rattle.farm_places.specs.declared.fault.PrepareFault.{PrepareFault}
+use Rattle.farm_places.specs.declared.ends.FoundEnd.{FoundEnd}
 use Rattle.farm_depends.specs.Coming.{Comes}
-use Rattle.farm_depends.specs.Ends.{FindsEnd}
+use Rattle.farm_places.specs.Ends.{FindsEnd}
 use Rattle.farm_depends.specs.Placed.{EndsIn, GroupsBetween, placed}
 use Rattle.farm_depends.proofs.ComingGroups.{first_refused, second_refused}
 use Rattle.farm_depends.proofs.PlacedEnds.{between_comes, between_fault, each_group, other_finds, own_fault, own_is_end, same_name}

@@ -3,7 +3,7 @@ use Rattle.std.specs.Prelude.{Result}
 use Rattle.std.proofs.lemmas.Result.{err_from_is_err_and}
 use Rattle.farm_types.specs.declared.entry.Act.TheVariants as act
 use Rattle.depend_book.specs.Book.{joined}
-use Rattle.farm_changes.specs.declared.fault.PrepareFault.{PrepareFault}
+use Rattle.farm_places.specs.declared.fault.PrepareFault.{PrepareFault}
 use Rattle.farm_depends.specs.declared.counts.Counts.{Counts}
 use Rattle.farm_depends.specs.declared.follow.Follow.{Follow}
 use Rattle.farm_depends.specs.Coming.{Comes, refusal_with}

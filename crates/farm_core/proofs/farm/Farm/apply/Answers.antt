@@ -1,4 +1,4 @@
-use Rattle.std.proofs.Common.{◌≡◌, ◌∙◌, sym, ap, subst}
+use Rattle.std.proofs.Common.{◌∙◌, sym, ap, subst}
 use Rattle.farm_types.specs.Farm.{Farm}
 use Rattle.depend_book.specs.Book.{DependLists, joined}
 use Rattle.farm_depends.specs.Fits.{IsWhole}

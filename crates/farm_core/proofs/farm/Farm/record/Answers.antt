@@ -1,6 +1,5 @@
 use Rattle.std.proofs.Common.{sym, subst}
 use Rattle.farm_types.specs.Farm.{Farm}
-use Rattle.farm_core.specs.declared.change.Change.{Change}
 use Rattle.farm_core.specs.Change.{IsReady}
 use Rattle.farm_core.proofs.Applying.{ready_reserved}
 use Rattle.farm_core.proofs.farm.Farm.record.Goals as goal

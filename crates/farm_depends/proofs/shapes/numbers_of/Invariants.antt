@@ -1,6 +1,0 @@
-use Rattle.std.proofs.Common.{◌≡◌, map, take}
-use Rattle.farm_depends.specs.Ends.{number_at}
-use Rattle.farm_depends.proofs.shapes.numbers_of.Given as goal
-
-abbrev pub invariant-loop-slot : goal.invariant-loop-slot
-invariant-loop-slot l = l.numbers ≡ map (number_at l.jobs.slots) (take l.slot-index l.slots)

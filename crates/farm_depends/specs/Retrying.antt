@@ -1,0 +1,49 @@
+-- What follows a frame that is retried.
+use Rattle.std.specs.Prelude.{ℕ, ◌≡◌, ◌&&◌, ◌∷◌, [], Bool, false, List, Option, None, Some, Result, Ok, Err, is_some, nat_lt, slice_get, if◌then◌else◌}
+use Rattle.farm_types.specs.declared.entry.FramePlace.{FramePlace}
+use Rattle.farm_types.specs.declared.slot_row.SlotRow.{SlotRow}
+use Rattle.farm_types.specs.DependActs.{place_refusal}
+use Rattle.farm_types.specs.Depends.{is_done}
+use Rattle.farm_types.specs.Farm.{Farm, for_some}
+use Rattle.farm_types.specs.Operators.{place_of, slot_named}
+use Rattle.depend_graph.specs.Graph.{Watch, unmet_of}
+use Rattle.depend_book.specs.Book.{DependLists}
+use Rattle.farm_places.specs.declared.fault.PrepareFault.{PrepareFault}
+use Rattle.farm_places.specs.declared.fault.PrepareFault.TheVariants.{Refused, NoMemory}
+use Rattle.farm_depends.specs.declared.follow.Follow.{Follow}
+
+-- the slot, where its frame is done
+abbrev pub reopened_at : List SlotRow → ℕ → Option ℕ
+reopened_at slots slot = if is_done slots slot then Some slot else None
+
+abbrev pub has_frame : List SlotRow → ℕ → Bool
+has_frame slots slot = for_some (slice_get slots slot) (λ (s : SlotRow). is_some s.frame)
+
+-- the slot has a frame, which waits in groups that aren't met
+abbrev pub is_shut : List SlotRow → List Watch → ℕ → Bool
+is_shut slots watches slot = has_frame slots slot && nat_lt 0 (unmet_of watches slot)
+
+-- the slot alone, where it has such a frame
+abbrev pub shut_at : List SlotRow → List Watch → ℕ → List ℕ
+shut_at slots watches slot = if is_shut slots watches slot then slot ∷ [] else []
+
+-- the frame isn't done any more where it was, and is blocked where it waits in groups that aren't met
+abbrev pub follow_retry : List SlotRow → List Watch → ℕ → Follow
+follow_retry slots watches slot =
+    record {
+      depends = [];
+      spares = [];
+      dropped = None;
+      done = [];
+      reopened = reopened_at slots slot;
+      opened = [];
+      blocked = shut_at slots watches slot;
+      raises = false;
+      count = 0;
+    }
+
+-- what follows the retry of the frame that is named, or exactly what is refused of it
+abbrev pub Retries : Farm → DependLists → FramePlace → Result Follow PrepareFault → Type 0
+Retries f b p (Ok w) = (slot : ℕ) × (slot_named f p ≡ Some slot) × (w ≡ follow_retry f.slots b.graph.depends slot)
+Retries f b p (Err (Refused why)) = place_refusal f (place_of p) ≡ Some why
+Retries f b p (Err NoMemory) = Unit {0}

@@ -1,0 +1,3 @@
+pub mod FoundFrames
+pub mod KeptShapes
+pub mod ShownParts

@@ -1,0 +1,22 @@
+-- The frame that a place names, and what its state refuses.
+use Rattle.std.specs.Prelude.{ℕ, ◌≡◌, Bool, Option, None, Some, Result, Ok, Err, if◌then◌else◌}
+use Rattle.farm_types.specs.declared.entry.FramePlace.{FramePlace}
+use Rattle.farm_types.specs.declared.refusal.Refusal.{Refusal}
+use Rattle.farm_types.specs.declared.refusal.Refusal.TheVariants.{WrongState}
+use Rattle.farm_types.specs.declared.states.FrameState.{FrameState}
+use Rattle.farm_types.specs.DependActs.{place_refusal}
+use Rattle.farm_types.specs.Farm.{Farm}
+use Rattle.farm_types.specs.Operators.{place_of, slot_named}
+use Rattle.farm_places.specs.declared.fault.PrepareFault.{PrepareFault}
+use Rattle.farm_places.specs.declared.fault.PrepareFault.TheVariants.{Refused, NoMemory}
+
+-- the slot of the frame that is named, or exactly what is refused of it
+abbrev pub FindsFrame : Farm → FramePlace → Result ℕ PrepareFault → Type 0
+FindsFrame f p (Ok slot) = (place_refusal f (place_of p) ≡ None) × (slot_named f p ≡ Some slot)
+FindsFrame f p (Err (Refused why)) = place_refusal f (place_of p) ≡ Some why
+FindsFrame f p (Err NoMemory) = Unit {0}
+
+-- what is refused of a frame in that state, where there is one
+abbrev pub refusal_in : (FrameState → Bool) → Option FrameState → Option Refusal
+refusal_in may None = None
+refusal_in may (Some state) = if may state then None else Some (WrongState state)

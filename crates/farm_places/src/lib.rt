@@ -1,0 +1,15 @@
+//! What places name: jobs, their layers and frames by their names and numbers, as they stand in the farm's books.
+#![tactic(auto)]
+
+mod ends;
+mod fault;
+mod frames;
+mod refused;
+mod shapes;
+mod states;
+
+pub use ends::{FoundEnd, check_part, end_in, find_end};
+pub use fault::PrepareFault;
+pub use frames::find_frame;
+pub use refused::{unknown, unknown_frame};
+pub use states::{check_eat, check_kill, check_retry};
