@@ -14,7 +14,7 @@ use Rattle.farm_types.specs.declared.rows.LayerRow.{LayerRow}
 use Rattle.farm_types.specs.declared.slot_row.SlotRow.{SlotRow}
 use Rattle.farm_types.specs.declared.limits.TheConstants.{LAST_DEPEND, MOST_DEPENDS, MOST_GROUPS}
 use Rattle.farm_types.specs.Booking.{is_pending}
-use Rattle.farm_types.specs.DependActs.{depend_refusal, depends_full, end_of, end_refusal, frame_name_at, frame_refusal, groups_refusal, has_number, layer_of_name, layer_refusal, new_groups, number_of, or_else, part_refusal, pending_named, place_refusal, runs_already, runs_at, waits_for_itself}
+use Rattle.farm_types.specs.DependActs.{depend_refusal, depends_full, end_of, end_refusal, frame_name_at, frame_refusal, groups_refusal, has_number, job_missing, layer_of_name, layer_refusal, new_groups, number_of, or_else, part_refusal, pending_named, place_refusal, runs_already, runs_at, waits_for_itself}
 use Rattle.farm_types.specs.Depends.{groups_left, waits_in}
 use Rattle.farm_types.specs.Farm.{Farm, for_some, layers_of}
 use Rattle.farm_types.specs.Jobs.{is_pending_named}
@@ -103,7 +103,7 @@ module _ (f : Farm) (rise : IsRising job_key 1 f.jobs f.next_job) where
       rw there (and_both (is_pending j.state) _ (found_is (is_pending_named name) f.jobs j at)).0
 
   end_by : (p : Place) (o : Option JobRow) → pending_named f p.job ≡ o → end_refusal f p o ≡ None → is_end_there f (record { job = number_of o; layer = p.layer; frame = p.frame }) ≡ true
-  end_by p None is none = absurd (none-some (Unknown p.job) (sym none))
+  end_by p None is none = absurd (none-some (job_missing f p.job) (sym none))
   end_by p (Some j) is none = both_true (named_pending p.job j is) (part_there f j.job p.layer p.frame none)
 
   pub end_accepted : (p : Place) → place_refusal f p ≡ None → is_end_there f (end_of f p) ≡ true

@@ -29,7 +29,7 @@ none_kept f unblocked =
     }
 
 pub first_empty : IsKeptFarm empty_farm
-first_empty = record { rows = kept_empty; depends = none_kept empty_farm refl }
+first_empty = record { rows = kept_empty; depends = none_kept empty_farm refl; work = refl }
 
 pub first_demo : (moment : ℕ) → moment < 2 ^ 64 → IsKeptFarm (demo_farm moment)
-first_demo moment within = record { rows = kept_demo moment within; depends = none_kept (demo_farm moment) refl }
+first_demo moment within = record { rows = kept_demo moment within; depends = none_kept (demo_farm moment) refl; work = refl }

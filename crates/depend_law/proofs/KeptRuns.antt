@@ -13,16 +13,20 @@ use Rattle.farm_types.specs.Kept.{IsKeptFarm, KeepsDepends, KeepsRows}
 use Rattle.farm_types.specs.Rising.{IsRising, job_key}
 use Rattle.farm_types.specs.Run.{IsLegal, IsLegalStep, run_of}
 use Rattle.farm_types.specs.Settle.{kept_version, raised, settle}
-use Rattle.farm_types.specs.Step.{after, after_act, after_submit, at_moment, follow_refusal, followed, moment_of}
+use Rattle.farm_types.specs.Step.{acted, after, after_act, after_submit, at_moment, follow_refusal, followed, moment_of}
 use Rattle.farm_law.proofs.KeptRuns.{act_accepted, follow_accepted, kept_acted, refusal_later}
 use Rattle.farm_law.proofs.KeptRuns as rows
 use Rattle.farm_law.proofs.KeptChanges.{kept_later}
+use Rattle.farm_law.proofs.KeptFollowed.{kept_followed}
+use Rattle.farm_law.proofs.KeptWork.{work_kept}
 use Rattle.farm_law.proofs.SafeRuns.{allowed_later}
 use Rattle.depend_law.proofs.Carries.{all_same, kept_by, unsettled_by, waiting_by}
 use Rattle.depend_law.proofs.KeptActs.{LeavesDepends, act_leaves}
 use Rattle.depend_law.proofs.DependKept.{add_keeps, adds_keep, drop_keeps, drop_leaves_open}
 use Rattle.depend_law.proofs.Blocked.{block_keeps, blocks_keep}
+use Rattle.depend_law.proofs.FinishesAll.{closed_keeps}
 use Rattle.depend_law.proofs.Settled.{settle_keeps}
+use Rattle.depend_law.specs.Ending.{IsSettled}
 use Rattle.depend_law.specs.Unsettled.{Unsettled, WaitingOpen}
 
 -- ---- a farm that is settled
@@ -92,14 +96,22 @@ module _ (f : Farm) (moment : ℕ) (k : IsKeptFarm f) where
 
 -- ---- runs
 
-pub kept_step : (f : Farm) (e : Entry) → IsLegalStep f e → IsKeptFarm f → IsKeptFarm (after f e)
-kept_step f e legal k =
+-- what the farm keeps before jobs finish
+pub followed_step : (f : Farm) (e : Entry) → IsLegalStep f e → IsKeptFarm f → IsSettled (followed e.act (acted f e))
+followed_step f e legal k =
     let moment = moment_of f e.moment in
     let now = kept_later f moment (omega arith) (omega (arith, k.rows.moment_within, legal.formed.moment_within)) k.rows in
     let left = act_leaves (at_moment f moment) moment e.act (refusal_later f moment e.act ∙ act_accepted f e legal) (allowed_later f moment e.act legal.condition) now (later_keeps f moment k) in
+    let acts = kept_acted f e legal.formed (act_accepted f e legal) legal.condition k.rows in
+    record { rows = kept_followed e.act (acted f e) acts; depends = follows_keep f moment k e.act (follow_accepted f e legal) acts left }
+
+pub kept_step : (f : Farm) (e : Entry) → IsLegalStep f e → IsKeptFarm f → IsKeptFarm (after f e)
+kept_step f e legal k =
+    let settled = followed_step f e legal k in
     record {
       rows = rows.kept_step f e legal k.rows;
-      depends = follows_keep f moment k e.act (follow_accepted f e legal) (kept_acted f e legal.formed (act_accepted f e legal) legal.condition k.rows) left;
+      depends = closed_keeps e.act (followed e.act (acted f e)) settled.rows settled.depends;
+      work = work_kept (at_moment f (moment_of f e.moment)) (moment_of f e.moment) e.act legal.formed.act_formed k.work;
     }
 
 pub kept_run : (f : Farm) (es : List Entry) → IsKeptFarm f → IsLegal f es → IsKeptFarm (run_of f es)

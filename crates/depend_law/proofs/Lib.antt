@@ -5,7 +5,10 @@ pub mod Carries
 pub mod DependKept
 pub mod Fewer
 pub mod Filled
+pub mod Finishes
+pub mod FinishesAll
 pub mod GroupSlots
+pub mod JobDone
 pub mod KeptActs
 pub mod KeptFirst
 pub mod KeptRuns
@@ -20,5 +23,7 @@ pub mod Settled
 pub mod Shapes
 pub mod Stable
 pub mod Stops
+pub mod Targets
 pub mod Turns
 pub mod Waiters
+pub mod Without

@@ -22,8 +22,9 @@ use Rattle.farm_types.specs.Settle.{is_blocked}
 use Rattle.farm_types.specs.Step.{after_submit}
 use Rattle.farm_types.proofs.Lists.{and_both, for_some_true, found_is, list_all-at, list_all-from_at}
 use Rattle.farm_law.proofs.KeptJobsLayers.{none_of_other}
-use Rattle.farm_law.proofs.KeptJobsLists.{for_some_more, rising_below}
-use Rattle.farm_law.proofs.Placed.{job_waits}
+use Rattle.farm_types.proofs.Passes.{for_some-there}
+use Rattle.farm_law.proofs.KeptJobsLists.{rising_below}
+use Rattle.farm_law.proofs.Placed.{added_jobs_stay, job_waits}
 use Rattle.depend_law.proofs.Carries.{CarriesAll, kept_by}
 use Rattle.depend_law.proofs.Placed.{HoldsOf}
 use Rattle.depend_law.proofs.Shapes.{SameSlots, groups_by_shapes, shape_found}
@@ -34,7 +35,7 @@ use Rattle.depend_law.proofs.Filled.{Fills, found_placed, has_frame, none_fails,
 
 -- ---- who waits in a depend
 
-none_any : {X : Type 0} (test : X → Bool) (xs : List X) → ((n : ℕ) (x : X) → slice_get xs n ≡ Some x → test x ≡ false) → list_any test xs ≡ false
+pub none_any : {X : Type 0} (test : X → Bool) (xs : List X) → ((n : ℕ) (x : X) → slice_get xs n ≡ Some x → test x ≡ false) → list_any test xs ≡ false
 none_any test [] fails = refl
 none_any test (x ∷ xs) fails = ap (λ (b : Bool). b || list_any test xs) (fails 0 x refl) ∙ none_any test xs (λ n y at. fails (suc n) y at)
 
@@ -108,11 +109,19 @@ module _ (f : Farm) (rows : KeepsRows f) (k : KeepsDepends f) where
         (shape_found f.layers with_it.layers f.slots with_it.slots d.waiter.job (own_layers d.waiter.job waits) (own_slots d.waiter.job waits))
         (shape_found f.layers with_it.layers f.slots with_it.slots d.target.job (own_layers d.target.job waited) (own_slots d.target.job waited))
 
+    -- a pending job is so
+    still_pending : (job : ℕ) → is_of_pending f.jobs job ≡ true → is_of_pending with_it.jobs job ≡ true
+    still_pending job pending =
+        let test = λ (j : JobRow). eqb j.job job in
+        let old = for_some_true (find test f.jobs) is_pending_job pending in
+        let now = added_jobs_stay f.jobs (job_row f.next_job show spec ∷ []) spec.name job old.0 old.1 old.2 in
+        for_some-there (find test with_it.jobs) is_pending_job now.0 now.1 now.4
+
     -- an end that was there is
     end_stays : (e : DependEnd) → is_end_there f e ≡ true → is_end_there with_it e ≡ true
     end_stays e there =
         let parts = and_both (is_of_pending f.jobs e.job) (has_part (layers_of f.layers e.job) e.layer e.frame) there in
-        both_true (for_some_more (λ (j : JobRow). eqb j.job e.job) is_pending_job f.jobs (job_row f.next_job show spec ∷ []) parts.0)
+        both_true (still_pending e.job parts.0)
         (ap (λ (ls : List LayerRow). has_part ls e.layer e.frame) (own_layers e.job parts.0) ∙ parts.1)
 
     depend_stays : (d : DependRow) (b : Bool) → d.met_all ≡ b → is_kept_depend f d ≡ true → is_kept_depend with_it d ≡ true

@@ -204,7 +204,7 @@ pub record ShapeHolds (layers : List LayerRow) (slots : List SlotRow) (job : ℕ
   pub least : 1 ≤ length (all_slots (shape_in layers slots job).layers)
   pub most : length (all_slots (shape_in layers slots job).layers) ≤ MOST_FRAMES
 
-module _ (b : JobLists) (shows finish : ℕ) (kept : KeepsJobs b shows finish) where
+module _ (b : JobLists) (shows : ℕ) (kept : KeepsJobs b shows) where
   of_its : (job : ℕ) (j : JobRow) → j.job ≡ job → is_formed_job shows j ≡ true → HasItsLayers b.layers j → ShapeHolds b.layers b.slots job
   of_its job j is formed its =
       let places = subst (λ (k : ℕ). AreAtPlaces 0 (layers_of b.layers k)) is its.places in

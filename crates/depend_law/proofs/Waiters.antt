@@ -53,7 +53,7 @@ module _ (f : Farm) (k : KeepsRows f) where
       hold n slot at = let there = some.members n slot at in shape.each there.0 slot there.1
 
   pub job_shape : (job : ℕ) → is_of_pending f.jobs job ≡ true → ShapeHolds f.layers f.slots job
-  job_shape job pending = shape_holds _ (length f.shows) f.next_finish k.jobs job pending
+  job_shape job pending = shape_holds _ (length f.shows) k.jobs job pending
 
   -- the job of an end that is there is pending
   pub end_pending : (e : DependEnd) → is_end_there f e ≡ true → is_of_pending f.jobs e.job ≡ true

@@ -2,6 +2,7 @@
 #![tactic(auto)]
 
 mod examples;
+mod finishing;
 mod waiting;
 
 pub use examples::{
@@ -9,4 +10,5 @@ pub use examples::{
     old_completions_count_nothing, silent_hosts_lose_attempts, stale_reports_are_refused,
     submits_are_refused_in_order, sums_follow_attempts, texts_of_the_demonstration,
 };
+pub use finishing::killed_jobs_finish;
 pub use waiting::{depends_are_refused, jobs_wait_for_jobs};

@@ -80,7 +80,7 @@ report_counts f heard moment (Some host) ok there =
     let now = record f { hosts = changed_at f.hosts host (heard_row heard.seq moment) } in
     let law = heard_law f host heard.seq moment in
     let end = end_all now host heard.boot heard.done in
-    counts_then f now end [] (counted_in now host heard.boot heard.done) (spent_stays f now law.rows) (spent_stays now end (end_all_law now host heard.boot heard.done).rows) (counts_none f now)
+    counts_then f now end [] (counted_in now host heard.boot heard.done) (spent_stays f now law.rows.slots) (spent_stays now end (end_all_law now host heard.boot heard.done).rows.slots) (counts_none f now)
     (counts_in now host heard.boot heard.done (law.sound ok there) (law.hosts ok there))
 
 -- a report first sees which hosts are silent
@@ -89,7 +89,7 @@ heard_counts f heard moment ok there =
     let now = expire f moment in
     let law = expire_law f moment in
     let end = after_heard now heard moment (host_named f heard.host) in
-    counts_then f now end [] (counted_of now heard moment (host_named f heard.host)) (spent_stays f now law.rows) (spent_stays now end (report_law now heard moment (host_named f heard.host)).rows)
+    counts_then f now end [] (counted_of now heard moment (host_named f heard.host)) (spent_stays f now law.rows.slots) (spent_stays now end (report_law now heard moment (host_named f heard.host)).rows.slots)
     (counts_none f now) (report_counts now heard moment (host_named f heard.host) (law.sound ok there) (law.hosts ok there))
 
 pub act_counts : (f : Farm) (moment : ℕ) (act : Act) → IsSound f → HasItsHosts f → CountsOnce f (after_act f moment act) (counted_by f moment act)

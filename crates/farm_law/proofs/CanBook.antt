@@ -34,6 +34,7 @@ pub record CanBook (f : Farm) (slot host : ℕ) (r : Rows) : Type 0 where
   pub host_is : slice_get f.hosts host ≡ Some r.host
   pub sub_is : sub_at f (sub_of r.job.show r.host.alloc) ≡ Some r.sub
   pub waits : is_waiting r.frame.state ≡ true
+  pub pending : is_pending r.job.state ≡ true
   pub version : r.slot.version < LAST_VERSION
   pub unblocked : is_open f slot ≡ true
   pub cores : used_cores f host + r.layer.cores ≤ r.host.cores
@@ -69,6 +70,7 @@ can_book f slot host h0 =
         host_is = host_row.1;
         sub_is = sub.1;
         waits = ready1.0;
+        pending = ready2.1;
         version = ltb-true s.0.version LAST_VERSION ready1.1;
         unblocked = h1.1;
         cores = leb-true _ _ fits.0;

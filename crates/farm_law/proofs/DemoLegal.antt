@@ -11,7 +11,7 @@ use Rattle.farm_types.specs.Farm.{Farm, empty_farm}
 use Rattle.farm_types.specs.Formed.{IsFormedAct, IsFormedJob, IsFormedLayer, IsFormedOwn}
 use Rattle.farm_types.specs.Run.{IsLegal, IsLegalStep, run_of}
 use Rattle.farm_types.specs.SpecLimits.{LayerKeepsLimits}
-use Rattle.farm_types.specs.Step.{after, after_act, at_moment, followed, moment_of}
+use Rattle.farm_types.specs.Step.{closed, after, after_act, at_moment, followed, moment_of}
 use Rattle.farm_types.proofs.Ranges.{demo_range, demo_text, range_distinct}
 use Rattle.farm_law.specs.DemoRun.{demo_alloc, demo_boot, demo_entries, demo_layer_spec, demo_show, demo_spec, demo_sub, demo_submit}
 
@@ -84,8 +84,8 @@ abbrev hosted : ℕ → Farm
 hosted moment = record (demo_farm moment) { jobs = []; layers = []; slots = []; next_job = 1 }
 
 -- an entry at a moment that the farm hasn't passed
-after_now : (f g : Farm) (moment : ℕ) (act : Act) → moment_of f moment ≡ moment → followed act (after_act (at_moment f moment) moment act) ≡ g → after f (record { moment = moment; act = act }) ≡ g
-after_now f g moment act now is = ap (λ (n : ℕ). followed act (after_act (at_moment f n) n act)) now ∙ is
+after_now : (f g : Farm) (moment : ℕ) (act : Act) → moment_of f moment ≡ moment → closed act (followed act (after_act (at_moment f moment) moment act)) ≡ g → after f (record { moment = moment; act = act }) ≡ g
+after_now f g moment act now is = ap (λ (n : ℕ). closed act (followed act (after_act (at_moment f n) n act))) now ∙ is
 
 shown_is : (moment : ℕ) → after empty_farm (demo_show moment) ≡ shown moment
 shown_is moment = after_now empty_farm (shown moment) moment (demo_show moment).act (omega arith) refl

@@ -118,7 +118,7 @@ pub followed_safely : (old new : Farm) (act : Act) → ActsSafely old new act �
 followed_safely old new (Book slot host) safe = safe
 followed_safely old new act safe = tt
 
-AreSpent-stay : (f g : Farm) (xs : List Attempt) → ((a : Attempt) → IsSpent f a → IsSpent g a) → AreSpent f xs → AreSpent g xs
+pub AreSpent-stay : (f g : Farm) (xs : List Attempt) → ((a : Attempt) → IsSpent f a → IsSpent g a) → AreSpent f xs → AreSpent g xs
 AreSpent-stay f g [] stays spent = tt
 AreSpent-stay f g (x ∷ xs) stays spent = (stays x spent.0, AreSpent-stay f g xs stays spent.1)
 
@@ -127,6 +127,6 @@ pub followed_counts : (act : Act) (f g : Farm) (xs : List Attempt) → CountsOnc
 followed_counts act f g xs counts =
     record {
       none = counts.none;
-      spent = AreSpent-stay g (followed act g) xs (spent_stays g (followed act g) (followed_law act g).rows) counts.spent;
+      spent = AreSpent-stay g (followed act g) xs (spent_stays g (followed act g) (followed_law act g).rows.slots) counts.spent;
       differ = counts.differ;
     }

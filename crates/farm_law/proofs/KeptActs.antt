@@ -57,7 +57,7 @@ subscribed f line show alloc of_show of_alloc limits k =
       subs = subs_set f.subs line show alloc (length f.shows) (length f.allocs) limits k.shows.count k.allocs.count of_show of_alloc k.subs;
       hosts = k.hosts;
       jobs = k.jobs;
-      attempts = attempts_left f g (record { rows = law.rows; layers = λ job place l at. at; subs = subs_stay row f.subs; moment = omega arith }) (left_same f) k.attempts;
+      attempts = attempts_left f g (record { rows = law.rows; layers = λ job place l at. at; subs = subs_stay row f.subs; moment = omega arith }) (left_same f) k;
       sound = sound_by f g law k;
     }
 
@@ -82,10 +82,10 @@ kept_submit f spec (Some show) is accepted formed k =
       allocs = k.allocs;
       subs = k.subs;
       hosts = k.hosts;
-      jobs = jobs_submitted (lists_of f) spec show (length f.shows) f.next_finish formed taken (named_within show_label spec.show f.shows show is) k.jobs;
+      jobs = jobs_submitted (lists_of f) spec show (length f.shows) formed taken (named_within show_label spec.show f.shows show is) k.jobs;
       attempts =
           attempts_left f g (record { rows = law.rows; layers = layers_more f.layers (layer_rows f.next_job 0 spec.layers); subs = λ n there. there; moment = omega arith })
-          (left_placed f (frames_of f.next_job 0 spec.layers) (job_waits f.next_job 0 spec.layers) k.sound) k.attempts;
+          (left_placed f (frames_of f.next_job 0 spec.layers) (job_waits f.next_job 0 spec.layers) k.sound) k;
       sound = sound_by f g law k;
     }
 
@@ -101,7 +101,7 @@ kept_lock f lock (Some host) k =
       subs = k.subs;
       hosts = hosts_changed f.hosts (length f.allocs) f.moment host (locked_row lock) (λ row at. keeps_locked lock f.moment row) k.hosts;
       jobs = k.jobs;
-      attempts = attempts_left f g (named_by f g law.rows refl refl refl) (left_all f.hosts g.hosts f.slots (locked_serve f.hosts lock host)) k.attempts;
+      attempts = attempts_left f g (named_by f g law.rows refl refl refl) (left_all f.hosts g.hosts f.slots (locked_serve f.hosts lock host)) k;
       sound = sound_by f g law k;
     }
 
@@ -126,8 +126,8 @@ kept_book f slot host moment allowed now k =
       allocs = k.allocs;
       subs = k.subs;
       hosts = k.hosts;
-      jobs = subst (λ (h : Farm). KeepsJobs (lists_of h) (length f.shows) f.next_finish) makes (jobs_booked f slot host moment (length f.shows) f.next_finish allowed k.jobs);
-      attempts = attempts_booked f slot host moment r can (named_by f g law.rows refl refl refl) now k.attempts;
+      jobs = subst (λ (h : Farm). KeepsJobs (lists_of h) (length f.shows)) makes (jobs_booked f slot host moment (length f.shows) allowed k.jobs);
+      attempts = attempts_booked f slot host moment r can (named_by f g law.rows refl refl refl) now k;
       sound = sound_by f g law k;
     })
 
@@ -144,7 +144,7 @@ kept_act f moment Opened formed accepted allowed now k =
       subs = k.subs;
       hosts = hosts_mapped f.hosts (length f.allocs) f.moment (reopened_row moment) (keeps_reopened moment f.moment now) k.hosts;
       jobs = k.jobs;
-      attempts = attempts_left f g (named_by f g law.rows refl refl refl) (left_all f.hosts g.hosts f.slots (reopened_serve f.hosts moment)) k.attempts;
+      attempts = attempts_left f g (named_by f g law.rows refl refl refl) (left_all f.hosts g.hosts f.slots (reopened_serve f.hosts moment)) k;
       sound = sound_by f g law k;
     }
 kept_act f moment (Show name) formed accepted allowed now k =
@@ -157,8 +157,8 @@ kept_act f moment (Show name) formed accepted allowed now k =
       allocs = k.allocs;
       subs = subs_more f.subs (length f.shows) (length f.allocs) (length g.shows) (length f.allocs) more (omega arith) k.subs;
       hosts = k.hosts;
-      jobs = jobs_more_shows (lists_of f) (length f.shows) (length g.shows) f.next_finish more k.jobs;
-      attempts = attempts_left f g (named_by f g law.rows refl refl refl) (left_same f) k.attempts;
+      jobs = jobs_more_shows (lists_of f) (length f.shows) (length g.shows) more k.jobs;
+      attempts = attempts_left f g (named_by f g law.rows refl refl refl) (left_same f) k;
       sound = sound_by f g law k;
     }
 kept_act f moment (Alloc facility tag) formed accepted allowed now k =
@@ -172,7 +172,7 @@ kept_act f moment (Alloc facility tag) formed accepted allowed now k =
       subs = subs_more f.subs (length f.shows) (length f.allocs) (length f.shows) (length g.allocs) (omega arith) more k.subs;
       hosts = hosts_more_allocs f.hosts (length f.allocs) (length g.allocs) f.moment more k.hosts;
       jobs = k.jobs;
-      attempts = attempts_left f g (named_by f g law.rows refl refl refl) (left_same f) k.attempts;
+      attempts = attempts_left f g (named_by f g law.rows refl refl refl) (left_same f) k;
       sound = sound_by f g law k;
     }
 kept_act f moment (Sub line) formed accepted allowed now k = kept_sub f line (sub_named f line) refl formed.limits k

@@ -12,10 +12,10 @@ use Rattle.farm_types.specs.declared.slot_row.Frame.{Frame}
 use Rattle.farm_types.specs.declared.slot_row.SlotRow.{SlotRow}
 use Rattle.farm_types.specs.declared.states.FrameState.TheVariants.{Running}
 use Rattle.farm_types.specs.Farm.{Farm, changed_at, job_at, layer_at, sub_of}
-use Rattle.farm_types.specs.Kept.{KeepsAttempts, for_any, has_amounts, has_sub}
+use Rattle.farm_types.specs.Kept.{KeepsAttempts, KeepsRows, for_any, has_amounts, has_sub}
 use Rattle.farm_types.specs.Step.{booked_row, proc_of}
 use Rattle.farm_law.proofs.CanBook.{CanBook, Rows}
-use Rattle.farm_law.proofs.KeptAttempts.{Fits, NamedStay, attempts_from_each, each_fits, stays_fit}
+use Rattle.farm_law.proofs.KeptAttempts.{Fits, NamedStay, attempts_from_each, each_fits, frames_owned, stays_fit}
 use Rattle.farm_law.proofs.KeptServes.{hosts_serve}
 
 -- the frame that runs from now on
@@ -47,9 +47,9 @@ module _ (f : Farm) (slot host moment : ℕ) (r : Rows) (can : CanBook f slot ho
       }
 
   -- attempts keep theirs with the one that a booking adds
-  pub attempts_booked : NamedStay f booked → moment ≤ f.moment → KeepsAttempts f → KeepsAttempts booked
+  pub attempts_booked : NamedStay f booked → moment ≤ f.moment → KeepsRows f → KeepsAttempts booked
   attempts_booked named now k =
       attempts_from_each booked
       (changed_at_each (λ i s. Fits booked s) f.slots slot (booked_row added)
       (λ s at. subst (λ (x : SlotRow). Fits booked (booked_row added x)) (same_Some r.slot s (sym can.slot_is ∙ at)) (added_fits now))
-      (λ i s apart at. stays_fit f booked named s (λ p is. hosts_serve f.hosts p.host) (each_fits f k i s at)))
+      (λ i s apart at. stays_fit f booked named s (frames_owned f k i s at) (λ p is. hosts_serve f.hosts p.host) (each_fits f k.attempts i s at)))

@@ -67,7 +67,7 @@ kept_later f moment rises within k =
       subs = k.subs;
       hosts = hosts_later f.hosts (length f.allocs) f.moment moment rises k.hosts;
       jobs = k.jobs;
-      attempts = attempts_left f (at_moment f moment) (record { rows = law.rows; layers = λ job place l at. at; subs = λ n there. there; moment = rises }) (left_same f) k.attempts;
+      attempts = attempts_left f (at_moment f moment) (record { rows = law.rows; layers = λ job place l at. at; subs = λ n there. there; moment = rises }) (left_same f) k;
       sound = sound_by f (at_moment f moment) law k;
     }
 
@@ -82,8 +82,8 @@ kept_expire f moment k =
       allocs = k.allocs;
       subs = k.subs;
       hosts = hosts_mapped f.hosts (length f.allocs) f.moment (silenced_row moment) (keeps_silenced moment f.moment) k.hosts;
-      jobs = jobs_lost (lists_of f) (is_silent f moment) (length f.shows) f.next_finish k.jobs;
-      attempts = attempts_left f (expire f moment) (named_by f (expire f moment) law.rows refl refl refl) (left_expired f moment) k.attempts;
+      jobs = jobs_lost (lists_of f) (is_silent f moment) (length f.shows) k.jobs;
+      attempts = attempts_left f (expire f moment) (named_by f (expire f moment) law.rows refl refl refl) (left_expired f moment) k;
       sound = sound_by f (expire f moment) law k;
     }
 
@@ -101,8 +101,8 @@ kept_booted f line moment alloc formed room there now k =
       allocs = k.allocs;
       subs = k.subs;
       hosts = hosts_booted f.hosts (length f.allocs) moment f.moment line alloc host refl room formed there now k.hosts;
-      jobs = boot_slots (λ slots. KeepsJobs (record { jobs = f.jobs; layers = f.layers; slots = slots; next_job = f.next_job }) (length f.shows) f.next_finish) f line host k.jobs (λ n. jobs_lost (lists_of f) (λ m. eqb m n) (length f.shows) f.next_finish k.jobs);
-      attempts = attempts_left f g (named_by f g law.rows refl refl refl) (left_booted f line moment alloc host) k.attempts;
+      jobs = boot_slots (λ slots. KeepsJobs (record { jobs = f.jobs; layers = f.layers; slots = slots; next_job = f.next_job; next_finish = f.next_finish }) (length f.shows)) f line host k.jobs (λ n. jobs_lost (lists_of f) (λ m. eqb m n) (length f.shows) k.jobs);
+      attempts = attempts_left f g (named_by f g law.rows refl refl refl) (left_booted f line moment alloc host) k;
       sound = sound_by f g law k;
     }
 
@@ -129,12 +129,12 @@ kept_heard f host seq moment within now k =
       subs = k.subs;
       hosts = hosts_changed f.hosts (length f.allocs) f.moment host (heard_row seq moment) (λ row at. keeps_heard seq moment f.moment within now row) k.hosts;
       jobs = k.jobs;
-      attempts = attempts_left f g (named_by f g law.rows refl refl refl) (left_all f.hosts g.hosts f.slots (heard_serve f.hosts seq moment host)) k.attempts;
+      attempts = attempts_left f g (named_by f g law.rows refl refl refl) (left_all f.hosts g.hosts f.slots (heard_serve f.hosts seq moment host)) k;
       sound = sound_by f g law k;
     }
 
 -- a completion that counts, or nothing
-end_by : (f : Farm) (d : DoneItem) (live : Bool) → (let g : Farm = cond live (ended f d.attempt.slot d.exit) f in KeepsJobs (lists_of g) (length f.shows) f.next_finish → KeepsRows f → KeepsRows g)
+end_by : (f : Farm) (d : DoneItem) (live : Bool) → (let g : Farm = cond live (ended f d.attempt.slot d.exit) f in KeepsJobs (lists_of g) (length f.shows) → KeepsRows f → KeepsRows g)
 end_by f d true jobs k =
     let g = ended f d.attempt.slot d.exit in
     let law = ended_law f d.attempt.slot d.exit in
@@ -145,7 +145,7 @@ end_by f d true jobs k =
       subs = k.subs;
       hosts = k.hosts;
       jobs = jobs;
-      attempts = attempts_left f g (named_by f g law.rows refl refl refl) (left_ended f.hosts f.slots d.attempt.slot (ended_row f d.exit) (λ s. refl)) k.attempts;
+      attempts = attempts_left f g (named_by f g law.rows refl refl refl) (left_ended f.hosts f.slots d.attempt.slot (ended_row f d.exit) (λ s. refl)) k;
       sound = sound_by f g law k;
     }
 end_by f d false jobs k = k
@@ -155,7 +155,7 @@ pub kept_ends : (f : Farm) (host boot : ℕ) (ds : List DoneItem) → KeepsRows 
 kept_ends f host boot [] k = k
 kept_ends f host boot (d ∷ ds) k =
     kept_ends (end_attempt f host boot d) host boot ds
-    (end_by f d (is_live f host boot d.attempt.slot d.attempt.version) (jobs_ended f host boot (d ∷ []) (length f.shows) f.next_finish k.jobs) k)
+    (end_by f d (is_live f host boot d.attempt.slot d.attempt.version) (jobs_ended f host boot (d ∷ []) (length f.shows) k.jobs) k)
 
 -- a host is heard, and then its completions
 pub kept_report : (f : Farm) (heard : HeardAct) (moment : ℕ) (o : Option ℕ) → IsFormedHeard heard → moment ≤ f.moment → KeepsRows f → KeepsRows (after_heard f heard moment o)

@@ -7,7 +7,7 @@ use Rattle.farm_types.specs.Kept.{KeepsRows, KeepsJobs}
 use Rattle.farm_types.specs.Run.{IsSound}
 use Rattle.farm_types.specs.Step.{lists_of}
 use Rattle.farm_law.proofs.DemoLegal.{demo_legal, demo_run}
-use Rattle.farm_law.proofs.KeptJobsLists.{names_none}
+use Rattle.farm_law.proofs.KeptJobsLists.{names_none, nothing_differs}
 use Rattle.farm_law.proofs.KeptRuns.{kept_run}
 use Rattle.farm_law.specs.DemoRun.{demo_entries}
 
@@ -18,11 +18,15 @@ empty_sound : IsSound empty_farm
 empty_sound = record { cores = λ n row at. omega arith; memory = λ n row at. omega arith; attempts = λ i s at. absurd (none-some s at) }
 
 -- no job, so that there is nothing to keep
-jobs_none : KeepsJobs (lists_of empty_farm) 0 1
+jobs_none : KeepsJobs (lists_of empty_farm) 0
 jobs_none =
     record {
       next_within = omega arith;
+      finish_from = omega arith;
       finish_within = omega arith;
+      finished_count = omega arith;
+      finishes_within = refl;
+      finishes_differ = nothing_differs;
       jobs_rise = omega arith;
       jobs_formed = refl;
       jobs_differ = names_none;

@@ -88,8 +88,8 @@ module _ (f g : Farm) (follows : Follows f g) (k : KeepsRows f) where
         allocs = k.allocs;
         subs = k.subs;
         hosts = k.hosts;
-        jobs = slots_keep (lists_of f) g.slots (length f.shows) f.next_finish (zip_weaker SlotFollows (SlotKeeps f.layers) (slot_follows_keeps f.layers) f.slots g.slots follows.slots) k.jobs;
-        attempts = attempts_left f now (named_by f now law.rows refl refl refl) each_left k.attempts;
+        jobs = slots_keep (lists_of f) g.slots (length f.shows) (zip_weaker SlotFollows (SlotKeeps f.layers) (slot_follows_keeps f.layers) f.slots g.slots follows.slots) k.jobs;
+        attempts = attempts_left f now (named_by f now law.rows refl refl refl) each_left k;
         sound = sound_by f now law k;
       }
 

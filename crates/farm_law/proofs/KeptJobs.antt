@@ -24,11 +24,15 @@ use Rattle.farm_law.proofs.KeptJobsSubmitted.{submitted}
 use Rattle.farm_law.proofs.KeptJobsZip.{zip_changed_at, zip_map}
 
 -- more shows
-pub jobs_more_shows : (b : JobLists) (shows more finish : ℕ) → shows ≤ more → KeepsJobs b shows finish → KeepsJobs b more finish
-jobs_more_shows b shows more finish le kept =
+pub jobs_more_shows : (b : JobLists) (shows more : ℕ) → shows ≤ more → KeepsJobs b shows → KeepsJobs b more
+jobs_more_shows b shows more le kept =
     record {
       next_within = kept.next_within;
+      finish_from = kept.finish_from;
       finish_within = kept.finish_within;
+      finished_count = kept.finished_count;
+      finishes_within = kept.finishes_within;
+      finishes_differ = kept.finishes_differ;
       jobs_rise = kept.jobs_rise;
       jobs_formed = jobs_formed_more shows more b.jobs le kept.jobs_formed;
       jobs_differ = kept.jobs_differ;
@@ -44,33 +48,33 @@ jobs_more_shows b shows more finish le kept =
     }
 
 -- lost attempts
-pub jobs_lost : (b : JobLists) (test : ℕ → Bool) (shows finish : ℕ) → KeepsJobs b shows finish → KeepsJobs (record b { slots = lose_on test b.slots }) shows finish
-jobs_lost b test shows finish kept =
-    slots_keep b (lose_on test b.slots) shows finish
+pub jobs_lost : (b : JobLists) (test : ℕ → Bool) (shows : ℕ) → KeepsJobs b shows → KeepsJobs (record b { slots = lose_on test b.slots }) shows
+jobs_lost b test shows kept =
+    slots_keep b (lose_on test b.slots) shows
     (zip_map (SlotKeeps b.layers) (λ (s : SlotRow). cond (runs_on test s) (lost_row s) s) (lose_keeps b.layers test) b.slots) kept
 
 -- a completion
-end_keeps : (f : Farm) (host boot : ℕ) (d : DoneItem) (shows finish : ℕ) → KeepsJobs (lists_of f) shows finish → KeepsJobs (lists_of (end_attempt f host boot d)) shows finish
-end_keeps f host boot d shows finish kept =
-    cond_each (λ (g : Farm). KeepsJobs (lists_of g) shows finish) (is_live f host boot d.attempt.slot d.attempt.version) (ended f d.attempt.slot d.exit) f
-    (slots_keep (lists_of f) (changed_at f.slots d.attempt.slot (ended_row f d.exit)) shows finish
+end_keeps : (f : Farm) (host boot : ℕ) (d : DoneItem) (shows : ℕ) → KeepsJobs (lists_of f) shows → KeepsJobs (lists_of (end_attempt f host boot d)) shows
+end_keeps f host boot d shows kept =
+    cond_each (λ (g : Farm). KeepsJobs (lists_of g) shows) (is_live f host boot d.attempt.slot d.attempt.version) (ended f d.attempt.slot d.exit) f
+    (slots_keep (lists_of f) (changed_at f.slots d.attempt.slot (ended_row f d.exit)) shows
     (zip_changed_at (SlotKeeps f.layers) (slot_keeps f.layers) (ended_row f d.exit) f.slots d.attempt.slot (λ s at. ended_keeps f d.exit shows kept.jobs_formed s)) kept)
     kept
 
 -- completions in order
-pub jobs_ended : (f : Farm) (host boot : ℕ) (ds : List DoneItem) (shows finish : ℕ) → KeepsJobs (lists_of f) shows finish → KeepsJobs (lists_of (end_all f host boot ds)) shows finish
-jobs_ended f host boot [] shows finish kept = kept
-jobs_ended f host boot (d ∷ ds) shows finish kept = jobs_ended (end_attempt f host boot d) host boot ds shows finish (end_keeps f host boot d shows finish kept)
+pub jobs_ended : (f : Farm) (host boot : ℕ) (ds : List DoneItem) (shows : ℕ) → KeepsJobs (lists_of f) shows → KeepsJobs (lists_of (end_all f host boot ds)) shows
+jobs_ended f host boot [] shows kept = kept
+jobs_ended f host boot (d ∷ ds) shows kept = jobs_ended (end_attempt f host boot d) host boot ds shows (end_keeps f host boot d shows kept)
 
 -- a booking
-pub jobs_booked : (f : Farm) (slot host moment shows finish : ℕ) → may_record f slot host ≡ true → KeepsJobs (lists_of f) shows finish → KeepsJobs (lists_of (with_proc f slot (new_proc f slot host moment))) shows finish
-jobs_booked f slot host moment shows finish allowed kept =
+pub jobs_booked : (f : Farm) (slot host moment shows : ℕ) → may_record f slot host ≡ true → KeepsJobs (lists_of f) shows → KeepsJobs (lists_of (with_proc f slot (new_proc f slot host moment))) shows
+jobs_booked f slot host moment shows allowed kept =
     let found = can_book f slot host allowed in
     let r = found.0 in
     let can = found.1 in
     let new = proc_of slot host moment r.slot r.job r.layer r.host in
-    subst (λ (g : Farm). KeepsJobs (lists_of g) shows finish) (sym (booking_makes f slot host moment r can))
-    (slots_keep (lists_of f) (changed_at f.slots slot (booked_row new)) shows finish
+    subst (λ (g : Farm). KeepsJobs (lists_of g) shows) (sym (booking_makes f slot host moment r can))
+    (slots_keep (lists_of f) (changed_at f.slots slot (booked_row new)) shows
     (zip_changed_at (SlotKeeps f.layers) (slot_keeps f.layers) (booked_row new) f.slots slot
     (λ s at.
     let same : r.slot ≡ s = same_Some r.slot s (sym can.slot_is ∙ at) in
@@ -78,5 +82,5 @@ jobs_booked f slot host moment shows finish allowed kept =
     kept)
 
 -- a submitted job
-pub jobs_submitted : (b : JobLists) (spec : JobSpec) (show shows finish : ℕ) → IsFormedJob spec → job_refusal b spec ≡ None → show < shows → KeepsJobs b shows finish → KeepsJobs (with_job b show spec) shows finish
-jobs_submitted b spec show shows finish formed none shown kept = submitted b spec show shows finish formed (accepted b spec none) kept shown
+pub jobs_submitted : (b : JobLists) (spec : JobSpec) (show shows : ℕ) → IsFormedJob spec → job_refusal b spec ≡ None → show < shows → KeepsJobs b shows → KeepsJobs (with_job b show spec) shows
+jobs_submitted b spec show shows formed none shown kept = submitted b spec show shows formed (accepted b spec none) kept shown

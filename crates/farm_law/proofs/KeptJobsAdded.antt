@@ -1,7 +1,7 @@
 -- What a job that isn't refused adds to jobs, layers and slots.
-use Rattle.std.proofs.Common.{◌≡◌, ℕ, suc, zero, ◌*◌, ◌<◌, ◌≤◌, Bool, true, false, cond, ◌&&◌, eqb, leb, List, [], ◌∷◌, ◌++◌, map, Option, Some, None, refl, sym, ap, subst, ◌∙◌, arith, append-nil, ◌⊎◌, inl, inr}
+use Rattle.std.proofs.Common.{◌≡◌, ℕ, suc, zero, ◌*◌, ◌<◌, ◌≤◌, Bool, true, false, cond, not, ◌&&◌, eqb, leb, List, [], ◌∷◌, ◌++◌, map, Option, Some, None, refl, sym, ap, subst, ◌∙◌, arith, append-nil, ◌⊎◌, inl, inr}
 use Rattle.std.specs.Prelude.{bytes_eq, nat_lt}
-use Rattle.std.specs.List.{IsDistinct, filter, list_all, list_any, slice_get}
+use Rattle.std.specs.List.{IsDistinct, list_all, list_any, slice_get}
 use Rattle.std.proofs.lemmas.Bool.{ltb-false, eq-eqb, ne_eqb, or_parts}
 use Rattle.std.proofs.lemmas.Cmp.{nat_list_eq_equiv}
 use Rattle.std.proofs.lemmas.List.{map_push}
@@ -18,12 +18,13 @@ use Rattle.farm_types.specs.declared.slot_row.SlotRow.{SlotRow}
 use Rattle.farm_types.specs.declared.limits.TheConstants.{LAST_JOB, LAST_VERSION, MOST_LAYERS}
 use Rattle.farm_types.specs.Farm.{for_some, is_placed, layers_of}
 use Rattle.farm_types.specs.Formed.{IsFormedJob}
-use Rattle.farm_types.specs.Jobs.{JobLists, frames_in, free_in, is_pending_named, job_refusal, job_row, layer_rows, layers_refusal, repeated_name, room_refusal}
+use Rattle.farm_types.specs.Jobs.{JobLists, frames_in, free_in, is_finished_named, is_pending_named, job_refusal, job_row, layer_rows, layers_refusal, repeated_name, room_refusal, without_finished}
 use Rattle.farm_types.specs.Kept.{AllDiffer, AreAtPlaces, HasItsLayers, for_any, frames_said, is_formed_job, is_kept_frame, is_kept_slot, is_of_pending, is_pending_job, job_label, layer_in, layer_label}
 use Rattle.farm_types.specs.Ranges.{range_numbers}
 use Rattle.farm_types.specs.Rising.{IsRising, job_key, layer_key}
 use Rattle.farm_types.proofs.Lists.{and_both, for_some_true, list_all-at, list_all-from_at}
 use Rattle.farm_types.proofs.ListSums.{sum_by-each_zero}
+use Rattle.farm_law.proofs.Filtered.{differ-filter}
 use Rattle.farm_law.proofs.KeptJobsCounts.{count_at, counts_frame, stands_at}
 use Rattle.farm_law.proofs.KeptJobsFormed.{formed_job}
 use Rattle.farm_law.proofs.KeptJobsLayers.{all_of_job, between, none_in_next, none_of_next, none_of_other, row_names, rows_at_places, rows_said}
@@ -82,33 +83,33 @@ row_is_formed job show shows spec formed within =
       frames = between _ _ (frames_in spec.layers) formed.limits.frames_within;
     })
 
--- a name that no pending job has is none of theirs
-unnamed_step : (b : Bool) (name : List ℕ) (j : JobRow) (js : List JobRow) → is_pending_job j ≡ b → (is_pending_job j && bytes_eq j.name name) ≡ false → list_any (bytes_eq name) (map job_label (filter is_pending_job js)) ≡ false
-    → list_any (bytes_eq name) (map job_label (cond b (j ∷ filter is_pending_job js) (filter is_pending_job js))) ≡ false
-unnamed_step true name j js is other rest =
+-- a name that no pending job has is none of those that stay
+unnamed_step : (pending same : Bool) (name : List ℕ) (j : JobRow) (kept : List JobRow) → is_pending_job j ≡ pending → bytes_eq j.name name ≡ same → (is_pending_job j && bytes_eq j.name name) ≡ false → list_any (bytes_eq name) (map job_label kept) ≡ false
+    → list_any (bytes_eq name) (map job_label (cond (not (not pending && same)) (j ∷ kept) kept)) ≡ false
+unnamed_step true same name j kept is is_same other rest =
     let apart : bytes_eq j.name name ≡ false = rw is at other in
     rw (nat_list_eq_equiv.symm name j.name, apart) rest
-unnamed_step false name j js is other rest = rest
+unnamed_step false true name j kept is is_same other rest = rest
+unnamed_step false false name j kept is is_same other rest = rw (nat_list_eq_equiv.symm name j.name, is_same) rest
 
-pub unnamed : (name : List ℕ) (js : List JobRow) → list_any (is_pending_named name) js ≡ false → list_any (bytes_eq name) (map job_label (filter is_pending_job js)) ≡ false
+pub unnamed : (name : List ℕ) (js : List JobRow) → list_any (is_pending_named name) js ≡ false → list_any (bytes_eq name) (map job_label (without_finished name js)) ≡ false
 unnamed name [] none = refl
 unnamed name (j ∷ js) none =
     let parts = or_parts (is_pending_named name j) (list_any (is_pending_named name) js) none in
-    unnamed_step (is_pending_job j) name j js refl parts.0 (unnamed name js parts.1)
+    unnamed_step (is_pending_job j) (bytes_eq j.name name) name j (without_finished name js) refl refl parts.0 (unnamed name js parts.1)
 
--- the names of pending jobs with the new one
-pub names_added : (jobs : List JobRow) (job show : ℕ) (spec : JobSpec) → AllDiffer job_label (filter is_pending_job jobs) → list_any (is_pending_named spec.name) jobs ≡ false
-    → AllDiffer job_label (filter is_pending_job (jobs ++ job_row job show spec ∷ []))
+-- the names of jobs with the new one
+pub names_added : (jobs : List JobRow) (job show : ℕ) (spec : JobSpec) → AllDiffer job_label jobs → list_any (is_pending_named spec.name) jobs ≡ false → AllDiffer job_label (without_finished spec.name jobs ++ job_row job show spec ∷ [])
 names_added jobs job show spec differ new =
-    let all : filter is_pending_job (jobs ++ job_row job show spec ∷ []) ≡ filter is_pending_job jobs ++ job_row job show spec ∷ [] = filter-append is_pending_job jobs (job_row job show spec ∷ []) in
-    let names : map job_label (filter is_pending_job (jobs ++ job_row job show spec ∷ [])) ≡ map job_label (filter is_pending_job jobs) ++ spec.name ∷ [] =
-    ap (map job_label) all ∙ map_push job_label (filter is_pending_job jobs) (job_row job show spec) in
-    subst (IsDistinct bytes_eq) (sym names) (IsDistinct-push nat_list_eq_equiv (map job_label (filter is_pending_job jobs)) spec.name differ (unnamed spec.name jobs new))
+    let olds = without_finished spec.name jobs in
+    let names : map job_label (olds ++ job_row job show spec ∷ []) ≡ map job_label olds ++ spec.name ∷ [] = map_push job_label olds (job_row job show spec) in
+    subst (IsDistinct bytes_eq) (sym names)
+    (IsDistinct-push nat_list_eq_equiv (map job_label olds) spec.name (differ-filter job_label bytes_eq (λ j. not (is_finished_named spec.name j)) jobs differ) (unnamed spec.name jobs new))
 
 -- ---- layers of jobs
 
 -- what a job's layers have to keep, told of the list of them
-has_its : (layers own : List LayerRow) (j : JobRow) → layers_of layers j.job ≡ own → AreAtPlaces 0 own → AllDiffer layer_label own → frames_said own ≡ j.frames → HasItsLayers layers j
+pub has_its : (layers own : List LayerRow) (j : JobRow) → layers_of layers j.job ≡ own → AreAtPlaces 0 own → AllDiffer layer_label own → frames_said own ≡ j.frames → HasItsLayers layers j
 has_its layers own j are places differ frames =
     record {
       places = subst (AreAtPlaces 0) (sym are) places;

@@ -1,6 +1,6 @@
 -- Lists whose keys rise, what is found or left out of a list, and names that stand once.
 use Rattle.std.proofs.Common.{◌≡◌, ℕ, suc, zero, ◌+◌, ◌<◌, ◌≤◌, Bool, true, false, cond, List, [], ◌∷◌, ◌++◌, map, Option, Some, None, refl, ap, sym, subst, ◌∙◌, arith}
-use Rattle.std.specs.Prelude.{bytes_eq}
+use Rattle.std.specs.Prelude.{bytes_eq, nat_eq}
 use Rattle.std.specs.List.{AllByRecursion, IsDistinct, filter, find, list_any, slice_get}
 use Rattle.std.specs.Option.{option_or}
 use Rattle.std.proofs.lemmas.Bool.{or_parts}
@@ -29,7 +29,7 @@ rising_below key low (y ∷ ys) high zero x rise at =
     subst (λ z. key z < high) (same_Some y x at) (omega (arith, within))
 rising_below key low (y ∷ ys) high (suc n) x rise at = rising_below key (key y + 1) ys high n x rise.1 at
 
-rising_lower : {X : Type 0} (key : X → ℕ) (low mid : ℕ) (ys : List X) (high : ℕ) → low ≤ mid → IsRising key mid ys high → IsRising key low ys high
+pub rising_lower : {X : Type 0} (key : X → ℕ) (low mid : ℕ) (ys : List X) (high : ℕ) → low ≤ mid → IsRising key mid ys high → IsRising key low ys high
 rising_lower key low mid [] high h rise = omega (arith, h, rise)
 rising_lower key low mid (y ∷ ys) high h rise = (omega (arith, h, rise.0), rise.1)
 
@@ -77,7 +77,7 @@ module _ {X : Type 0} (test : X → Bool) where
 -- ---- names that stand once
 
 -- what no item passes, the one at a place doesn't
-any_fails : {X : Type 0} (test : X → Bool) (xs : List X) (n : ℕ) (x : X) → list_any test xs ≡ false → slice_get xs n ≡ Some x → test x ≡ false
+pub any_fails : {X : Type 0} (test : X → Bool) (xs : List X) (n : ℕ) (x : X) → list_any test xs ≡ false → slice_get xs n ≡ Some x → test x ≡ false
 any_fails test [] n x any at = absurd (none-some x at)
 any_fails test (y ∷ ys) zero x any at = subst (λ z. test z ≡ false) (same_Some y x at) (or_parts (test y) (list_any test ys) any).0
 any_fails test (y ∷ ys) (suc n) x any at = any_fails test ys n x (or_parts (test y) (list_any test ys) any).1 at
@@ -111,6 +111,10 @@ apart_later before n name (l ∷ ls) at none =
 pub names_none : IsDistinct bytes_eq []
 unfolding IsDistinct
 names_none = tt
+
+pub nothing_differs : IsDistinct nat_eq []
+unfolding IsDistinct
+nothing_differs = tt
 
 -- layers without a repeated name have names that differ
 pub names_differ : (before : List (List ℕ)) (ls : List LayerSpec) → repeated_name before ls ≡ None → IsDistinct bytes_eq (map spec_name ls)

@@ -48,11 +48,15 @@ module _ (layers : List LayerRow) where
   ends_stay (s ∷ (s' ∷ ss)) (t ∷ (t' ∷ ts)) zip ends = ends_stay (s' ∷ ss) (t' ∷ ts) zip.1 ends
 
 -- slots whose frames stay where they are
-pub slots_keep : (b : JobLists) (slots : List SlotRow) (shows finish : ℕ) → AllZip (SlotKeeps b.layers) b.slots slots → KeepsJobs b shows finish → KeepsJobs (record b { slots = slots }) shows finish
-slots_keep b slots shows finish zip kept =
+pub slots_keep : (b : JobLists) (slots : List SlotRow) (shows : ℕ) → AllZip (SlotKeeps b.layers) b.slots slots → KeepsJobs b shows → KeepsJobs (record b { slots = slots }) shows
+slots_keep b slots shows zip kept =
     record {
       next_within = kept.next_within;
+      finish_from = kept.finish_from;
       finish_within = kept.finish_within;
+      finished_count = kept.finished_count;
+      finishes_within = kept.finishes_within;
+      finishes_differ = kept.finishes_differ;
       jobs_rise = kept.jobs_rise;
       jobs_formed = kept.jobs_formed;
       jobs_differ = kept.jobs_differ;

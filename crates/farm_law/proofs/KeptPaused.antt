@@ -1,19 +1,20 @@
 -- A job that is paused or goes on leaves what every farm keeps.
 use Rattle.std.proofs.Common.{◌≡◌, ℕ, Bool, true, eqb, List, map, length, Option, Some, None, refl, sym, ap, subst, ◌∙◌, arith}
 use Rattle.std.specs.List.{IsDistinct, filter, find, list_all}
-use Rattle.std.specs.Prelude.{bytes_eq}
+use Rattle.std.specs.Prelude.{bytes_eq, nat_eq}
 use Rattle.std.proofs.lemmas.List.{length-map}
 use Rattle.std.proofs.lemmas.List.Folds.{list_all-map}
-use Rattle.std.proofs.lemmas.Simd.{map-map}
 use Rattle.farm_types.specs.declared.rows.JobRow.{JobRow}
 use Rattle.farm_types.specs.declared.rows.LayerRow.{LayerRow}
 use Rattle.farm_types.specs.Farm.{Farm, for_some}
+use Rattle.farm_types.specs.Finish.{is_finished}
 use Rattle.farm_types.specs.Jobs.{JobLists}
-use Rattle.farm_types.specs.Kept.{HasItsLayers, KeepsJobs, KeepsRows, is_formed_job, is_of_pending, is_pending_job, job_label}
+use Rattle.farm_types.specs.Kept.{HasItsLayers, KeepsJobs, KeepsRows, finish_of, has_its_finish, is_formed_job, is_of_pending, is_pending_job, job_label}
 use Rattle.farm_types.specs.Operators.{paused_row, with_paused}
 use Rattle.farm_types.specs.Rising.{job_key}
 use Rattle.farm_types.specs.Step.{lists_of}
 use Rattle.farm_types.proofs.Changed.{mapped_each}
+use Rattle.farm_types.proofs.ChangedLists.{map-map_kept}
 use Rattle.farm_types.proofs.Passes.{cond_each}
 use Rattle.farm_law.proofs.KeptAttempts.{attempts_left}
 use Rattle.farm_law.proofs.KeptChanges.{named_by, sound_by}
@@ -28,15 +29,24 @@ module _ (job : ℕ) (paused : Bool) (jobs : List JobRow) where
   pending_same : (j : JobRow) → is_pending_job (paused_row job paused j) ≡ is_pending_job j
   pending_same = unread is_pending_job (λ j b. refl) job paused
 
-  -- as many are pending, of the same names
+  -- as many are pending
   pending_are : filter is_pending_job changed ≡ map (paused_row job paused) (filter is_pending_job jobs)
   pending_are = filter-map (paused_row job paused) is_pending_job pending_same jobs
 
-  names_are : map job_label (filter is_pending_job changed) ≡ map job_label (filter is_pending_job jobs)
-  names_are =
-      ap (map job_label) pending_are
-      ∙ (map-map job_label (paused_row job paused) (filter is_pending_job jobs)
-      ∙ ap (λ (label : JobRow → List ℕ). map label (filter is_pending_job jobs)) (λ i j. unread job_label (λ x b. refl) job paused j i))
+  -- the same are finished, in the same order
+  finished_are : filter is_finished changed ≡ map (paused_row job paused) (filter is_finished jobs)
+  finished_are = filter-map (paused_row job paused) is_finished (unread is_finished (λ j b. refl) job paused) jobs
+
+  finishes_are : map finish_of (filter is_finished changed) ≡ map finish_of (filter is_finished jobs)
+  finishes_are = ap (map finish_of) finished_are ∙ map-map_kept finish_of (paused_row job paused) (unread finish_of (λ j b. refl) job paused) (filter is_finished jobs)
+
+  finishes_known : (next : ℕ) → list_all (has_its_finish next) changed ≡ list_all (has_its_finish next) jobs
+  finishes_known next =
+      list_all-map (has_its_finish next) (paused_row job paused) jobs
+      ∙ ap (λ (test : JobRow → Bool). list_all test jobs) (λ i j. unread (has_its_finish next) (λ x b. refl) job paused j i)
+
+  names_are : map job_label changed ≡ map job_label jobs
+  names_are = map-map_kept job_label (paused_row job paused) (unread job_label (λ j b. refl) job paused) jobs
 
   formed_are : (shows : ℕ) → list_all (is_formed_job shows) changed ≡ list_all (is_formed_job shows) jobs
   formed_are shows =
@@ -55,12 +65,17 @@ layered_row layers job paused j has =
     cond_each (λ (x : JobRow). is_pending_job x ≡ true → HasItsLayers layers x) (eqb j.job job) (record j { paused = paused }) j
     (λ pending. let own = has pending in record { places = own.places; differ = own.differ; frames = own.frames }) has
 
-pub keeps_paused : (b : JobLists) (job : ℕ) (paused : Bool) (shows finish : ℕ) → KeepsJobs b shows finish → KeepsJobs (record b { jobs = map (paused_row job paused) b.jobs }) shows finish
-keeps_paused b job paused shows finish kept =
+pub keeps_paused : (b : JobLists) (job : ℕ) (paused : Bool) (shows : ℕ) → KeepsJobs b shows → KeepsJobs (record b { jobs = map (paused_row job paused) b.jobs }) shows
+keeps_paused b job paused shows kept =
     let count = ap length (pending_are job paused b.jobs) ∙ length-map (filter is_pending_job b.jobs) (paused_row job paused) in
+    let finished = ap length (finished_are job paused b.jobs) ∙ length-map (filter is_finished b.jobs) (paused_row job paused) in
     record {
       next_within = kept.next_within;
+      finish_from = kept.finish_from;
       finish_within = omega (arith, count, kept.finish_within);
+      finished_count = omega (arith, finished, kept.finished_count);
+      finishes_within = finishes_known job paused b.jobs b.next_finish ∙ kept.finishes_within;
+      finishes_differ = subst (IsDistinct nat_eq) (sym (finishes_are job paused b.jobs)) kept.finishes_differ;
       jobs_rise = rising-map job_key (paused_row job paused) (unread job_key (λ x p. refl) job paused) 1 b.jobs b.next_job kept.jobs_rise;
       jobs_formed = formed_are job paused b.jobs shows ∙ kept.jobs_formed;
       jobs_differ = subst (IsDistinct bytes_eq) (sym (names_are job paused b.jobs)) kept.jobs_differ;
@@ -88,7 +103,7 @@ kept_pause f paused (Some j) k =
       allocs = k.allocs;
       subs = k.subs;
       hosts = k.hosts;
-      jobs = keeps_paused (lists_of f) j.job paused (length f.shows) f.next_finish k.jobs;
-      attempts = attempts_left f g (named_by f g law.rows refl refl refl) (left_same f) k.attempts;
+      jobs = keeps_paused (lists_of f) j.job paused (length f.shows) k.jobs;
+      attempts = attempts_left f g (named_by f g law.rows refl refl refl) (left_same f) k;
       sound = sound_by f g law k;
     }

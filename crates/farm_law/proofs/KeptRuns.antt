@@ -1,6 +1,7 @@
 -- Every legal run from a farm that keeps its rows ends in such a farm.
 use Rattle.std.proofs.Common.{◌≡◌, ℕ, List, [], ◌∷◌, Option, Some, None, refl, sym, ◌∙◌, arith}
 use Rattle.std.proofs.lemmas.Option.{none-some}
+use Rattle.farm_law.proofs.FinishedKept.{kept_closed}
 use Rattle.farm_law.proofs.KeptActs.{kept_act}
 use Rattle.farm_law.proofs.KeptChanges.{kept_later}
 use Rattle.farm_law.proofs.KeptFollowed.{kept_followed}
@@ -11,7 +12,7 @@ use Rattle.farm_types.specs.Formed.{IsFormed}
 use Rattle.farm_types.specs.Kept.{KeepsRows}
 use Rattle.farm_types.specs.Operators.{slot_named}
 use Rattle.farm_types.specs.Run.{IsLegal, IsLegalStep, run_of}
-use Rattle.farm_types.specs.Step.{HasCondition, act_refusal, acted, after, at_moment, follow_refusal, moment_of}
+use Rattle.farm_types.specs.Step.{HasCondition, act_refusal, acted, after, at_moment, follow_refusal, followed, moment_of}
 use Rattle.farm_types.specs.declared.entry.Act.{Act}
 use Rattle.farm_types.specs.declared.entry.Entry.{Entry}
 
@@ -43,9 +44,9 @@ kept_acted f e formed accepted allowed k =
     let now = kept_later f moment (omega arith) (omega (arith, k.moment_within, formed.moment_within)) k in
     kept_act (at_moment f moment) moment e.act formed.act_formed (refusal_later f moment e.act ∙ accepted) (allowed_later f moment e.act allowed) (omega arith) now
 
--- the act, and then what follows of it
+-- the act, then what follows of it, and then the jobs that finish
 pub kept_step : (f : Farm) (e : Entry) → IsLegalStep f e → KeepsRows f → KeepsRows (after f e)
-kept_step f e legal k = kept_followed e.act (acted f e) (kept_acted f e legal.formed (act_accepted f e legal) legal.condition k)
+kept_step f e legal k = kept_closed e.act (followed e.act (acted f e)) (kept_followed e.act (acted f e) (kept_acted f e legal.formed (act_accepted f e legal) legal.condition k))
 
 -- ---- a run
 

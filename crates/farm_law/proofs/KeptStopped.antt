@@ -84,8 +84,8 @@ module _ (f g : Farm) (stops : Stops f g) (k : KeepsRows f) where
         allocs = k.allocs;
         subs = k.subs;
         hosts = k.hosts;
-        jobs = slots_keep (lists_of f) g.slots (length f.shows) f.next_finish (zip_weaker SlotStops (SlotKeeps f.layers) (slot_stops_keeps f.layers) f.slots g.slots stops.slots) k.jobs;
-        attempts = attempts_left f now (named_by f now law.rows refl refl refl) each_left k.attempts;
+        jobs = slots_keep (lists_of f) g.slots (length f.shows) (zip_weaker SlotStops (SlotKeeps f.layers) (slot_stops_keeps f.layers) f.slots g.slots stops.slots) k.jobs;
+        attempts = attempts_left f now (named_by f now law.rows refl refl refl) each_left k;
         sound = sound_by f now law k;
       }
 

@@ -5,6 +5,12 @@ pub mod CanBook
 pub mod DemoLegal
 pub mod Ended
 pub mod FollowLaws
+pub mod Filtered
+pub mod Finished
+pub mod FinishedJobs
+pub mod FinishedKept
+pub mod FinishedOne
+pub mod FinishedRows
 pub mod Follows
 pub mod Hosts
 pub mod KeepsLaw
@@ -35,12 +41,14 @@ pub mod KeptRuns
 pub mod KeptServes
 pub mod KeptShows
 pub mod KeptStopped
+pub mod KeptWork
 pub mod Lost
 pub mod NeedsHosts
 pub mod Once
 pub mod Paused
 pub mod Placed
 pub mod RowsStay
+pub mod RunsStay
 pub mod SafeRuns
 pub mod Spent
 pub mod Stopped

@@ -73,7 +73,7 @@ counts_step : (f : Farm) (host boot : ℕ) (d : DoneItem) (ds : List DoneItem) (
 counts_step f host boot d ds true ok live later =
     let now = end_attempt f host boot d in
     let end = end_all now host boot ds in
-    counts_then f now end (d.attempt ∷ []) (counted_in now host boot ds) (spent_stays f now (end_law f host boot d).rows) (spent_stays now end (end_all_law now host boot ds).rows) (one_counts f host boot d ok live) later
+    counts_then f now end (d.attempt ∷ []) (counted_in now host boot ds) (spent_stays f now (end_law f host boot d).rows.slots) (spent_stays now end (end_all_law now host boot ds).rows.slots) (one_counts f host boot d ok live) later
 counts_step f host boot d ds false ok live later =
     subst (λ (g : Farm). CountsOnce g (end_all (end_attempt f host boot d) host boot ds) (counted_in g host boot ds)) (kept_farm f host boot d live) later
 

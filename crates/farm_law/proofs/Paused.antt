@@ -2,6 +2,7 @@
 use Rattle.std.proofs.Common.{◌≡◌, ℕ, Bool, true, false, cond, eqb, List, [], ◌∷◌, map, Option, Some, None, refl, ap, ◌∙◌, option_map}
 use Rattle.std.specs.List.{filter, find}
 use Rattle.farm_types.specs.declared.rows.JobRow.{JobRow}
+use Rattle.farm_types.specs.Booking.{is_pending}
 use Rattle.farm_types.specs.Farm.{Farm, for_some}
 use Rattle.farm_types.specs.Operators.{paused_row, with_paused}
 use Rattle.farm_types.proofs.Passes.{cond_each}
@@ -43,11 +44,12 @@ pub unread : {X : Type 0} (read : JobRow → X) → ((j : JobRow) (b : Bool) →
 unread read same job paused j = cond_each (λ (x : JobRow). read x ≡ read j) (eqb j.job job) (record j { paused = paused }) j (same j paused) refl
 
 jobs_paused : (job : ℕ) (paused : Bool) (jobs : List JobRow) → JobsStay jobs (map (paused_row job paused) jobs)
-jobs_paused job paused jobs n j at = (
+jobs_paused job paused jobs n j at pending = (
   paused_row job paused j,
   find-map (paused_row job paused) (λ (x : JobRow). eqb x.job n) (unread (λ x. eqb x.job n) (λ x b. refl) job paused) jobs ∙ ap (option_map (paused_row job paused)) at,
   unread (λ x. x.show) (λ x b. refl) job paused j,
   unread (λ x. x.facility) (λ x b. refl) job paused j,
+  unread (λ x. is_pending x.state) (λ x b. refl) job paused j ∙ pending,
 )
 
 pub pause_law : (f : Farm) (paused : Bool) (o : Option JobRow) → KeepsLaw f (with_paused f paused o)

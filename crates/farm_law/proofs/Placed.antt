@@ -1,6 +1,6 @@
 -- Placing a job's frames keeps the farm sound.
-use Rattle.std.proofs.Common.{◌≡◌, ℕ, suc, zero, ◌+◌, ◌≤◌, Bool, true, false, cond, List, [], ◌∷◌, ◌++◌, map, length, Option, Some, None, refl, subst, arith, ltb, eqb, ap, ◌∙◌}
-use Rattle.std.specs.Prelude.{ℤ, is_none}
+use Rattle.std.proofs.Common.{◌≡◌, ℕ, suc, zero, ◌+◌, ◌≤◌, Bool, true, false, cond, List, [], ◌∷◌, ◌++◌, map, length, Option, Some, None, refl, subst, arith, ltb, eqb, not, ◌&&◌, ap, ◌∙◌}
+use Rattle.std.specs.Prelude.{ℤ, bytes_eq, is_none}
 use Rattle.std.specs.Option.{option_or}
 use Rattle.std.specs.List.{slice_get, sum_by, list_all, find}
 use Rattle.std.proofs.lemmas.Option.{none-some, same_Some}
@@ -13,14 +13,15 @@ use Rattle.farm_types.specs.declared.slot_row.Frame.{Frame}
 use Rattle.farm_types.specs.declared.slot_row.SlotRow.{SlotRow}
 use Rattle.farm_types.specs.declared.states.FrameState.{FrameState}
 use Rattle.farm_types.specs.declared.states.FrameState.TheVariants.{Waiting, Setup, Running, Succeeded, Depend, Dead, Eaten}
-use Rattle.farm_types.specs.Booking.{is_waiting}
+use Rattle.farm_types.specs.Booking.{is_pending, is_waiting}
 use Rattle.farm_types.specs.Farm.{Farm}
-use Rattle.farm_types.specs.Jobs.{is_free, slot_with, fresh_slot, place_frames, frames_from, frames_of, job_row}
+use Rattle.farm_types.specs.Jobs.{is_free, slot_with, fresh_slot, place_frames, frames_from, frames_of, is_finished_named, job_row, without_finished}
 use Rattle.farm_types.specs.Run.{IsSound, HasItsHosts, HasItsAttempt, IsAttemptOf, OnHostOf}
 use Rattle.farm_types.specs.Step.{after_submit}
 use Rattle.farm_types.specs.Sums.{cores_on, memory_on}
 use Rattle.farm_types.proofs.Lists.{and_both}
 use Rattle.farm_types.specs.declared.limits.TheConstants.{LAST_VERSION}
+use Rattle.farm_law.proofs.Filtered.{found_kept}
 use Rattle.farm_law.proofs.KeepsLaw.{KeepsLaw, law_same}
 use Rattle.farm_law.proofs.RowsStay.{SlotStays, JobsStay, slot_same, hosts_same, allocs_same, frame_job}
 use Rattle.farm_types.proofs.Stays.{EachStays}
@@ -188,10 +189,16 @@ placed_stays [] xs i s at = absurd (none-some s at)
 placed_stays (y ∷ ys) [] i s at = (s, at, slot_same s)
 placed_stays (y ∷ ys) (x ∷ xs) i s at = first_stays y ys x xs (is_free y) refl (placed_stays ys xs) (placed_stays ys (x ∷ xs)) i s at
 
--- a job that is there is found before one that is added
-pub added_jobs_stay : (jobs more : List JobRow) → JobsStay jobs (jobs ++ more)
-added_jobs_stay jobs more n job at =
-    (job, find-append (λ (j : JobRow). eqb j.job n) jobs more ∙ ap (λ (o : Option JobRow). option_or o (find (λ (j : JobRow). eqb j.job n) more)) at, refl, refl)
+-- a pending job is none that goes
+pub stays_there : (name : List ℕ) (job : JobRow) → is_pending job.state ≡ true → not (is_finished_named name job) ≡ true
+stays_there name job pending = ap (λ (b : Bool). not (not b && bytes_eq job.name name)) pending
+
+-- a pending job that is there is found before one that is added
+pub added_jobs_stay : (jobs more : List JobRow) (name : List ℕ) → JobsStay jobs (without_finished name jobs ++ more)
+added_jobs_stay jobs more name n job at pending =
+    let test = λ (j : JobRow). eqb j.job n in
+    let found = found_kept test (λ j. not (is_finished_named name j)) jobs job at (stays_there name job pending) in
+    (job, find-append test (without_finished name jobs) more ∙ ap (λ (o : Option JobRow). option_or o (find test more)) found, refl, refl, pending)
 
 pub submit_law : (f : Farm) (spec : JobSpec) (o : Option ℕ) → KeepsLaw f (after_submit f spec o)
 submit_law f spec None = law_same f
@@ -204,6 +211,6 @@ submit_law f spec (Some show) =
             slots = placed_stays f.slots (frames_of f.next_job 0 spec.layers);
             hosts = hosts_same f.hosts;
             allocs = allocs_same f.allocs;
-            jobs = added_jobs_stay f.jobs (job_row f.next_job show spec ∷ []);
+            jobs = added_jobs_stay f.jobs (job_row f.next_job show spec ∷ []) spec.name;
           };
     }

@@ -1,5 +1,5 @@
--- What stays of a farm's rows along an entry: slots, hosts and allocations at their places, and jobs under their numbers.
-use Rattle.std.proofs.Common.{◌≡◌, ℕ, ◌<◌, ◌≤◌, List, Option, Some, None, refl, sym, subst, ◌∙◌, arith, option_map, eqb}
+-- What stays of a farm's rows along an entry: slots, hosts and allocations at their places, and pending jobs under their numbers.
+use Rattle.std.proofs.Common.{◌≡◌, ℕ, ◌<◌, ◌≤◌, true, List, Option, Some, None, refl, sym, subst, ◌∙◌, arith, option_map, eqb}
 use Rattle.std.specs.List.{find}
 use Rattle.farm_types.specs.declared.limits.TheConstants.{LAST_VERSION}
 use Rattle.farm_types.specs.declared.rows.AllocRow.{AllocRow}
@@ -7,6 +7,7 @@ use Rattle.farm_types.specs.declared.rows.HostRow.{HostRow}
 use Rattle.farm_types.specs.declared.rows.JobRow.{JobRow}
 use Rattle.farm_types.specs.declared.slot_row.Frame.{Frame}
 use Rattle.farm_types.specs.declared.slot_row.SlotRow.{SlotRow}
+use Rattle.farm_types.specs.Booking.{is_pending}
 use Rattle.farm_types.specs.Farm.{Farm}
 use Rattle.farm_types.proofs.Stays.{EachStays, EachStays-same, EachStays-then}
 
@@ -25,8 +26,11 @@ HostStays old new = new.alloc ≡ old.alloc
 abbrev pub AllocStays : AllocRow → AllocRow → Type 0
 AllocStays old new = new.facility ≡ old.facility
 
+-- a job that is pending stays so, of its show and facility
 abbrev pub JobsStay : List JobRow → List JobRow → Type 0
-JobsStay old new = (n : ℕ) (job : JobRow) → find (λ (j : JobRow). eqb j.job n) old ≡ Some job → (now : JobRow) × (find (λ (j : JobRow). eqb j.job n) new ≡ Some now) × (now.show ≡ job.show) × (now.facility ≡ job.facility)
+JobsStay old new =
+    (n : ℕ) (job : JobRow) → find (λ (j : JobRow). eqb j.job n) old ≡ Some job → is_pending job.state ≡ true
+    → (now : JobRow) × (find (λ (j : JobRow). eqb j.job n) new ≡ Some now) × (now.show ≡ job.show) × (now.facility ≡ job.facility) × (is_pending now.state ≡ true)
 
 pub record RowsStay (f g : Farm) : Type 0 where
   pub slots : EachStays SlotStays f.slots g.slots
@@ -49,11 +53,11 @@ pub allocs_same : (allocs : List AllocRow) → EachStays AllocStays allocs alloc
 allocs_same allocs = EachStays-same AllocStays (λ row. refl) allocs
 
 pub jobs_same : (jobs : List JobRow) → JobsStay jobs jobs
-jobs_same jobs n job at = (job, at, refl, refl)
+jobs_same jobs n job at pending = (job, at, refl, refl, pending)
 
 -- ---- one after the other
 
-slot_then : (x y z : SlotRow) → SlotStays x y → SlotStays y z → SlotStays x z
+pub slot_then : (x y z : SlotRow) → SlotStays x y → SlotStays y z → SlotStays x z
 slot_then x y z first second =
     record {
       version = omega (arith, first.version, second.version);
@@ -66,10 +70,10 @@ slot_then x y z first second =
     }
 
 jobs_then : (xs ys zs : List JobRow) → JobsStay xs ys → JobsStay ys zs → JobsStay xs zs
-jobs_then xs ys zs first second n job at =
-    let y = first n job at in
-    let z = second n y.0 y.1 in
-    (z.0, z.1, z.2 ∙ y.2, z.3 ∙ y.3)
+jobs_then xs ys zs first second n job at pending =
+    let y = first n job at pending in
+    let z = second n y.0 y.1 y.4 in
+    (z.0, z.1, z.2 ∙ y.2, z.3 ∙ y.3, z.4)
 
 pub rows_then : (f g k : Farm) → RowsStay f g → RowsStay g k → RowsStay f k
 rows_then f g k first second =

@@ -15,7 +15,8 @@ use Rattle.farm_types.specs.Run.{IsSound, HasItsAttempt, IsAttemptOf, is_same}
 use Rattle.farm_types.specs.Step.{is_live, ended_row, end_attempt}
 use Rattle.farm_types.proofs.Lists.{and_both, for_some_true, slice_get_below}
 use Rattle.farm_types.proofs.Changed.{changed_at_each, length-changed_at, places}
-use Rattle.farm_law.proofs.RowsStay.{RowsStay, SlotStays}
+use Rattle.farm_law.proofs.RowsStay.{SlotStays}
+use Rattle.farm_types.proofs.Stays.{EachStays}
 
 abbrev pub IsSpentAt : Attempt → SlotRow → Type 0
 IsSpentAt a s = (a.version < s.version) ⊎ ((a.version ≡ s.version) × (s.proc ≡ None))
@@ -91,10 +92,10 @@ stays_spent a old new stays (inl below) = inl (omega (arith, stays.version, belo
 stays_spent a old new stays (inr has) = rises_or_stays a old new stays has.0 has.1 (places old.version new.version)
 
 -- an attempt that is spent stays so while slots stay
-pub spent_stays : (f g : Farm) → RowsStay f g → (a : Attempt) → IsSpent f a → IsSpent g a
-spent_stays f g rows a spent =
+pub spent_stays : (f g : Farm) → EachStays SlotStays f.slots g.slots → (a : Attempt) → IsSpent f a → IsSpent g a
+spent_stays f g stays a spent =
     let old = slice_get_below f.slots a.slot spent.0 in
-    let new = rows.slots a.slot old.0 old.1 in (
+    let new = stays a.slot old.0 old.1 in (
       slice_get_within g.slots a.slot new.0 new.1,
       λ s at. subst (IsSpentAt a) (same_Some new.0 s (sym new.1 ∙ at)) (stays_spent a old.0 new.0 new.2 (spent.1 old.0 old.1)),
     )

@@ -1,10 +1,11 @@
 -- Which slots suit a host: each candidate of a plan does, and it stays so while the slot's version stays.
 use Rattle.std.proofs.Common.{◌≡◌, ℕ, refl, suc, true, false, cond, eqb, Bool, List, [], Option, Some, None, sym, ap, subst, arith, ◌+◌, ◌<◌, ◌∷◌, ◌∙◌}
 use Rattle.farm_law.proofs.CanBook.{CanBook, Rows, can_book}
-use Rattle.farm_law.proofs.RowsStay.{RowsStay, frame_job}
+use Rattle.farm_law.proofs.RowsStay.{frame_job}
+use Rattle.farm_law.proofs.RunsStay.{RowsHold}
 use Rattle.farm_types.proofs.Lists.{and_both, for_some_true, found_is}
 use Rattle.farm_types.proofs.Passes.{cond_each, for_some-there, list_all-take, option_map-from}
-use Rattle.farm_types.specs.Booking.{suits, version_at, version_of, may_record, may_book, tags_match, in_facility}
+use Rattle.farm_types.specs.Booking.{suits, version_at, version_of, is_pending, may_record, may_book, tags_match, in_facility}
 use Rattle.farm_types.specs.Dispatch.{candidate_suits, plan_for, order_for, ranks_from, sorted_ranks, insert_rank, rank_cmp, rank_of, rank_in, rank_at, with_found}
 use Rattle.farm_types.specs.Farm.{Farm, job_at, sub_of}
 use Rattle.farm_types.specs.declared.dispatch.Rank.{Rank}
@@ -37,6 +38,7 @@ record SuitParts (f : Farm) (slot version host sub : ℕ) : Type 0 where
   version_is : row.version ≡ version
   frame_is : row.frame ≡ Some frame
   job_is : job_at f frame.job ≡ Some job
+  pending : is_pending job.state ≡ true
   on_is : slice_get f.hosts host ≡ Some on
   facility : in_facility f on.alloc job.facility ≡ true
   sub_is : sub_of job.show on.alloc ≡ sub
@@ -47,7 +49,8 @@ parts_of_suits f slot version host sub suited =
     let of_slot = and_both (eqb row.0.version version) _ row.2 in
     let frame = for_some_true row.0.frame _ of_slot.1 in
     let job = for_some_true (job_at f frame.0.job) _ frame.2 in
-    let on = for_some_true (slice_get f.hosts host) _ job.2 in
+    let of_job = and_both (is_pending job.0.state) _ job.2 in
+    let on = for_some_true (slice_get f.hosts host) _ of_job.1 in
     let of_host = and_both (in_facility f on.0.alloc job.0.facility) (eqb (sub_of job.0.show on.0.alloc) sub) on.2 in
     record {
       row = row.0;
@@ -58,6 +61,7 @@ parts_of_suits f slot version host sub suited =
       version_is = eqb-true row.0.version version of_slot.0;
       frame_is = frame.1;
       job_is = job.1;
+      pending = of_job.0;
       on_is = on.1;
       facility = of_host.0;
       sub_is = eqb-true (sub_of job.0.show on.0.alloc) sub of_host.1;
@@ -67,8 +71,8 @@ suits_from_parts : (f : Farm) (slot version host sub : ℕ) → SuitParts f slot
 suits_from_parts f slot version host sub p =
     for_some-there (slice_get f.slots slot) _ p.row p.row_is
     (both_true (eq-eqb p.row.version version p.version_is) (for_some-there p.row.frame _ p.frame p.frame_is
-    (for_some-there (job_at f p.frame.job) _ p.job p.job_is (for_some-there (slice_get f.hosts host) _ p.on p.on_is
-    (both_true p.facility (eq-eqb (sub_of p.job.show p.on.alloc) sub p.sub_is))))))
+    (for_some-there (job_at f p.frame.job) _ p.job p.job_is (both_true p.pending (for_some-there (slice_get f.hosts host) _ p.on p.on_is
+    (both_true p.facility (eq-eqb (sub_of p.job.show p.on.alloc) sub p.sub_is)))))))
 
 -- ---- candidates
 
@@ -85,6 +89,7 @@ can_suit f slot host r can =
       version_is = refl;
       frame_is = can.frame_is;
       job_is = can.job_is;
+      pending = can.pending;
       on_is = can.host_is;
       facility = can.facility;
       sub_is = sym (eqb-true _ _ (found_is (λ (s : SubRow). eqb s.sub (sub_of r.job.show r.host.alloc)) f.subs r.sub can.sub_is));
@@ -147,19 +152,20 @@ plan_suits f host =
 -- ---- along a run
 
 -- an allocation of a facility stays one of it
-in_facility_stays : (f g : Farm) → RowsStay f g → (alloc : ℕ) (facility : List ℕ) → in_facility f alloc facility ≡ true → in_facility g alloc facility ≡ true
+in_facility_stays : (f g : Farm) → RowsHold f g → (alloc : ℕ) (facility : List ℕ) → in_facility f alloc facility ≡ true → in_facility g alloc facility ≡ true
 in_facility_stays f g rows alloc facility inside =
     let old = for_some_true (slice_get f.allocs alloc) _ inside in
     let new = rows.allocs alloc old.0 old.1 in
     for_some-there (slice_get g.allocs alloc) _ new.0 new.1 (subst (λ (name : List ℕ). bytes_eq name facility ≡ true) (sym new.2) old.2)
 
-parts_stay : (f g : Farm) → RowsStay f g → (slot version host sub : ℕ) → SuitParts f slot version host sub → version_at g slot ≡ version → version < LAST_VERSION → SuitParts g slot version host sub
+parts_stay : (f g : Farm) → RowsHold f g → (slot version host sub : ℕ) → SuitParts f slot version host sub → version_at g slot ≡ version → version < LAST_VERSION → SuitParts g slot version host sub
 parts_stay f g rows slot version host sub p same below =
     let row = rows.slots slot p.row p.row_is in
     let on = rows.hosts host p.on p.on_is in
-    let job = rows.jobs p.frame.job p.job p.job_is in
     let version_is : row.0.version ≡ version = sym (ap version_of row.1) ∙ same in
-    let stays = row.2.job (p.version_is ∙ sym version_is) (subst (λ (v : ℕ). v < LAST_VERSION) (sym p.version_is) below) p.frame.job (ap frame_job p.frame_is) in
+    let under = subst (λ (v : ℕ). v < LAST_VERSION) (sym p.version_is) below in
+    let job = rows.jobs slot p.row row.0 p.row_is row.1 (p.version_is ∙ sym version_is) under p.frame.job p.job (ap frame_job p.frame_is) p.job_is p.pending in
+    let stays = row.2.job (p.version_is ∙ sym version_is) under p.frame.job (ap frame_job p.frame_is) in
     let frame = option_map-from (λ (x : Frame). x.job) row.0.frame p.frame.job stays in
     record {
       row = row.0;
@@ -170,13 +176,14 @@ parts_stay f g rows slot version host sub p same below =
       version_is = version_is;
       frame_is = frame.1;
       job_is = subst (λ (n : ℕ). job_at g n ≡ Some job.0) (sym frame.2) job.1;
+      pending = job.4;
       on_is = on.1;
       facility = in_facility_stays f g rows on.0.alloc job.0.facility (subst (λ (name : List ℕ). in_facility f on.0.alloc name ≡ true) (sym job.3) (subst (λ (n : ℕ). in_facility f n p.job.facility ≡ true) (sym on.2) p.facility));
       sub_is = ap (λ (n : ℕ). sub_of n on.0.alloc) job.2 ∙ (ap (λ (n : ℕ). sub_of p.job.show n) on.2 ∙ p.sub_is);
     }
 
 -- what suits stays so while rows stay and the slot keeps its version, below the last one
-pub rows_suit : (f g : Farm) → RowsStay f g → (slot version host sub : ℕ) → suits f slot version host sub ≡ true → version_at g slot ≡ version → version < LAST_VERSION → suits g slot version host sub ≡ true
+pub rows_suit : (f g : Farm) → RowsHold f g → (slot version host sub : ℕ) → suits f slot version host sub ≡ true → version_at g slot ≡ version → version < LAST_VERSION → suits g slot version host sub ≡ true
 rows_suit f g rows slot version host sub suited same below =
     suits_from_parts g slot version host sub (parts_stay f g rows slot version host sub (parts_of_suits f slot version host sub suited) same below)
 

@@ -15,7 +15,7 @@ use Rattle.farm_types.specs.declared.entry.Act.{Act}
 use Rattle.farm_types.specs.declared.entry.Act.TheVariants as act
 use Rattle.farm_lines.specs.declared.launch.Launch.{Launch}
 use Rattle.farm_types.specs.declared.refusal.Refusal.{Refusal}
-use Rattle.farm_types.specs.declared.refusal.Refusal.TheVariants.{Unknown, Exists, WrongBoot, Stale, FarmFull, Satisfied, WrongState, VersionSpent, SelfDepend, Started, Full}
+use Rattle.farm_types.specs.declared.refusal.Refusal.TheVariants.{Unknown, Finished, Exists, WrongBoot, Stale, FarmFull, Satisfied, WrongState, VersionSpent, SelfDepend, Started, Full}
 use Rattle.farm_types.specs.declared.refusal.Counted.{Counted}
 use Rattle.farm_types.specs.declared.refusal.Counted.TheVariants as counted
 use Rattle.farm_types.specs.declared.dispatch.Cut.{Cut}
@@ -110,6 +110,8 @@ refusal_data (Unknown name) =
     object (member (codes "code") (whole 3) (member (codes "name") (string name) (member (codes "ok") (boolean false) (member (codes "why") (string (codes "unknown")) no_members))))
 refusal_data (Exists name) =
     object (member (codes "code") (whole 4) (member (codes "name") (string name) (member (codes "ok") (boolean false) (member (codes "why") (string (codes "exists")) no_members))))
+refusal_data (Finished name) =
+    object (member (codes "code") (whole 10) (member (codes "name") (string name) (member (codes "ok") (boolean false) (member (codes "why") (string (codes "finished")) no_members))))
 refusal_data (WrongBoot boot) =
     object (member (codes "boot") (whole boot) (member (codes "code") (whole 5) (member (codes "ok") (boolean false) (member (codes "why") (string (codes "wrong_boot")) no_members))))
 refusal_data (Stale last) =

@@ -87,12 +87,12 @@ tags_match f slot host =
 abbrev pub may_book : Farm → ℕ → ℕ → Bool
 may_book f slot host = may_record f slot host && tags_match f slot host
 
--- The slot has a frame of that version, its job's facility is that of the host's allocation, and the subscription is of the job's
--- show and that allocation.
+-- The slot has a frame of that version and of a pending job, the job's facility is that of the host's allocation, and the subscription is of the
+-- job's show and that allocation.
 abbrev pub suits : Farm → ℕ → ℕ → ℕ → ℕ → Bool
 suits f slot version host sub =
     for_some (slice_get f.slots slot) (λ s. s.version == version && for_some s.frame (λ frame. for_some (job_at f frame.job) (λ job.
-    for_some (slice_get f.hosts host) (λ row. in_facility f row.alloc job.facility && sub_of job.show row.alloc == sub))))
+    is_pending job.state && for_some (slice_get f.hosts host) (λ row. in_facility f row.alloc job.facility && sub_of job.show row.alloc == sub))))
 
 abbrev pub version_of : Option SlotRow → ℕ
 version_of None = 0

@@ -9,7 +9,7 @@ use Rattle.farm_types.specs.declared.depend.Group.{Group}
 use Rattle.farm_types.specs.declared.depend.Place.{Place}
 use Rattle.farm_types.specs.declared.refusal.Counted.TheVariants as counted
 use Rattle.farm_types.specs.declared.refusal.Refusal.{Refusal}
-use Rattle.farm_types.specs.declared.refusal.Refusal.TheVariants.{Unknown, Satisfied, SelfDepend, Started, Full}
+use Rattle.farm_types.specs.declared.refusal.Refusal.TheVariants.{Finished, Unknown, Satisfied, SelfDepend, Started, Full}
 use Rattle.farm_types.specs.declared.rows.JobRow.{JobRow}
 use Rattle.farm_types.specs.declared.rows.LayerRow.{LayerRow}
 use Rattle.farm_types.specs.declared.slot_row.Frame.{Frame}
@@ -18,7 +18,7 @@ use Rattle.farm_types.specs.declared.states.FrameState.{FrameState}
 use Rattle.farm_types.specs.declared.states.FrameState.TheVariants as frame_state
 use Rattle.farm_types.specs.Depends.{groups_left, groups_of, is_met}
 use Rattle.farm_types.specs.Farm.{Farm, for_some, layer_at, layers_of}
-use Rattle.farm_types.specs.Jobs.{is_pending_named}
+use Rattle.farm_types.specs.Jobs.{is_finished_named, is_pending_named}
 use Rattle.farm_types.specs.Names.{frame_name}
 use Rattle.farm_types.specs.Ranges.{range_numbers}
 use Rattle.farm_types.specs.Settle.{kept_version, raised, settle, with_blocked}
@@ -51,8 +51,12 @@ abbrev pub part_refusal : Farm → ℕ → Option (List ℕ) → Option ℤ → 
 part_refusal f job None frame = None
 part_refusal f job (Some name) frame = layer_refusal name frame (layer_of_name f job name)
 
+-- no pending job has the name: a finished one has it, or none
+abbrev pub job_missing : Farm → List ℕ → Refusal
+job_missing f name = if list_any (is_finished_named name) f.jobs then Finished name else Unknown name
+
 abbrev pub end_refusal : Farm → Place → Option JobRow → Option Refusal
-end_refusal f p None = Some (Unknown p.job)
+end_refusal f p None = Some (job_missing f p.job)
 end_refusal f p (Some j) = part_refusal f j.job p.layer p.frame
 
 -- the job of an end is there, then its layer, then its frame

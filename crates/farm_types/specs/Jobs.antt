@@ -1,5 +1,5 @@
 -- The farm's jobs, their layers and the frame slots, and what a submitted job makes of them.
-use Rattle.std.specs.Prelude.{ℕ, ℤ, ◌+◌, ◌-◌, ◌&&◌, Bool, List, [], ◌∷◌, ◌++◌, length, map, sum_by, is_none, Option, None, Some, nat_lt, bytes_eq, if◌then◌else◌}
+use Rattle.std.specs.Prelude.{ℕ, ℤ, ◌+◌, ◌-◌, ◌&&◌, Bool, not, List, [], ◌∷◌, ◌++◌, length, map, filter, sum_by, is_none, Option, None, Some, nat_lt, bytes_eq, if◌then◌else◌}
 use Rattle.std.specs.List.{list_any}
 use Rattle.farm_types.specs.declared.job.JobSpec.{JobSpec}
 use Rattle.farm_types.specs.declared.job.LayerSpec.{LayerSpec}
@@ -15,12 +15,13 @@ use Rattle.farm_types.specs.declared.states.JobState.TheVariants as job_state
 use Rattle.farm_types.specs.Booking.{is_pending}
 use Rattle.farm_types.specs.declared.limits.TheConstants.{LAST_JOB, LAST_VERSION, SLOT_LIMIT}
 
--- jobs and layers in the order of their numbers, slots up to the last that was ever used, and the next job's number
+-- jobs and layers in the order of their numbers, slots up to the last that was ever used, and the next numbers of a job and of a finish
 pub record JobLists : Type 0 where
   pub jobs : List JobRow
   pub layers : List LayerRow
   pub slots : List SlotRow
   pub next_job : ℕ
+  pub next_finish : ℕ
 
 -- how many frames the layers have together
 abbrev pub frames_in : List LayerSpec → ℕ
@@ -101,14 +102,22 @@ place_frames [] frames = map fresh_slot frames
 place_frames (s ∷ ss) [] = s ∷ ss
 place_frames (s ∷ ss) (x ∷ xs) = if is_free s then slot_with x s ∷ place_frames ss xs else s ∷ place_frames ss (x ∷ xs)
 
--- the lists with the job of a spec, of the show of that number
+abbrev pub is_finished_named : List ℕ → JobRow → Bool
+is_finished_named name j = not (is_pending j.state) && bytes_eq j.name name
+
+-- the jobs without a finished one of that name
+abbrev pub without_finished : List ℕ → List JobRow → List JobRow
+without_finished name jobs = filter (λ j. not (is_finished_named name j)) jobs
+
+-- the lists with the job of a spec, of the show of that number; a finished job of its name goes
 abbrev pub with_job : JobLists → ℕ → JobSpec → JobLists
 with_job b show spec =
     record {
-      jobs = b.jobs ++ job_row b.next_job show spec ∷ [];
+      jobs = without_finished spec.name b.jobs ++ job_row b.next_job show spec ∷ [];
       layers = b.layers ++ layer_rows b.next_job 0 spec.layers;
       slots = place_frames b.slots (frames_of b.next_job 0 spec.layers);
       next_job = b.next_job + 1;
+      next_finish = b.next_finish;
     }
 
 -- ---- refusals

@@ -1,5 +1,5 @@
 -- What every farm of the program keeps: each legal run from the empty farm, or from a farm that keeps it, does.
-use Rattle.std.specs.Prelude.{ℕ, ℤ, ◌≡◌, ◌≤◌, ◌<◌, ◌==◌, ◌&&◌, ◌||◌, ◌+◌, ◌*◌, ◌^◌, ◌/◌, ◌%◌, Bool, true, false, not, List, [], ◌∷◌, length, map, filter, sum_by, find, is_some, slice_get, nat_le, nat_lt, bytes_eq, Option, None, Some}
+use Rattle.std.specs.Prelude.{ℕ, ℤ, ◌≡◌, ◌≤◌, ◌<◌, ◌==◌, ◌&&◌, ◌||◌, ◌+◌, ◌*◌, ◌^◌, ◌/◌, ◌%◌, Bool, true, false, not, List, [], ◌∷◌, length, map, filter, sum_by, find, is_some, slice_get, nat_le, nat_lt, bytes_eq, nat_eq, Option, None, Some, if◌then◌else◌}
 use Rattle.std.specs.List.{IsDistinct, list_all}
 use Rattle.std.specs.Ordering.{int_eq}
 use Rattle.farm_types.specs.declared.attempt.ProcRow.{ProcRow}
@@ -19,6 +19,7 @@ use Rattle.farm_types.specs.Booking.{is_pending, is_up, is_waiting}
 use Rattle.farm_types.specs.DependActs.{has_number, is_running}
 use Rattle.farm_types.specs.Depends.{groups_left, is_open}
 use Rattle.farm_types.specs.Farm.{Farm, for_some, alloc_name, sub_of, is_placed, slot_from, layers_of}
+use Rattle.farm_types.specs.Finish.{finishes, is_finished}
 use Rattle.farm_types.specs.Forms.{is_between, is_command_text, is_name_or_empty, is_name_text, is_tag_text}
 use Rattle.farm_types.specs.Jobs.{JobLists}
 use Rattle.farm_types.specs.Ranges.{is_range_text, range_numbers}
@@ -26,7 +27,7 @@ use Rattle.farm_types.specs.Rising.{IsRising, depend_key, job_key, layer_key, su
 use Rattle.farm_types.specs.Run.{IsSound}
 use Rattle.farm_types.specs.Settle.{opens, with_met}
 use Rattle.farm_types.specs.Step.{lists_of}
-use Rattle.farm_types.specs.declared.limits.TheConstants.{LAST_BOOT, LAST_DEPEND, LAST_JOB, LAST_VERSION, LEAST_CORES, LEAST_MEMORY, MOST_ALLOCS, MOST_BURST, MOST_COMMAND, MOST_CORES, MOST_DEPENDS, MOST_FRAMES, MOST_GROUPS, MOST_HOSTS, MOST_LAYERS, MOST_MEMORY, MOST_PRIORITY, MOST_RETRIES, MOST_SHOWS, MOST_TAGS, SLOT_LIMIT, SUB_NUMBERS}
+use Rattle.farm_types.specs.declared.limits.TheConstants.{LAST_BOOT, LAST_DEPEND, LAST_JOB, LAST_VERSION, LEAST_CORES, LEAST_MEMORY, MOST_ALLOCS, MOST_BURST, MOST_COMMAND, MOST_CORES, MOST_DEPENDS, MOST_FINISHED, MOST_FRAMES, MOST_GROUPS, MOST_HOSTS, MOST_LAYERS, MOST_MEMORY, MOST_PRIORITY, MOST_RETRIES, MOST_SHOWS, MOST_TAGS, SLOT_LIMIT, SUB_NUMBERS}
 
 -- no name stands twice
 abbrev pub AllDiffer : {X : Type 0} → (X → List ℕ) → List X → Type 0
@@ -176,13 +177,24 @@ EndsUsed [] = Unit {0}
 EndsUsed (s ∷ []) = is_used s ≡ true
 EndsUsed (s ∷ (t ∷ ts)) = EndsUsed (t ∷ ts)
 
--- the jobs of so many shows with their layers and frames; `finish` is the next finishing number
-pub record KeepsJobs (b : JobLists) (shows finish : ℕ) : Type 0 where
+-- a pending job has no finishing number, and a finished one has one below the next
+abbrev pub has_its_finish : ℕ → JobRow → Bool
+has_its_finish next j = if is_pending j.state then j.finish == 0 else nat_lt 0 j.finish && nat_lt j.finish next
+
+abbrev pub finish_of : JobRow → ℕ
+finish_of j = j.finish
+
+-- the jobs of so many shows with their layers and frames
+pub record KeepsJobs (b : JobLists) (shows : ℕ) : Type 0 where
   pub next_within : b.next_job ≤ LAST_JOB + 1
-  pub finish_within : finish + length (filter is_pending_job b.jobs) ≤ b.next_job
+  pub finish_from : 1 ≤ b.next_finish
+  pub finish_within : b.next_finish + length (filter is_pending_job b.jobs) ≤ b.next_job
+  pub finished_count : length (filter is_finished b.jobs) ≤ MOST_FINISHED
+  pub finishes_within : list_all (has_its_finish b.next_finish) b.jobs ≡ true
+  pub finishes_differ : IsDistinct nat_eq (map finish_of (filter is_finished b.jobs))
   pub jobs_rise : IsRising job_key 1 b.jobs b.next_job
   pub jobs_formed : list_all (is_formed_job shows) b.jobs ≡ true
-  pub jobs_differ : AllDiffer job_label (filter is_pending_job b.jobs)
+  pub jobs_differ : AllDiffer job_label b.jobs
   pub jobs_layered : (n : ℕ) (j : JobRow) → slice_get b.jobs n ≡ Some j → is_pending_job j ≡ true → HasItsLayers b.layers j
   pub layers_rise : IsRising layer_key 0 b.layers (MOST_LAYERS * b.next_job)
   pub layers_formed : list_all is_formed_layer b.layers ≡ true
@@ -231,7 +243,7 @@ pub record KeepsRows (f : Farm) : Type 0 where
   pub allocs : KeepsAllocs f.allocs
   pub subs : KeepsSubs f.subs (length f.shows) (length f.allocs)
   pub hosts : KeepsHosts f.hosts (length f.allocs) f.moment
-  pub jobs : KeepsJobs (lists_of f) (length f.shows) f.next_finish
+  pub jobs : KeepsJobs (lists_of f) (length f.shows)
   pub attempts : KeepsAttempts f
   pub sound : IsSound f
 
@@ -270,8 +282,15 @@ pub record KeepsDepends (f : Farm) : Type 0 where
   pub blocked : (slot : ℕ) (s : SlotRow) → slice_get f.slots slot ≡ Some s → opens f slot s ≡ false
   pub free_to_run : (slot : ℕ) (s : SlotRow) → slice_get f.slots slot ≡ Some s → runs_unmet f slot s ≡ false
 
+-- ---- jobs that go on
+
+-- each pending job has a frame that isn't done
+abbrev pub KeepsWork : Farm → Type 0
+KeepsWork f = list_all (λ (j : JobRow). not (finishes f.slots j)) f.jobs ≡ true
+
 -- ---- the farm
 
 pub record IsKeptFarm (f : Farm) : Type 0 where
   pub rows : KeepsRows f
   pub depends : KeepsDepends f
+  pub work : KeepsWork f

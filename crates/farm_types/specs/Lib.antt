@@ -1,10 +1,11 @@
-pub mod DependActs
-pub mod EntryAnswers
 pub mod Booking
 pub mod Demo
+pub mod DependActs
 pub mod Depends
 pub mod Dispatch
+pub mod EntryAnswers
 pub mod Farm
+pub mod Finish
 pub mod Formed
 pub mod Forms
 pub mod Groups
@@ -18,8 +19,8 @@ pub mod Operators
 pub mod Ranges
 pub mod Rising
 pub mod Run
-pub mod SpecLimits
 pub mod Settle
+pub mod SpecLimits
 pub mod Step
 pub mod Subs
 pub mod Sums

@@ -3,14 +3,14 @@ use Rattle.std.specs.Prelude.{ℕ, ◌==◌, ◌&&◌, Bool, true, false, not, L
 use Rattle.farm_types.specs.declared.depend.Place.{Place}
 use Rattle.farm_types.specs.declared.entry.FramePlace.{FramePlace}
 use Rattle.farm_types.specs.declared.refusal.Refusal.{Refusal}
-use Rattle.farm_types.specs.declared.refusal.Refusal.TheVariants.{Unknown, VersionSpent, WrongState}
+use Rattle.farm_types.specs.declared.refusal.Refusal.TheVariants.{VersionSpent, WrongState}
 use Rattle.farm_types.specs.declared.rows.JobRow.{JobRow}
 use Rattle.farm_types.specs.declared.slot_row.Frame.{Frame}
 use Rattle.farm_types.specs.declared.slot_row.SlotRow.{SlotRow}
 use Rattle.farm_types.specs.declared.states.FrameState.{FrameState}
 use Rattle.farm_types.specs.declared.states.FrameState.TheVariants as frame_state
 use Rattle.farm_types.specs.Booking.{is_waiting}
-use Rattle.farm_types.specs.DependActs.{or_else, pending_named, place_refusal}
+use Rattle.farm_types.specs.DependActs.{job_missing, or_else, pending_named, place_refusal}
 use Rattle.farm_types.specs.Depends.{is_done_state, shape_of}
 use Rattle.farm_types.specs.Farm.{Farm, changed_at, for_some}
 use Rattle.farm_types.specs.Groups.{part_of, slots_at}
@@ -77,9 +77,9 @@ abbrev pub retry_refusal : Farm → FramePlace → Option Refusal
 retry_refusal f p = or_else (frame_act_refusal may_retry f p) (version_refusal (frame_name p.frame p.layer) (slot_row_named f p))
 
 -- a pending job of that name is there
-abbrev pub job_there_refusal : List ℕ → Option JobRow → Option Refusal
-job_there_refusal name None = Some (Unknown name)
-job_there_refusal name (Some j) = None
+abbrev pub job_there_refusal : Farm → List ℕ → Option JobRow → Option Refusal
+job_there_refusal f name None = Some (job_missing f name)
+job_there_refusal f name (Some j) = None
 
 -- ---- what becomes of it
 

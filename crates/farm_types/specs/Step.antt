@@ -1,5 +1,5 @@
 -- What an entry does to the farm, and when the farm refuses it.
-use Rattle.std.specs.Prelude.{ℕ, ◌==◌, ◌&&◌, ◌+◌, ◌≡◌, List, [], ◌∷◌, ◌++◌, map, max, length, Bool, true, false, Option, None, Some, option_map, is_some, slice_get, nat_lt, if◌then◌else◌}
+use Rattle.std.specs.Prelude.{ℕ, ◌==◌, ◌&&◌, ◌+◌, ◌≡◌, List, [], ◌∷◌, ◌++◌, map, filter, max, length, Bool, true, false, Option, None, Some, option_map, is_some, slice_get, nat_lt, if◌then◌else◌}
 use Rattle.std.specs.Prelude.{option_and_then}
 use Rattle.farm_types.specs.declared.attempt.DoneItem.{DoneItem}
 use Rattle.farm_types.specs.declared.attempt.Exit.{Exit}
@@ -30,6 +30,7 @@ use Rattle.farm_types.specs.Farm.{Farm, for_some, changed_at, job_at, layer_at, 
 use Rattle.farm_types.specs.Verdict.{verdict_of}
 use Rattle.farm_types.specs.Booking.{may_record}
 use Rattle.farm_types.specs.DependActs.{after_depend, depend_at, depend_refusal, depends_refusal, drop_refusal, dropped, or_else, pending_named, with_depends}
+use Rattle.farm_types.specs.Finish.{finishes, marks_of, with_finished, without_waiter}
 use Rattle.farm_types.specs.Operators.{frame_act_refusal, job_there_refusal, may_eat, may_kill, retried_row, retry_refusal, stopped_row, with_frame, with_killed, with_paused}
 use Rattle.farm_types.specs.Settle.{kept_version, settle, with_blocked}
 use Rattle.farm_types.specs.Hosts.{heard_row, reopened_row, locked_row, is_unheard, silenced, is_same_life, booted}
@@ -96,10 +97,10 @@ host_refusal f act (Some host) = row_refusal act.host act.boot act.seq (slice_ge
 
 -- the farm's jobs, layers and slots, and the farm with others
 abbrev pub lists_of : Farm → JobLists
-lists_of f = record { jobs = f.jobs; layers = f.layers; slots = f.slots; next_job = f.next_job }
+lists_of f = record { jobs = f.jobs; layers = f.layers; slots = f.slots; next_job = f.next_job; next_finish = f.next_finish }
 
 abbrev pub with_lists : Farm → JobLists → Farm
-with_lists f b = record f { jobs = b.jobs; layers = b.layers; slots = b.slots; next_job = b.next_job }
+with_lists f b = record f { jobs = b.jobs; layers = b.layers; slots = b.slots; next_job = b.next_job; next_finish = b.next_finish }
 
 -- the job's show is there, then its facility; then its names are new, and there is room for its frames
 abbrev pub submit_refusal : Farm → JobSpec → Option ℕ → Option Refusal
@@ -117,8 +118,8 @@ act_refusal f (act.Heard heard) = host_refusal f heard (host_named f heard.host)
 act_refusal f (act.Submit spec) = submit_refusal f spec (show_named f spec.show)
 act_refusal f (act.AddDepend spec) = None
 act_refusal f (act.DropDepend depend) = None
-act_refusal f (act.Pause job paused) = job_there_refusal job (pending_named f job)
-act_refusal f (act.KillJob job) = job_there_refusal job (pending_named f job)
+act_refusal f (act.Pause job paused) = job_there_refusal f job (pending_named f job)
+act_refusal f (act.KillJob job) = job_there_refusal f job (pending_named f job)
 act_refusal f (act.KillFrame p) = frame_act_refusal may_kill f p
 act_refusal f (act.EatFrame p) = frame_act_refusal may_eat f p
 act_refusal f (act.RetryFrame p) = retry_refusal f p
@@ -303,6 +304,34 @@ followed (act.EatFrame p) f = settle f
 followed (act.RetryFrame p) f = with_blocked kept_version f
 followed other f = f
 
+-- ---- jobs that finish
+
+-- the farm with that job finished; the depends in which it waits go, with their marks
+abbrev pub finish_one : ℕ → Farm → Farm
+finish_one job f =
+    record (with_lists f (with_finished job (lists_of f))) {
+      depends = without_waiter job f.depends;
+      met = marks_of (without_waiter job f.depends) f.met;
+    }
+
+abbrev pub finish_each : List ℕ → Farm → Farm
+finish_each [] f = f
+finish_each (job ∷ jobs) f = finish_each jobs (finish_one job f)
+
+-- the numbers of the pending jobs of which no frame is left, in order
+abbrev pub finishing : Farm → List ℕ
+finishing f = map (λ (j : JobRow). j.job) (filter (finishes f.slots) f.jobs)
+
+unfoldable pub finish_all : Farm → Farm
+finish_all f = finish_each (finishing f) f
+
+-- Jobs whose frames are all done by now finish. After every other act none does: a pending job of a legal run's farm has a frame that isn't done (`KeepsWork`).
+abbrev pub closed : Act → Farm → Farm
+closed (act.Heard heard) f = finish_all f
+closed (act.KillJob job) f = finish_all f
+closed (act.EatFrame p) f = finish_all f
+closed other f = f
+
 -- the farm after an entry that it doesn't refuse
 abbrev pub after : Farm → Entry → Farm
-after f e = followed e.act (acted f e)
+after f e = closed e.act (followed e.act (acted f e))

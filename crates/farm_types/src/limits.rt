@@ -33,6 +33,9 @@ pub const LAST_BOOT: u32 = 4_294_967_295;
 /// The greatest number that is given to a job.
 pub const LAST_JOB: u32 = 4_294_967_295;
 
+/// How many finished jobs are kept at most.
+pub const MOST_FINISHED: u32 = 1_000;
+
 /// How many depends are kept at most.
 pub const MOST_DEPENDS: u32 = 16_384;
 

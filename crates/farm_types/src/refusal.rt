@@ -9,6 +9,8 @@ use std::fmt;
 pub enum Refusal {
     /// Nothing of that name is there.
     Unknown { name: Text },
+    /// The job of that name is finished.
+    Finished { name: Text },
     /// The name to be made is there.
     Exists { name: Text },
     /// The host's boot number is another.
@@ -35,6 +37,7 @@ impl fmt::Display for Refusal {
     fn fmt<W: fmt::Write>(&self, f: &mut fmt::Formatter<W>) -> fmt::Result {
         match self {
             Refusal::Unknown { name } => write!(f, "`{}` is unknown", name.as_str()),
+            Refusal::Finished { name } => write!(f, "`{}` is finished", name.as_str()),
             Refusal::Exists { name } => write!(f, "`{}` exists already", name.as_str()),
             Refusal::WrongBoot { boot } => write!(f, "the host is at boot {boot}"),
             Refusal::Stale { last } => write!(f, "the host's last report is {last}"),

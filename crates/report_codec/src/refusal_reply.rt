@@ -1,7 +1,7 @@
 //! The farm's refusals.
 
 ghost use Rattle.std.specs.Prelude.{◌≡◌, OnOk};
-ghost use Rattle.farm_types.specs.declared.refusal.Refusal.TheVariants.{Unknown, Exists, WrongBoot, Stale, FarmFull, Satisfied, WrongState, VersionSpent, SelfDepend, Started, Full};
+ghost use Rattle.farm_types.specs.declared.refusal.Refusal.TheVariants.{Unknown, Finished, Exists, WrongBoot, Stale, FarmFull, Satisfied, WrongState, VersionSpent, SelfDepend, Started, Full};
 ghost use Rattle.farm_lines.specs.Reply.{counted_word, refusal_data, state_word};
 ghost use Rattle.report_codec.specs.Tokens.{added, tokens_of};
 
@@ -15,6 +15,7 @@ pub fn write_refusal(out: &mut ReplyWriter, why: &Refusal) -> Result<(), AllocEr
 {
     match why {
         Refusal::Unknown { name } => write_unknown(out, name.as_str()),
+        Refusal::Finished { name } => write_finished(out, name.as_str()),
         Refusal::Exists { name } => write_exists(out, name.as_str()),
         Refusal::WrongBoot { boot } => write_wrong_boot(out, *boot),
         Refusal::Stale { last } => write_stale(out, *last),
@@ -37,6 +38,18 @@ fn write_unknown(out: &mut ReplyWriter, name: &str) -> Result<(), AllocError>
     out.text("name", name)?;
     out.truth("ok", false)?;
     out.text("why", "unknown")?;
+    out.end_object()
+}
+
+#[tactic(auto, unfolding(farm_lines::specs::Reply::refusal_data))]
+fn write_finished(out: &mut ReplyWriter, name: &str) -> Result<(), AllocError>
+    ensures { OnOk result (out.new ≡ added out.old (tokens_of (refusal_data (Finished name.now)))) }
+{
+    out.begin_object()?;
+    out.whole("code", 10)?;
+    out.text("name", name)?;
+    out.truth("ok", false)?;
+    out.text("why", "finished")?;
     out.end_object()
 }
 
