@@ -11,6 +11,7 @@ use Rattle.farm_types.specs.Depends.{are_done}
 use Rattle.farm_types.specs.Rising.{IsRising, depend_key}
 use Rattle.depend_graph.specs.Graph.{CanAdd as GraphCanAdd, Watch, groups_left, is_flagged, is_met, is_satisfied, watch_of, watched}
 use Rattle.depend_book.specs.declared.new_depend.NewDepend.{NewDepend}
+use Rattle.depend_book.specs.Rows.{RowLists, with_row}
 use Rattle.depend_book.specs.Book.{CanAdd, DependLists, IsBook, added_row, row_of, rows_of, watch_number, with_new}
 
 -- ---- numbers
@@ -71,6 +72,14 @@ rows_added b seen n met_all same met =
     let here = ap (λ (lists : DependLists). list_all (are_done (is_flagged lists.graph.done)) n.groups) (sym same) in
     let all = sym (list_all-map is_met (watched b.graph.done) n.groups) in
     ap (λ (satisfied : Bool). b.rows ++ added_row b.next n satisfied ∷ []) (met ∙ here ∙ all)
+
+-- the row that is put at the end of the list is the new depend's
+pub rows_pushed : (b seen : DependLists) (n : NewDepend) (next : ℕ) (met_all : Bool) (new : RowLists) → b ≡ seen → next ≡ b.next → met_all ≡ list_all (are_done (is_flagged seen.graph.done)) n.groups
+    → new ≡ with_row (record { rows = b.rows; next = b.next }) (added_row next n met_all) → (new.rows ≡ (with_new b n).rows) × (new.next ≡ b.next + 1)
+rows_pushed b seen n next met_all new same at met is = (
+  ap (λ (r : RowLists). r.rows) is ∙ (ap (λ (m : ℕ). b.rows ++ added_row m n met_all ∷ []) at ∙ rows_added b seen n met_all same met),
+  ap (λ (r : RowLists). r.next) is,
+)
 
 -- ---- the book
 

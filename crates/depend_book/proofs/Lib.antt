@@ -1,4 +1,9 @@
 pub mod Added
+pub mod Chained
+pub mod Forgotten
 pub mod Kept
-pub mod Marks
+pub mod MarksLeft
+pub mod Older
+pub mod PlaceChanged
+pub mod RowsThere
 pub mod Satisfied

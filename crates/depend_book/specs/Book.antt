@@ -1,8 +1,10 @@
 -- The book of depends: their rows, and the graph of their groups.
-use Rattle.std.specs.Prelude.{ℕ, ◌≡◌, ◌==◌, ◌+◌, ◌<◌, ◌≤◌, Bool, true, List, [], ◌∷◌, ◌++◌, map, filter, find, length, nat_lt, Option, option_map, All, if◌then◌else◌}
+use Rattle.std.specs.Prelude.{ℕ, ◌≡◌, ◌==◌, ◌&&◌, ◌+◌, ◌<◌, ◌≤◌, Bool, true, not, List, [], ◌∷◌, ◌++◌, map, filter, find, length, nat_lt, Option, option_map, All, if◌then◌else◌}
+use Rattle.std.specs.List.{list_any}
 use Rattle.farm_types.specs.declared.depend.DependRow.{DependRow}
 use Rattle.farm_types.specs.declared.depend.MetRow.{MetRow}
 use Rattle.farm_types.specs.Farm.{Farm}
+use Rattle.farm_types.specs.Finish.{waits_by, without_waiter}
 use Rattle.farm_types.specs.Rising.{IsRising, depend_key}
 use Rattle.depend_graph.specs.Graph.{GraphLists, IsGroup, Watch, Watched, groups_left, is_met, is_satisfied, no_graph, watch_of, with_depend, with_done, without_depend}
 use Rattle.depend_book.specs.declared.new_depend.NewDepend.{NewDepend}
@@ -93,6 +95,21 @@ all_done_in b (slot ∷ slots) = all_done_in (done_in b slot true) slots
 
 abbrev pub dropped_in : DependLists → ℕ → DependLists
 dropped_in b depend = with_graph b (without_depend b.graph depend)
+
+-- a depend of that number is among the rows in which a frame of the job waits
+abbrev pub waits_in_one : ℕ → List DependRow → ℕ → Bool
+waits_in_one job rows depend = list_any (λ (d : DependRow). waits_by job d && depend == d.depend) rows
+
+abbrev pub is_kept_by : ℕ → List DependRow → Watch → Bool
+is_kept_by job rows w = not (waits_in_one job rows w.depend)
+
+-- the graph without the depends in which the job waits
+abbrev pub graph_without : ℕ → List DependRow → GraphLists → GraphLists
+graph_without job rows g = record g { depends = filter (is_kept_by job rows) g.depends }
+
+-- the depends in which the job waits go, with their groups
+abbrev pub without_waiter_in : DependLists → ℕ → DependLists
+without_waiter_in b job = record b { rows = without_waiter job b.rows; graph = graph_without job b.rows b.graph }
 
 -- ---- what is read
 

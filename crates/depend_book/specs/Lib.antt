@@ -1,3 +1,6 @@
 pub mod Book
+pub mod Forgotten
 pub mod Inside
+pub mod Rows
+pub mod RowsInside
 pub mod Satisfied

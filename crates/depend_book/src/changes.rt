@@ -9,7 +9,6 @@ ghost use Rattle.depend_book.specs.Book.{CanAdd, all_done_in, done_in, dropped_i
 
 use crate::depends::Depends;
 use crate::new_depend::NewDepend;
-use crate::rows::satisfy_all;
 use depend_graph::GraphSpare;
 use farm_types::{DependNo, DependRow, Group, Items, Slot};
 use std::alloc::{AllocError, Global};
@@ -33,7 +32,7 @@ impl Depends {
         requires can { CanAdd self.old depend }
         ensures { self.new ≡ with_new self.old depend }
     {
-        let number = DependNo(self.next as u32);
+        let number = DependNo(self.rows.next() as u32);
         let NewDepend {
             kind,
             any,
@@ -50,9 +49,8 @@ impl Depends {
             waiter,
             target,
         };
-        self.rows.push_reserved(row);
+        self.rows.push(row);
         self.graph.add(spare, number, groups);
-        self.next += 1;
     }
 
     /// The frame in the slot is done, or isn't any more. It takes no memory.
@@ -60,7 +58,7 @@ impl Depends {
         ensures { self.new ≡ done_in self.old slot done }
     {
         self.graph.set_done(slot, done, &mut self.opened);
-        satisfy_all(&mut self.rows, self.opened.satisfied());
+        self.rows.satisfy_all(self.opened.satisfied());
     }
 
     /// The frames in the slots are done. It takes no memory.
@@ -78,7 +76,7 @@ impl Depends {
         ensures { self.new ≡ dropped_in self.old depend }
     {
         self.graph.drop_depend(depend, &mut self.opened);
-        satisfy_all(&mut self.rows, self.opened.satisfied());
+        self.rows.satisfy_all(self.opened.satisfied());
     }
 
     // Whether all groups would be met at once.

@@ -7,19 +7,18 @@ ghost use Rattle.farm_types.specs.declared.limits.TheConstants.{MOST_DEPENDS, MO
 ghost use Rattle.depend_graph.specs.Graph.{groups_left, has_depend, is_flagged, opened_between, unmet_of, with_all_done, without_depend};
 ghost use Rattle.depend_book.specs.Book.{IsBook, next_in, no_depends, row_in};
 
-use crate::rows::{number_at, place_above, place_of, row_at};
+use crate::row_list::RowList;
 use depend_graph::{Graph, Opened};
-use farm_types::{DependNo, DependRow, Group, Items, MOST_DEPENDS, Slot};
+use farm_types::{DependNo, DependRow, Group, Items, Slot};
 use std::alloc::{AllocError, Global};
 use std::marker::Model;
 
 /// The depends in the order of their numbers, and the graph of their groups.
 #[derive(Debug, Drop)]
 pub struct Depends {
-    pub(crate) rows: Vec<DependRow>,
+    pub(crate) rows: RowList,
     pub(crate) graph: Graph,
     pub(crate) opened: Opened,
-    pub(crate) next: u64,
 }
 
 impl Model for Depends {
@@ -40,10 +39,9 @@ impl Depends {
         ensures { IfOk result (λ b. b ≡ no_depends) }
     {
         Ok(Depends {
-            rows: Vec::with_capacity(alloc, MOST_DEPENDS as usize)?,
+            rows: RowList::make(alloc)?,
             graph: Graph::make(alloc)?,
             opened: Opened::make(alloc)?,
-            next: 1,
         })
     }
 
@@ -58,17 +56,14 @@ impl Depends {
     pub fn row(&self, depend: DependNo) -> Option<&DependRow>
         ensures { option_copied result ≡ row_in self.now depend }
     {
-        row_at(self.rows.as_slice(), place_of(self.rows.as_slice(), depend))
+        self.rows.row(depend)
     }
 
     /// The number of the depend with the least number above `after`.
     pub fn next(&self, after: u32) -> Option<DependNo>
         ensures { result ≡ next_in self.now after }
     {
-        number_at(
-            self.rows.as_slice(),
-            place_above(self.rows.as_slice(), after),
-        )
+        self.rows.next_above(after)
     }
 
     /// How many depends there are.
@@ -76,14 +71,14 @@ impl Depends {
         ensures value { result ≡ length self.now.rows }
         ensures within { result ≤ MOST_DEPENDS }
     {
-        self.rows.len()
+        self.rows.count()
     }
 
     /// The next depend's number, one past the last where none is left.
     pub fn next_number(&self) -> u64
         ensures { result ≡ self.now.next }
     {
-        self.next
+        self.rows.next()
     }
 
     /// How many groups the depends have together that aren't satisfied.

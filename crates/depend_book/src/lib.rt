@@ -3,8 +3,12 @@
 
 mod changes;
 mod depends;
+mod forgetting;
 mod new_depend;
-mod rows;
+mod newest;
+mod places;
+mod room;
+mod row_list;
 
 pub use depends::Depends;
 pub use new_depend::NewDepend;

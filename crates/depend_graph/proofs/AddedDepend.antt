@@ -1,13 +1,13 @@
 -- A depend is added behind all others.
-use Rattle.std.proofs.Common.{◌≡◌, ◌≢◌, ◌≤◌, ◌<◌, ◌^◌, ℕ, zero, suc, ◌+◌, Bool, true, false, not, cond, eqb, List, [], ◌∷◌, ◌++◌, map, length, Some, refl, sym, ap, subst, ◌∙◌, ◌⊎◌, inl, inr, arith, length-append, option_map}
+use Rattle.std.proofs.Common.{◌≡◌, ◌≢◌, ◌≤◌, ◌<◌, ◌^◌, ◌*◌, ℕ, zero, suc, ◌+◌, Bool, true, false, not, cond, eqb, List, [], ◌∷◌, ◌++◌, map, length, Some, refl, sym, ap, subst, ◌∙◌, ◌⊎◌, inl, inr, arith, length-append}
 use Rattle.std.specs.Prelude.{◌&&◌, ◌||◌}
 use Rattle.std.specs.List.{slice_get, count_by, list_all, list_any, All}
 use Rattle.std.proofs.lemmas.Bool.{cases_Bool, eq-eqb, eqb-true, ltb-true, false≢true}
 use Rattle.std.proofs.lemmas.List.{length-map}
-use Rattle.std.proofs.lemmas.List.Sums.{count_by-le-length, sum_by-cons, sum_by_push}
+use Rattle.std.proofs.lemmas.List.Sums.{count_by-le-length, length-filter, sum_by-cons, sum_by_push}
 use Rattle.std.proofs.lemmas.Option.{none-some, same_Some, slice_get-map, slice_get_within, get_or_from_slice_get}
 use Rattle.farm_types.specs.declared.depend.Group.{Group}
-use Rattle.farm_types.specs.declared.limits.TheConstants.{MOST_GROUPS, SLOT_LIMIT}
+use Rattle.farm_types.specs.declared.limits.TheConstants.{MOST_DEPENDS, MOST_GROUPS, SLOT_LIMIT}
 use Rattle.farm_types.specs.Depends.{waits_in}
 use Rattle.farm_types.specs.Sums.{total_at}
 use Rattle.farm_types.proofs.Changed.{appended_each}
@@ -16,14 +16,16 @@ use Rattle.farm_types.proofs.Passes.{option_map-from}
 use Rattle.depend_graph.specs.Added.{count_for, held_in, is_lacking}
 use Rattle.depend_graph.specs.Aims.{aims_from}
 use Rattle.depend_graph.specs.Graph.{CanAdd, IsGroup, Watch, Watched, groups_left, holds, is_below, is_flagged, is_satisfied, unmet_in, unmet_of, watch_of, watched}
-use Rattle.depend_graph.specs.Inside.{KeepsDepends, KeepsSums, watches}
-use Rattle.depend_graph.specs.Listed.{IsListed, KeepsCounts, ListedLists, aim_of, is_enough, is_unmet, watch_by, watched_with}
+use Rattle.depend_graph.specs.Inside.{KeepsDepends, KeepsSums, there_of, watches}
+use Rattle.depend_graph.specs.Listed.{IsListed, KeepsCounts, ListedLists, aim_of, has_number, is_enough, is_there, is_unmet, watch_by, watched_with}
 use Rattle.depend_graph.specs.Ways.{edge_lists, edges_in}
 use Rattle.depend_graph.specs.declared.links.Edge.{Edge}
 use Rattle.depend_graph.specs.declared.listed.Count.{Count}
-use Rattle.depend_graph.proofs.Counts.{count_by-cons, one_if}
+use Rattle.depend_graph.proofs.Counts.{count_by-cons, count_by-push, one_if}
 use Rattle.depend_graph.proofs.Held.{held_in_long, held_in_total}
 use Rattle.depend_graph.proofs.Targets.{are_done_by, edges_at, edges_counted, group_of_edge, target_of_edge, targets_in}
+use Rattle.depend_graph.proofs.Thinned.{there_left}
+use Rattle.depend_graph.proofs.Unchanged.{numbers_any}
 use Rattle.depend_graph.proofs.Watches.{satisfied_by}
 
 -- ---- lists with one more behind
@@ -35,13 +37,20 @@ map-push {Y = Y} read (y ∷ ys) x = ap (λ (zs : List Y). read y ∷ zs) (map-p
 pub watches_push : (ds : List ListedLists) (l : ListedLists) → watches (ds ++ l ∷ []) ≡ watches ds ++ watch_by l ∷ []
 watches_push ds l = map-push watch_by ds l
 
+pub there_push : (ds : List ListedLists) (l : ListedLists) → is_there l ≡ true → watches (there_of (ds ++ l ∷ [])) ≡ watches (there_of ds) ++ watch_by l ∷ []
+there_push [] l there = ap (λ m. watches (cond m (l ∷ []) [])) there
+there_push (d ∷ ds) l there = by_mark (is_there d) (there_push ds l there) where
+  by_mark : (m : Bool) → watches (there_of (ds ++ l ∷ [])) ≡ watches (there_of ds) ++ watch_by l ∷ [] → watches (cond m (d ∷ there_of (ds ++ l ∷ [])) (there_of (ds ++ l ∷ []))) ≡ watches (cond m (d ∷ there_of ds) (there_of ds)) ++ watch_by l ∷ []
+  by_mark true more = ap (λ (ws : List Watch). watch_by d ∷ ws) more
+  by_mark false more = more
+
 pub edge_lists_push : (ds : List ListedLists) (l : ListedLists) → edge_lists (ds ++ l ∷ []) ≡ edge_lists ds ++ l.edges ∷ []
 edge_lists_push ds l = map-push edges_in ds l
 
 pub edge_lists_long : (ds : List ListedLists) → length (edge_lists ds) ≡ length ds
 edge_lists_long ds = length-map ds edges_in
 
-none_at : {X : Type 0} (test : X → Bool) (xs : List X) (p : ℕ) (x : X) → list_any test xs ≡ false → slice_get xs p ≡ Some x → test x ≡ true → ⊥
+pub none_at : {X : Type 0} (test : X → Bool) (xs : List X) (p : ℕ) (x : X) → list_any test xs ≡ false → slice_get xs p ≡ Some x → test x ≡ true → ⊥
 none_at test [] p x none at passes = none-some x at
 none_at {X} test (y ∷ ys) zero x none at passes = false≢true (sym none ∙ (ap (λ b. b || list_any test ys) (ap test (same_Some y x at) ∙ passes)))
 none_at test (y ∷ ys) (suc p) x none at passes = none_at test ys p x (rest (test y) (list_any test ys) none) at passes where
@@ -58,6 +67,10 @@ any_all test (t ∷ ts) s some all = by_first (cases_Bool (eqb t s)) (and_both (
 
 pub group_at : (gs : List Group) → All IsGroup gs → (k : ℕ) (g : Group) → slice_get gs k ≡ Some g → IsGroup g
 group_at gs each k g at = subst IsGroup (get_or_from_slice_get gs k g g at) (each k g (slice_get_within gs k g at))
+
+-- how many weren't forgotten
+pub there_long : (ds : List ListedLists) → length (watches (there_of ds)) ≡ count_by is_there ds
+there_long ds = length-map (there_of ds) watch_by ∙ length-filter is_there ds
 
 -- ---- the edges that were reserved
 
@@ -80,7 +93,7 @@ module _ (edges : List Edge) (gs : List Group) (aims : map aim_of edges ≡ aims
 
 module _ (done : List Bool) (depend : ℕ) (gs : List Group) (edges : List Edge) (aims : map aim_of edges ≡ aims_from 0 gs) (within : length edges < 2 ^ 32) where
   abbrev pub added : ListedLists
-  added = record { depend = depend; groups = gs; counts = map (count_for done) gs; edges = edges; unmet = count_by is_unmet (map (count_for done) gs) }
+  added = record { depend = depend; groups = gs; counts = map (count_for done) gs; edges = edges; unmet = count_by is_unmet (map (count_for done) gs); gone = false }
 
   counted : length added.counts ≡ length gs
   counted = length-map gs (count_for done)
@@ -111,28 +124,34 @@ module _ (done : List Bool) (depend : ℕ) (gs : List Group) (edges : List Edge)
       }
 
   module _ (ds : List ListedLists) (unmet : List ℕ) (left : ℕ) (depends : KeepsDepends ds) (sums : KeepsSums unmet left ds) (flags : List Bool)
-      (can : CanAdd (record { done = flags; depends = watches ds }) depend gs)
+      (can : CanAdd (record { done = flags; depends = watches (there_of ds) }) depend gs) (places : length ds < 2 * MOST_DEPENDS)
     where
       few : length gs ≤ MOST_GROUPS
       few = omega (arith, can.groups_within)
 
+      fits : groups_left (watches ds) + length gs ≤ MOST_GROUPS
+      fits = omega (arith, there_left ds depends, can.groups_within)
+
       pub push_counts : ((p : ℕ) (d : ListedLists) → slice_get ds p ≡ Some d → KeepsCounts done d) → (p : ℕ) (d : ListedLists) → slice_get (ds ++ added ∷ []) p ≡ Some d → KeepsCounts done d
       push_counts kept = appended_each (λ p d. KeepsCounts done d) ds added kept added_counts
 
-      other_number : (p : ℕ) (d : ListedLists) → slice_get ds p ≡ Some d → d.depend ≢ depend
-      other_number p d at = λ same.
-          none_at (λ (w : Watch). eqb w.depend depend) (watches ds) p (watch_by d) can.new (slice_get-map watch_by ds p ∙ ap (option_map watch_by) at) (eq-eqb d.depend depend same)
+      other_number : (p : ℕ) (d : ListedLists) → slice_get ds p ≡ Some d → is_there d ≡ true → d.depend ≢ depend
+      other_number p d at there = λ same. none_at (has_number depend) ds p d (sym (numbers_any depend ds) ∙ can.new) at (λ i. there i && eq-eqb d.depend depend same i)
 
       pub push_depends : KeepsDepends (ds ++ added ∷ [])
       push_depends =
           record {
             listed = appended_each (λ p d. IsListed d) ds added depends.listed (added_listed can.each few);
+            gone_empty = appended_each (λ p d. d.gone ≡ true → d.groups ≡ []) ds added depends.gone_empty (λ gone. absurd (false≢true gone));
             numbers_differ = λ p q d e at_d at_e.
-                appended_each (λ n x. slice_get (ds ++ added ∷ []) q ≡ Some e → x.depend ≡ e.depend → n ≡ q) ds added
-                (λ n x at_x at_q. appended_each (λ m y. x.depend ≡ y.depend → n ≡ m) ds added (λ m y at_y same. depends.numbers_differ n m x y at_x at_y same) (λ same. absurd (other_number n x at_x same)) q e at_q)
-                (λ at_q. appended_each (λ m y. depend ≡ y.depend → length ds ≡ m) ds added (λ m y at_y same. absurd (other_number m y at_y (sym same))) (λ same. refl) q e at_q)
+                appended_each (λ n x. slice_get (ds ++ added ∷ []) q ≡ Some e → is_there x ≡ true → is_there e ≡ true → x.depend ≡ e.depend → n ≡ q) ds added
+                (λ n x at_x at_q. appended_each (λ m y. is_there x ≡ true → is_there y ≡ true → x.depend ≡ y.depend → n ≡ m) ds added (λ m y at_y there_x there_y same. depends.numbers_differ n m x y at_x at_y there_x there_y same)
+                (λ there_x there_y same. absurd (other_number n x at_x there_x same)) q e at_q)
+                (λ at_q. appended_each (λ m y. is_there added ≡ true → is_there y ≡ true → depend ≡ y.depend → length ds ≡ m) ds added (λ m y at_y there_x there_y same. absurd (other_number m y at_y there_y (sym same)))
+                (λ there_x there_y same. refl) q e at_q)
                 p d at_d at_e;
-            count_within = omega (arith, length-append ds (added ∷ []), length-map ds watch_by, can.room);
+            count_within = omega (arith, count_by-push is_there ds added, there_long ds, can.room);
+            places_within = omega (arith, length-append ds (added ∷ []), places);
           }
 
       abbrev weight_of : Watch → ℕ
@@ -151,7 +170,7 @@ module _ (done : List Bool) (depend : ℕ) (gs : List Group) (edges : List Edge)
       push_sums =
           record {
             unmet_kept = λ s.
-                let low : (t : ℕ) → total_at unmet t + length gs ≤ 4294967295 = λ t. omega (arith, sums.unmet_kept t, unmet_low t, sums.left_kept, can.groups_within) in
+                let low : (t : ℕ) → total_at unmet t + length gs ≤ 4294967295 = λ t. omega (arith, sums.unmet_kept t, unmet_low t, sums.left_kept, fits) in
                 held_in_total unmet gs added.counts s (group_at gs can.each) sums.unmet_counted low
                 ∙ (ap (λ n. n + unmet_in s (watch_by added)) (sums.unmet_kept s)
                 ∙ (sym (sum_by_push (unmet_in s) (watches ds) (watch_by added)) ∙ ap (λ (ws : List Watch). unmet_of ws s) (sym (watches_push ds added))));
@@ -160,7 +179,7 @@ module _ (done : List Bool) (depend : ℕ) (gs : List Group) (edges : List Edge)
                 weight_by (eqb added.unmet 0) refl
                 ∙ ((λ i. sums.left_kept i + sym weight_is i)
                 ∙ (sym (sum_by_push weight_of (watches ds) (watch_by added)) ∙ ap groups_left (sym (watches_push ds added))));
-            left_within = at_most (eqb added.unmet 0) (omega (arith, sums.left_kept, can.groups_within));
+            left_within = at_most (eqb added.unmet 0) (omega (arith, sums.left_kept, fits));
           }
         where
           at_most : (b : Bool) → left + length gs ≤ MOST_GROUPS → cond b left (left + length gs) ≤ MOST_GROUPS

@@ -1,7 +1,7 @@
 -- The groups of one depend are met, one after the other.
-use Rattle.std.proofs.Common.{◌≡◌, ◌≢◌, ◌<◌, ℕ, ◌+◌, Bool, true, false, cond, eqb, List, map, length, Some, refl, sym, ap, subst, ◌∙◌, ◌⊎◌, inl, inr, arith}
+use Rattle.std.proofs.Common.{◌≡◌, ◌≢◌, ◌<◌, ℕ, ◌+◌, Bool, true, false, cond, eqb, List, [], map, length, Some, refl, sym, ap, subst, ◌∙◌, ◌⊎◌, inl, inr, arith}
 use Rattle.std.specs.List.{count_by, slice_get}
-use Rattle.std.proofs.lemmas.Bool.{cases_Bool, eq-eqb, ne_eqb}
+use Rattle.std.proofs.lemmas.Bool.{cases_Bool, eq-eqb}
 use Rattle.std.proofs.lemmas.Option.{same_Some, slice_get_within}
 use Rattle.farm_types.specs.declared.depend.Group.{Group}
 use Rattle.farm_types.specs.Farm.{changed_at}
@@ -11,11 +11,12 @@ use Rattle.depend_graph.specs.Flow.{Flow, IsGroupAt, flow_of, met_at, met_count,
 use Rattle.depend_graph.specs.Graph.{met_group, met_where, nothing_opened}
 use Rattle.depend_graph.specs.Inside.{KeepsDepends, KeepsSums, watches}
 use Rattle.depend_graph.specs.Kept.{KeepsFlow, Still}
-use Rattle.depend_graph.specs.Listed.{KeepsCounts, ListedLists, is_enough, is_undone, watch_by, watched_with}
+use Rattle.depend_graph.specs.Listed.{KeepsCounts, ListedLists, is_enough, is_there, is_undone, watch_by, watched_with}
 use Rattle.depend_graph.specs.Passing.{IsDropping}
 use Rattle.depend_graph.specs.declared.listed.Count.{Count}
 use Rattle.depend_graph.proofs.Finished.{length_still, watched_changed, watches_changed}
 use Rattle.depend_graph.proofs.FlowKept.{start_kept}
+use Rattle.depend_graph.proofs.Gone.{few_left, met_stays, other_empty}
 use Rattle.depend_graph.proofs.GroupMet.{met_kept}
 use Rattle.depend_graph.proofs.Still.{still_pair}
 
@@ -33,7 +34,7 @@ group_place olds f kept q k old at_old below =
 pub start_dropping : (olds : List ListedLists) (unmet : List ℕ) (left q : ℕ) → KeepsDepends olds → KeepsSums unmet left olds → IsDropping olds q 0 (flow_of olds unmet left nothing_opened)
 start_dropping olds unmet left q depends sums =
     record {
-      flow = start_kept olds unmet left depends.listed depends.count_within sums;
+      flow = start_kept olds unmet left depends.listed (few_left olds depends) sums;
       elsewhere = λ p apart. refl;
       counts = λ done counted. counted;
       all_met = λ k d c at at_count below. absurd (omega arith);
@@ -91,14 +92,17 @@ module _ (olds : List ListedLists) (q k : ℕ) (f : Flow) (drops : IsDropping ol
 
 -- ---- the end
 
-module _ (olds : List ListedLists) (q count : ℕ) (f : Flow) (drops : IsDropping olds q count f) (before : KeepsDepends olds) (one : ListedLists) (at_one : slice_get olds q ≡ Some one) (all : count ≡ length one.groups) where
+module _ (olds : List ListedLists) (q count : ℕ) (f : Flow) (drops : IsDropping olds q count f) (before : KeepsDepends olds) (one : ListedLists) (at_one : slice_get olds q ≡ Some one) (there : is_there one ≡ true) (all : count ≡ length one.groups) where
   dropped_one : (p : ℕ) (d e : ListedLists) → slice_get olds p ≡ Some d → slice_get f.depends p ≡ Some e → watch_by e ≡ met_where one.depend (watch_by d)
   dropped_one p d e at_d at_e = by_place (places p q) where
+    empty_else : (x : ListedLists) → p ≢ q → (p ≡ q) ⊎ ((watch_by x).groups ≡ []) → (watch_by x).groups ≡ []
+    empty_else x apart (inl equal) = absurd (apart equal)
+    empty_else x apart (inr none) = none
+
     by_place : (p ≡ q) ⊎ (p ≢ q) → watch_by e ≡ met_where one.depend (watch_by d)
     by_place (inr apart) =
         let same : e ≡ d = same_Some e d (sym at_e ∙ (drops.elsewhere p apart ∙ at_d)) in
-        let other : eqb d.depend one.depend ≡ false = ne_eqb d.depend one.depend (λ equal. apart (before.numbers_differ p q d one at_d at_one equal)) in
-        ap watch_by same ∙ sym (ap (λ b. cond b (record { depend = d.depend; groups = map met_group (watched_with d.groups d.counts) }) (watch_by d)) other)
+        ap watch_by same ∙ sym (met_stays one.depend (watch_by d) (λ equal. empty_else d apart (other_empty olds before p q d one at_d at_one there equal)))
     by_place (inl here) =
         let same : d ≡ one = same_Some d one (sym at_d ∙ (ap (slice_get olds) here ∙ at_one)) in
         let named : eqb d.depend one.depend ≡ true = eq-eqb d.depend one.depend (ap (λ (x : ListedLists). x.depend) same) in

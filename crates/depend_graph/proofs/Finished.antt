@@ -15,7 +15,7 @@ use Rattle.farm_types.proofs.Lists.{and_both, slice_get_below}
 use Rattle.depend_graph.specs.Flow.{Flow, flow_of}
 use Rattle.depend_graph.specs.Graph.{HasOpened, OpenedLists, Watch, Watched, completed, completed_in, has_opened, is_completed, is_flagged, nothing_opened, opened_between, unmet_of}
 use Rattle.depend_graph.specs.Inside.{KeepsDepends, KeepsSums, watches}
-use Rattle.depend_graph.specs.Kept.{KeepsFlow, Still, still_of}
+use Rattle.depend_graph.specs.Kept.{is_left, KeepsFlow, Still, still_of}
 use Rattle.depend_graph.specs.Listed.{IsListed, KeepsCounts, ListedLists, is_enough, is_undone, watch_by, watched_by, watched_with}
 use Rattle.depend_graph.specs.Passing.{CountsPending, IsMarked, IsPassing, count_from, is_pending}
 use Rattle.depend_graph.specs.Ways.{IsLast, edge_lists, is_any, is_past}
@@ -26,7 +26,7 @@ use Rattle.depend_graph.proofs.CountFrom.{count_from-alike, count_from-by}
 use Rattle.depend_graph.proofs.EdgeLists.{edge_is}
 use Rattle.depend_graph.proofs.FlowKept.{start_kept}
 use Rattle.depend_graph.proofs.Ordered.{ordered}
-use Rattle.depend_graph.proofs.Still.{still_at, still_pair}
+use Rattle.depend_graph.proofs.Still.{still_differ, still_empty, there_counted, there_still, still_pair}
 use Rattle.depend_graph.proofs.Targets.{are_done_by, edges_counted, targets_in}
 use Rattle.farm_types.specs.Depends.{are_done}
 
@@ -67,7 +67,7 @@ module _ (done : List Bool) (slot : ℕ) (olds : List ListedLists) (first : Opti
       ∙ sym (pending_is turned done done slot first k p d.edges
       (λ i e at_e on. ap turned (last.last p i e (edge_is olds p i d e at at_e) on refl) ∙ (is ∙ ap not (sym flagged ∙ ap (is_flagged done) (sym on)))) (λ e off. refl))
 
-  pub start_passing : (unmet : List ℕ) (left : ℕ) → is_flagged done slot ≡ false → all_listed olds → length olds ≤ MOST_DEPENDS → KeepsSums unmet left olds → all_counted done olds
+  pub start_passing : (unmet : List ℕ) (left : ℕ) → is_flagged done slot ≡ false → all_listed olds → count_by is_left olds ≤ MOST_DEPENDS → KeepsSums unmet left olds → all_counted done olds
       → IsPassing done slot olds first (flow_of olds unmet left nothing_opened)
   start_passing unmet left flagged listed within sums counted =
       record {
@@ -113,11 +113,10 @@ pub depends_kept : (olds : List ListedLists) (f : Flow) → KeepsFlow olds f →
 depends_kept olds f kept before =
     record {
       listed = kept.listed;
-      numbers_differ = λ p q d e at_d at_e same.
-          let x = still_at olds f.depends kept.structure p d at_d in
-          let y = still_at olds f.depends kept.structure q e at_e in
-          before.numbers_differ p q x.0 y.0 x.1 y.1 (ap (λ (s : Still). s.depend) x.2 ∙ (same ∙ ap (λ (s : Still). s.depend) (sym y.2)));
-      count_within = omega (arith, length_still olds f.depends kept.structure, before.count_within);
+      gone_empty = still_empty olds f.depends kept.structure before.gone_empty;
+      numbers_differ = still_differ olds f.depends kept.structure before.numbers_differ;
+      count_within = omega (arith, there_counted olds f.depends (there_still olds f.depends kept.structure), before.count_within);
+      places_within = omega (arith, length_still olds f.depends kept.structure, before.places_within);
     }
 
 -- ---- what was opened

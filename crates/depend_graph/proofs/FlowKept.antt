@@ -100,7 +100,7 @@ pub never_satisfied : (ws : List Watch) (n : ℕ) → was_satisfied ws ws n ≡ 
 never_satisfied [] n = refl
 never_satisfied (w ∷ ws) n = ap (λ b. cond b true (was_satisfied ws ws n)) (never_became (eqb w.depend n) (is_satisfied w)) ∙ never_satisfied ws n
 
-pub start_kept : (olds : List ListedLists) (unmet : List ℕ) (left : ℕ) → ((p : ℕ) (d : ListedLists) → slice_get olds p ≡ Some d → IsListed d) → length olds ≤ MOST_DEPENDS → KeepsSums unmet left olds
+pub start_kept : (olds : List ListedLists) (unmet : List ℕ) (left : ℕ) → ((p : ℕ) (d : ListedLists) → slice_get olds p ≡ Some d → IsListed d) → count_by is_left olds ≤ MOST_DEPENDS → KeepsSums unmet left olds
     → KeepsFlow olds (flow_of olds unmet left nothing_opened)
 start_kept olds unmet left listed within sums =
     record {
@@ -112,5 +112,5 @@ start_kept olds unmet left listed within sums =
       slots = λ s. ap one_if (sym (never_opened (watches olds) s));
       slots_room = omega (arith, count_by-le-length is_positive unmet, sums.unmet_counted);
       satisfied = λ n. sym (never_satisfied (watches olds) n);
-      satisfied_room = omega (arith, count_by-le-length is_left olds);
+      satisfied_room = omega (arith, within);
     }

@@ -21,6 +21,7 @@ use Rattle.depend_graph.specs.declared.links.EdgeAt.{EdgeAt}
 use Rattle.depend_graph.specs.declared.listed.Count.{Count}
 use Rattle.depend_graph.proofs.EdgeLists.{edge_lists-still}
 use Rattle.depend_graph.proofs.Finished.{all_counted, all_listed, completed_all, depends_kept, end_counted, flag_other, start_passing}
+use Rattle.depend_graph.proofs.Gone.{few_left}
 use Rattle.depend_graph.proofs.Still.{still_at}
 use Rattle.depend_graph.proofs.Tried.{step_agrees}
 use Rattle.depend_graph.proofs.Unchanged.{done_already, flag_past}
@@ -36,7 +37,7 @@ module _ (olds : List ListedLists) (unmet : List ℕ) where
         flow = flow_of t.news t.unmet_then t.left_then nothing_opened;
         passing =
             start_passing g.done slot t.news first (subst (λ (ls : List (List Edge)). IsLast ls slot is_any first) (sym (edge_lists-still olds t.news t.structure)) last) t.unmet_then t.left_then undone
-            t.depends.listed t.depends.count_within t.sums t.counts;
+            t.depends.listed (few_left t.news t.depends) t.sums t.counts;
         agrees = t.agrees;
       }
 

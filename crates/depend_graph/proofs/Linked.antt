@@ -1,255 +1,165 @@
--- Edges are put on the ways of their slots, one after the other.
-use Rattle.std.proofs.Common.{◌≡◌, ◌≢◌, ◌≤◌, ◌<◌, ℕ, zero, suc, ◌+◌, Bool, true, false, List, [], ◌∷◌, ◌++◌, map, length, Option, Some, refl, sym, ap, subst, ◌∙◌, ◌⊎◌, inl, inr, arith, option_map, length-append}
+-- An edge goes to the front of its slot's way.
+use Rattle.std.proofs.Common.{◌≡◌, ◌≢◌, ℕ, Bool, true, false, List, Option, Some, None, sym, ap, subst, ◌∙◌, ◌⊎◌, inl, inr}
+use Rattle.std.specs.Prelude.{◌&&◌}
 use Rattle.std.specs.List.{slice_get, slice_set}
-use Rattle.std.proofs.lemmas.List.{length-map}
-use Rattle.std.proofs.lemmas.Option.{same_Some, slice_get-map, slice_get_within}
+use Rattle.std.proofs.lemmas.Option.{same_Some}
 use Rattle.farm_types.proofs.Changed.{places, slice_get-set_other, slice_get-set_same}
-use Rattle.farm_types.proofs.Passes.{option_map-from}
-use Rattle.depend_graph.specs.Aims.{Aim}
-use Rattle.depend_graph.specs.Linking.{IsLinking}
-use Rattle.depend_graph.specs.Listed.{aim_of}
-use Rattle.depend_graph.specs.Ways.{IsEdge, IsEdgeOf, IsLast, KeepsWays, is_ahead_of, is_any, is_before}
+use Rattle.farm_types.proofs.Lists.{and_both}
+use Rattle.depend_graph.specs.Ways.{IsEdge, IsEdgeOf, IsLast, IsNextOf, IsPrevOf, KeepsWaysOf, is_before, is_wanted_ahead, place_at}
 use Rattle.depend_graph.specs.declared.links.Edge.{Edge}
 use Rattle.depend_graph.specs.declared.links.EdgeAt.{EdgeAt}
 use Rattle.depend_graph.proofs.Before.{Before, before_false, before_true, never_both, never_itself, true_before}
+use Rattle.depend_graph.proofs.Edited.{IsEdited, edge_same, is_it}
+use Rattle.depend_graph.proofs.Moved.{last_then}
 
--- ---- places in the lists with one more behind
+pub both_true : (a b : Bool) → a ≡ true → b ≡ true → (a && b) ≡ true
+both_true a b is one = λ i. is i && one i
 
-put_last : {X : Type 0} (xs : List X) (x : X) (p : ℕ) → p ≡ length xs → slice_get (xs ++ x ∷ []) p ≡ Some x
-put_last [] x zero is = refl
-put_last [] x (suc p) is = absurd (omega arith)
-put_last (y ∷ ys) x zero is = absurd (omega arith)
-put_last (y ∷ ys) x (suc p) is = put_last ys x p (omega arith)
-
-put_before : {X : Type 0} (xs : List X) (x : X) (p : ℕ) → p < length xs → slice_get (xs ++ x ∷ []) p ≡ slice_get xs p
-put_before [] x p below = absurd (omega arith)
-put_before (y ∷ ys) x zero below = refl
-put_before (y ∷ ys) x (suc p) below = put_before ys x p (omega arith)
-
-put_within : {X : Type 0} (xs : List X) (x y : X) (p : ℕ) → slice_get (xs ++ x ∷ []) p ≡ Some y → p ≤ length xs
-put_within xs x y p at = omega (arith, slice_get_within (xs ++ x ∷ []) p y at, length-append xs (x ∷ []))
-
-module _ (lists : List (List Edge)) (edges : List Edge) where
-  -- an edge of the lists, and one of the last
-  early : (p i : ℕ) (e : Edge) → IsEdge lists p i e → IsEdge (lists ++ edges ∷ []) p i e
-  early p i e is = record { edges = is.edges; listed = put_before lists edges p (slice_get_within lists p is.edges is.listed) ∙ is.listed; there = is.there }
-
-  late : (i : ℕ) (e : Edge) → slice_get edges i ≡ Some e → IsEdge (lists ++ edges ∷ []) (length lists) i e
-  late i e at = record { edges = edges; listed = put_last lists edges (length lists) refl; there = at }
-
-  was_early : (p i : ℕ) (e : Edge) → IsEdge (lists ++ edges ∷ []) p i e → p < length lists → IsEdge lists p i e
-  was_early p i e is below = record { edges = is.edges; listed = sym (put_before lists edges p below) ∙ is.listed; there = is.there }
-
-  was_late : (p i : ℕ) (e : Edge) → IsEdge (lists ++ edges ∷ []) p i e → p ≡ length lists → slice_get edges i ≡ Some e
-  was_late p i e is here =
-      let same : is.edges ≡ edges = same_Some is.edges edges (sym is.listed ∙ put_last lists edges p here) in
-      ap (λ (es : List Edge). slice_get es i) (sym same) ∙ is.there
-
-  place_within : (p i : ℕ) (e : Edge) → IsEdge (lists ++ edges ∷ []) p i e → p ≤ length lists
-  place_within p i e is = put_within lists edges is.edges p is.listed
-
--- ---- from some lists and wanted places to others
-
-moved : (ls ms : List (List Edge)) (slot : ℕ) (w v : ℕ → ℕ → Bool) (o : Option EdgeAt) → ((a : EdgeAt) → IsEdgeOf ls slot a → w a.depend a.edge ≡ true → (IsEdgeOf ms slot a) × (v a.depend a.edge ≡ true))
-    → ((p i : ℕ) (e : Edge) → IsEdge ms p i e → e.slot ≡ slot → v p i ≡ true → (x : Edge) × (IsEdge ls p i x) × (x.slot ≡ slot) × (w p i ≡ true)) → IsLast ls slot w o → IsLast ms slot v o
-moved ls ms slot w v o to from last =
-    record {
-      one = λ a is. (to a (last.one a is) (last.wanted_one a is)).0;
-      wanted_one = λ a is. (to a (last.one a is) (last.wanted_one a is)).1;
-      last = λ p i e there on wanted. let x = from p i e there on wanted in last.last p i x.0 x.1 x.2 x.3;
-    }
-
--- ---- the beginning: all the edges of the last depend are still to come
-
-module _ (first : List (Option EdgeAt)) (lists : List (List Edge)) (edges : List Edge) (ways : KeepsWays first lists) where
-  begin_one : (slot : ℕ) (w v : ℕ → ℕ → Bool) (o : Option EdgeAt) → ((p i : ℕ) → p < length lists → w p i ≡ true → v p i ≡ true) → ((p i : ℕ) → p ≤ length lists → v p i ≡ true → (p < length lists) × (w p i ≡ true)) → IsLast lists slot w o
-      → IsLast (lists ++ edges ∷ []) slot v o
-  begin_one slot w v o forth back =
-      moved lists (lists ++ edges ∷ []) slot w v o
-      (λ a of wanted. (record { edge = of.edge; there = early lists edges a.depend a.edge of.edge of.there; slot_is = of.slot_is }, forth a.depend a.edge (slice_get_within lists a.depend of.there.edges of.there.listed) wanted))
-      (λ p i e there on wanted.
-      let low = back p i (place_within lists edges p i e there) wanted in
-      (e, was_early lists edges p i e there low.0, on, low.1))
-
-  pub begin_linking : IsLinking first lists edges (length lists) 0
-  begin_linking =
-      record {
-        first_kept = λ slot o at.
-            begin_one slot is_any (is_ahead_of (length lists) 0) o (λ p i below wanted. before_true p i (length lists) 0 (inl below))
-            (λ p i within ahead. (lower p i (true_before p i (length lists) 0 ahead), refl)) (ways.first_kept slot o at);
-        next_kept = λ p i e there ahead.
-            let below = lower p i (true_before p i (length lists) 0 ahead) in
-            begin_one e.slot (is_ahead_of p i) (is_ahead_of p i) e.next (λ q j low wanted. wanted) (λ q j within wanted. (earlier p i q j below (true_before q j p i wanted), wanted))
-            (ways.next_kept p i e (was_early lists edges p i e there below));
-      }
-    where
-      lower : (p i : ℕ) → Before p i (length lists) 0 → p < length lists
-      lower p i (inl below) = below
-      lower p i (inr same) = absurd (omega (arith, same.1))
-
-      earlier : (p i q j : ℕ) → p < length lists → Before q j p i → q < length lists
-      earlier p i q j below (inl lower_one) = omega arith
-      earlier p i q j below (inr same) = omega (arith, same.0)
-
--- ---- a step: one edge more is linked
-
-module _ (first : List (Option EdgeAt)) (lists : List (List Edge)) (edges : List Edge) (place i : ℕ) (long : length lists ≡ place) (links : IsLinking first lists edges place i)
-    (e new : Edge) (at : slice_get edges i ≡ Some e) (next_is : slice_get first e.slot ≡ Some new.next) (aim : aim_of new ≡ aim_of e)
+-- the edges of a kind, and the edge at a place behind all of them, whose slot's first one is known
+module _ (wanted then : ℕ → ℕ → Bool) (first firsts : List (Option EdgeAt)) (olds news : List (List Edge)) (place edge : ℕ) (e : Edge) (there : IsEdge olds place edge e) (head : Option EdgeAt)
+    (was_first : slice_get first e.slot ≡ Some head) (first_is : firsts ≡ slice_set first e.slot (Some (place_at place edge))) (ways : KeepsWaysOf wanted first olds)
+    (low : (p i : ℕ) → wanted p i ≡ true → Before p i place edge) (grow : (p i : ℕ) → wanted p i ≡ true → then p i ≡ true) (own : then place edge ≡ true)
+    (split : (p i : ℕ) → then p i ≡ true → (wanted p i ≡ true) ⊎ ((p ≡ place) × (i ≡ edge)))
+    (change : ℕ → ℕ → Edge → Edge) (edited : IsEdited change olds news) (slots : (p i : ℕ) (y : Edge) → (change p i y).slot ≡ y.slot)
+    (next_here : (y : Edge) → (change place edge y).next ≡ head) (next_off : (p i : ℕ) (y : Edge) → wanted p i ≡ true → (change p i y).next ≡ y.next) (prev_here : (y : Edge) → (change place edge y).prev ≡ None)
+    (prev_at : (p i : ℕ) (y : Edge) → wanted p i ≡ true → head ≡ Some (place_at p i) → (change p i y).prev ≡ Some (place_at place edge))
+    (prev_off : (p i : ℕ) (y : Edge) → wanted p i ≡ true → (head ≡ Some (place_at p i) → ⊥) → (change p i y).prev ≡ y.prev)
   where
-    abbrev news : List Edge
-    news = slice_set edges i new
+    last_on : (slot : ℕ) (w v : ℕ → ℕ → Bool) (o : Option EdgeAt) → ((a : EdgeAt) → o ≡ Some a → IsEdgeOf olds slot a → w a.depend a.edge ≡ true → v a.depend a.edge ≡ true)
+        → ((p i : ℕ) (y : Edge) → IsEdge olds p i y → y.slot ≡ slot → v p i ≡ true → w p i ≡ true) → IsLast olds slot w o → IsLast news slot v o
+    last_on = last_then change olds news edited slots
 
-    slot_same : new.slot ≡ e.slot
-    slot_same = ap (λ (a : Aim). a.slot) aim
+    -- the edge at the place is that one
+    edge_here : (p i : ℕ) (y : Edge) → IsEdge olds p i y → (p ≡ place) × (i ≡ edge) → y ≡ e
+    edge_here p i y is here = edge_same olds place edge y e (subst (λ (q : ℕ). IsEdge olds q edge y) here.0 (subst (λ (j : ℕ). IsEdge olds p j y) here.1 is)) there
 
-    -- the edges stand where they stood, of the same slots
-    to_old : (p j : ℕ) (x : Edge) → IsEdge (lists ++ news ∷ []) p j x → (y : Edge) × (IsEdge (lists ++ edges ∷ []) p j y) × (y.slot ≡ x.slot)
-    to_old p j x there = by_place (places p (length lists)) (places j i) where
-      by_place : (p ≡ length lists) ⊎ (p ≢ length lists) → (j ≡ i) ⊎ (j ≢ i) → (y : Edge) × (IsEdge (lists ++ edges ∷ []) p j y) × (y.slot ≡ x.slot)
-      by_place (inr apart) w =
-          (x, early lists edges p j x (was_early lists news p j x there (omega (arith, apart, place_within lists news p j x there))), refl)
-      by_place (inl here) (inl one) =
-          let stands : slice_get news j ≡ Some x = was_late lists news p j x there here in
-          let same : new ≡ x = same_Some new x (sym (slice_get-set_same edges i e new at) ∙ (ap (slice_get news) (sym one) ∙ stands)) in
-          (e, subst (λ (q : ℕ). IsEdge (lists ++ edges ∷ []) q j e) (sym here) (late lists edges j e (ap (slice_get edges) one ∙ at)), sym slot_same ∙ ap (λ (y : Edge). y.slot) same)
-      by_place (inl here) (inr away) =
-          let stands : slice_get edges j ≡ Some x = sym (slice_get-set_other edges i j new away) ∙ was_late lists news p j x there here in
-          (x, subst (λ (q : ℕ). IsEdge (lists ++ edges ∷ []) q j x) (sym here) (late lists edges j x stands), refl)
+    own_edge : IsEdge news place edge (change place edge e)
+    own_edge = edited.forth place edge e there
 
-    to_new : (p j : ℕ) (x : Edge) → IsEdge (lists ++ edges ∷ []) p j x → (y : Edge) × (IsEdge (lists ++ news ∷ []) p j y) × (y.slot ≡ x.slot)
-    to_new p j x there = by_place (places p (length lists)) (places j i) where
-      by_place : (p ≡ length lists) ⊎ (p ≢ length lists) → (j ≡ i) ⊎ (j ≢ i) → (y : Edge) × (IsEdge (lists ++ news ∷ []) p j y) × (y.slot ≡ x.slot)
-      by_place (inr apart) w =
-          (x, early lists news p j x (was_early lists edges p j x there (omega (arith, apart, place_within lists edges p j x there))), refl)
-      by_place (inl here) (inl one) =
-          let stands : slice_get edges j ≡ Some x = was_late lists edges p j x there here in
-          let same : e ≡ x = same_Some e x (sym at ∙ (ap (slice_get edges) (sym one) ∙ stands)) in
-          (new, subst (λ (q : ℕ). IsEdge (lists ++ news ∷ []) q j new) (sym here) (late lists news j new (ap (slice_get news) one ∙ slice_get-set_same edges i e new at)), slot_same ∙ ap (λ (y : Edge). y.slot) same)
-      by_place (inl here) (inr away) =
-          let stands : slice_get news j ≡ Some x = slice_get-set_other edges i j new away ∙ was_late lists edges p j x there here in
-          (x, subst (λ (q : ℕ). IsEdge (lists ++ news ∷ []) q j x) (sym here) (late lists news j x stands), refl)
-
-    -- so what was last is last, where the wanted places are the same up to that edge
-    same_last : (slot : ℕ) (w v : ℕ → ℕ → Bool) (o : Option EdgeAt) → ((p j : ℕ) → w p j ≡ true → v p j ≡ true)
-        → ((p j : ℕ) (x : Edge) → IsEdge (lists ++ edges ∷ []) p j x → x.slot ≡ slot → v p j ≡ true → w p j ≡ true) → IsLast (lists ++ edges ∷ []) slot w o → IsLast (lists ++ news ∷ []) slot v o
-    same_last slot w v o forth back =
-        moved (lists ++ edges ∷ []) (lists ++ news ∷ []) slot w v o
-        (λ a of wanted.
-        let y = to_new a.depend a.edge of.edge of.there in
-        (record { edge = y.0; there = y.1; slot_is = y.2 ∙ of.slot_is }, forth a.depend a.edge wanted))
-        (λ p j x there on wanted.
-        let y = to_old p j x there in
-        (y.0, y.1, y.2 ∙ on, back p j y.0 y.1 (y.2 ∙ on) wanted))
-
-    here_edge : IsEdge (lists ++ news ∷ []) place i new
-    here_edge = subst (λ (q : ℕ). IsEdge (lists ++ news ∷ []) q i new) long (late lists news i new (slice_get-set_same edges i e new at))
-
-    -- the place is before the next one, and what is before that is before it or itself
-    one_on : (p j : ℕ) → Before p j place i → Before p j place (i + 1)
-    one_on p j (inl lower) = inl lower
-    one_on p j (inr same) = inr (same.0, omega (arith, same.1))
-
-    one_back : (p j : ℕ) → Before p j place (i + 1) → (Before p j place i) ⊎ ((p ≡ place) × (j ≡ i))
-    one_back p j (inl lower) = inl (inl lower)
-    one_back p j (inr same) =
-        elim (places j i) as (λ c. (Before p j place i) ⊎ ((p ≡ place) × (j ≡ i))) [
-          | inl here ↦ inr (same.0, here)
-          | inr away ↦ inl (inr (same.0, omega (arith, same.1, away)))
-        ]
-
-    edge_here : (p j : ℕ) (x : Edge) → IsEdge (lists ++ edges ∷ []) p j x → p ≡ place → j ≡ i → x ≡ e
-    edge_here p j x there p_is j_is =
-        same_Some x e (sym (was_late lists edges p j x there (p_is ∙ sym long)) ∙ (ap (slice_get edges) j_is ∙ at))
-
-    other_first : (slot : ℕ) (o : Option EdgeAt) → slot ≢ e.slot → IsLast (lists ++ edges ∷ []) slot (is_ahead_of place i) o → IsLast (lists ++ news ∷ []) slot (is_ahead_of place (i + 1)) o
-    other_first slot o apart =
-        same_last slot (is_ahead_of place i) (is_ahead_of place (i + 1)) o (λ p j ahead. before_true p j place (i + 1) (one_on p j (true_before p j place i ahead)))
-        (λ p j x there on ahead. by_order p j x there on (one_back p j (true_before p j place (i + 1) ahead)))
-      where
-        by_order : (p j : ℕ) (x : Edge) → IsEdge (lists ++ edges ∷ []) p j x → x.slot ≡ slot → (Before p j place i) ⊎ ((p ≡ place) × (j ≡ i)) → is_before p j place i ≡ true
-        by_order p j x there on (inl earlier) = before_true p j place i earlier
-        by_order p j x there on (inr here) = absurd (apart (sym on ∙ ap (λ (y : Edge). y.slot) (edge_here p j x there here.0 here.1)))
-
-    own_first : IsLast (lists ++ news ∷ []) e.slot (is_ahead_of place (i + 1)) (Some (record { depend = place; edge = i }))
+    own_first : IsLast news e.slot then (Some (place_at place edge))
     own_first =
         record {
           one = λ a is.
-              let same : record { depend = place; edge = i } ≡ a = same_Some (record { depend = place; edge = i }) a is in
-              subst (IsEdgeOf (lists ++ news ∷ []) e.slot) same (record { edge = new; there = here_edge; slot_is = slot_same });
-          wanted_one = λ a is.
-              let same : record { depend = place; edge = i } ≡ a = same_Some (record { depend = place; edge = i }) a is in
-              subst (λ (b : EdgeAt). is_before b.depend b.edge place (i + 1) ≡ true) same (before_true place i place (i + 1) (inr (refl, omega arith)));
-          last = λ p j x there on ahead. by_order p j (one_back p j (true_before p j place (i + 1) ahead));
+              subst (IsEdgeOf news e.slot) (same_Some (place_at place edge) a is) (record { edge = change place edge e; there = own_edge; slot_is = slots place edge e });
+          wanted_one = λ a is. subst (λ (b : EdgeAt). then b.depend b.edge ≡ true) (same_Some (place_at place edge) a is) own;
+          last = λ p i x at on is. by_split p i (split p i is);
         }
       where
-        by_order : (p j : ℕ) → (Before p j place i) ⊎ ((p ≡ place) × (j ≡ i)) → is_before place i p j ≡ false
-        by_order p j (inl earlier) = before_false place i p j (λ later. never_both place i p j later earlier)
-        by_order p j (inr here) = (λ k. is_before place i (here.0 k) (here.1 k)) ∙ never_itself place i
+        by_split : (p i : ℕ) → (wanted p i ≡ true) ⊎ ((p ≡ place) × (i ≡ edge)) → is_before place edge p i ≡ false
+        by_split p i (inl is) = before_false place edge p i (λ later. never_both place edge p i later (low p i is))
+        by_split p i (inr here) = (λ k. is_before place edge (here.0 k) (here.1 k)) ∙ never_itself place edge
 
-    pub link_step : (firsts : List (Option EdgeAt)) → firsts ≡ slice_set first e.slot (Some (record { depend = place; edge = i })) → IsLinking firsts lists news place (i + 1)
-    link_step firsts are =
-        record {
-          first_kept = λ slot o at_o. by_slot slot o (ap (λ (fs : List (Option EdgeAt)). slice_get fs slot) (sym are) ∙ at_o) (places slot e.slot);
-          next_kept = λ p j x there ahead. by_order p j x there (one_back p j (true_before p j place (i + 1) ahead));
-        }
+    firsts_here : slice_get firsts e.slot ≡ Some (Some (place_at place edge))
+    firsts_here = ap (λ (fs : List (Option EdgeAt)). slice_get fs e.slot) first_is ∙ slice_get-set_same first e.slot head (Some (place_at place edge)) was_first
+
+    firsts_other : (slot : ℕ) → slot ≢ e.slot → slice_get firsts slot ≡ slice_get first slot
+    firsts_other slot other = ap (λ (fs : List (Option EdgeAt)). slice_get fs slot) first_is ∙ slice_get-set_other first e.slot slot (Some (place_at place edge)) other
+
+    first_then : (slot : ℕ) (o : Option EdgeAt) → slice_get firsts slot ≡ Some o → IsLast news slot then o
+    first_then slot o at = by_slot (places slot e.slot) where
+      by_slot : (slot ≡ e.slot) ⊎ (slot ≢ e.slot) → IsLast news slot then o
+      by_slot (inl same) =
+          let is : Some (place_at place edge) ≡ o = same_Some (Some (place_at place edge)) o (sym firsts_here ∙ (ap (slice_get firsts) (sym same) ∙ at)) in
+          subst (λ (s : ℕ). IsLast news s then o) (sym same) (subst (IsLast news e.slot then) is own_first)
+      by_slot (inr other) =
+          last_on slot wanted then o (λ a is of on. grow a.depend a.edge on) (λ p i y y_there on is. not_here p i y y_there on (split p i is)) (ways.first_kept slot o (sym (firsts_other slot other) ∙ at))
+        where
+          not_here : (p i : ℕ) (y : Edge) → IsEdge olds p i y → y.slot ≡ slot → (wanted p i ≡ true) ⊎ ((p ≡ place) × (i ≡ edge)) → wanted p i ≡ true
+          not_here p i y y_there on (inl is) = is
+          not_here p i y y_there on (inr here) = absurd (other (sym on ∙ ap (λ (x : Edge). x.slot) (edge_here p i y y_there here)))
+
+    -- what is ahead of an edge that was on its way is wanted
+    ahead_was : (p i : ℕ) → wanted p i ≡ true → (q j : ℕ) → is_wanted_ahead then p i q j ≡ true → is_wanted_ahead wanted p i q j ≡ true
+    ahead_was p i on q j is =
+        let both = and_both (then q j) (is_before q j p i) is in
+        by_split both.1 (split q j both.0)
       where
-        by_slot : (slot : ℕ) (o : Option EdgeAt) → slice_get (slice_set first e.slot (Some (record { depend = place; edge = i }))) slot ≡ Some o → (slot ≡ e.slot) ⊎ (slot ≢ e.slot)
-            → IsLast (lists ++ news ∷ []) slot (is_ahead_of place (i + 1)) o
-        by_slot slot o at_o (inl here) =
-            let same : Some (record { depend = place; edge = i }) ≡ o = same_Some (Some (record { depend = place; edge = i })) o
-            (sym (slice_get-set_same first e.slot new.next (Some (record { depend = place; edge = i })) next_is) ∙ (ap (slice_get (slice_set first e.slot (Some (record { depend = place; edge = i })))) (sym here) ∙ at_o)) in
-            subst (λ (s : ℕ). IsLast (lists ++ news ∷ []) s (is_ahead_of place (i + 1)) o) (sym here) (subst (IsLast (lists ++ news ∷ []) e.slot (is_ahead_of place (i + 1))) same own_first)
-        by_slot slot o at_o (inr apart) = other_first slot o apart (links.first_kept slot o (sym (slice_get-set_other first e.slot slot (Some (record { depend = place; edge = i })) apart) ∙ at_o))
+        by_split : is_before q j p i ≡ true → (wanted q j ≡ true) ⊎ ((q ≡ place) × (j ≡ edge)) → is_wanted_ahead wanted p i q j ≡ true
+        by_split before (inl was) = both_true (wanted q j) (is_before q j p i) was before
+        by_split before (inr here) =
+            absurd (never_both p i place edge (low p i on) (true_before place edge p i ((λ k. is_before (sym here.0 k) (sym here.1 k) p i) ∙ before)))
 
-        by_order : (p j : ℕ) (x : Edge) → IsEdge (lists ++ news ∷ []) p j x → (Before p j place i) ⊎ ((p ≡ place) × (j ≡ i)) → IsLast (lists ++ news ∷ []) x.slot (is_ahead_of p j) x.next
-        by_order p j x there (inl earlier) =
-            same_last x.slot (is_ahead_of p j) (is_ahead_of p j) x.next (λ q k wanted. wanted) (λ q k y is on wanted. wanted)
-            (links.next_kept p j x (stays p j x there earlier) (before_true p j place i earlier))
+    next_then : (p i : ℕ) (x : Edge) → IsEdge news p i x → then p i ≡ true → IsLast news x.slot (is_wanted_ahead then p i) x.next
+    next_then p i x x_there is =
+        let y = edited.back p i x x_there in
+        subst (λ (z : Edge). IsLast news z.slot (is_wanted_ahead then p i) z.next) y.2 (by_split y.0 y.1 (split p i is))
+      where
+        by_split : (y : Edge) → IsEdge olds p i y → (wanted p i ≡ true) ⊎ ((p ≡ place) × (i ≡ edge)) → IsLast news (change p i y).slot (is_wanted_ahead then p i) (change p i y).next
+        by_split y y_there (inl on) =
+            let was = ways.next_kept p i y y_there on in
+            let now : IsLast news y.slot (is_wanted_ahead then p i) y.next = last_on y.slot (is_wanted_ahead wanted p i) (is_wanted_ahead then p i) y.next
+            (λ a at of ahead.
+            let both = and_both (wanted a.depend a.edge) (is_before a.depend a.edge p i) ahead in
+            both_true (then a.depend a.edge) (is_before a.depend a.edge p i) (grow a.depend a.edge both.0) both.1)
+            (λ q j z z_there z_on ahead. ahead_was p i on q j ahead) was in
+            subst (λ (o : Option EdgeAt). IsLast news (change p i y).slot (is_wanted_ahead then p i) o) (sym (next_off p i y on))
+            (subst (λ (s : ℕ). IsLast news s (is_wanted_ahead then p i) y.next) (sym (slots p i y)) now)
+        by_split y y_there (inr here) =
+            let same = edge_here p i y y_there here in
+            let now : IsLast news e.slot (is_wanted_ahead then place edge) head = last_on e.slot wanted (is_wanted_ahead then place edge) head
+            (λ a at of on. both_true (then a.depend a.edge) (is_before a.depend a.edge place edge) (grow a.depend a.edge on) (before_true a.depend a.edge place edge (low a.depend a.edge on)))
+            (λ q j z z_there z_on ahead. below q j ahead) (ways.first_kept e.slot head was_first) in
+            let there_now : IsLast news (change place edge y).slot (is_wanted_ahead then place edge) (change place edge y).next =
+            subst (λ (o : Option EdgeAt). IsLast news (change place edge y).slot (is_wanted_ahead then place edge) o) (sym (next_here y))
+            (subst (λ (s : ℕ). IsLast news s (is_wanted_ahead then place edge) head) (sym (slots place edge y ∙ ap (λ (z : Edge). z.slot) same)) now) in
+            subst (λ (q : ℕ). IsLast news (change q i y).slot (is_wanted_ahead then q i) (change q i y).next) (sym here.0)
+            (subst (λ (j : ℕ). IsLast news (change place j y).slot (is_wanted_ahead then place j) (change place j y).next) (sym here.1) there_now)
           where
-            stays : (p j : ℕ) (x : Edge) → IsEdge (lists ++ news ∷ []) p j x → Before p j place i → IsEdge (lists ++ edges ∷ []) p j x
-            stays p j x there (inl lower) = early lists edges p j x (was_early lists news p j x there (omega (arith, long)))
-            stays p j x there (inr same) =
-                let here : p ≡ length lists = same.0 ∙ sym long in
-                let stands : slice_get edges j ≡ Some x = sym (slice_get-set_other edges i j new (λ is. absurd (omega (arith, same.1)))) ∙ was_late lists news p j x there here in
-                subst (λ (q : ℕ). IsEdge (lists ++ edges ∷ []) q j x) (sym here) (late lists edges j x stands)
-        by_order p j x there (inr here) =
-            let stands : slice_get news j ≡ Some x = was_late lists news p j x there (here.0 ∙ sym long) in
-            let same : new ≡ x = same_Some new x (sym (slice_get-set_same edges i e new at) ∙ (ap (slice_get news) (sym here.1) ∙ stands)) in
-            let was = links.first_kept e.slot new.next next_is in
-            let now : IsLast (lists ++ news ∷ []) new.slot (is_ahead_of place i) new.next =
-            subst (λ (s : ℕ). IsLast (lists ++ news ∷ []) s (is_ahead_of place i) new.next) (sym slot_same) (same_last e.slot (is_ahead_of place i) (is_ahead_of place i) new.next (λ q k wanted. wanted) (λ q k y is on wanted. wanted) was) in
-            subst (λ (y : Edge). IsLast (lists ++ news ∷ []) y.slot (is_ahead_of p j) y.next) same
-            (subst (λ (q : ℕ). IsLast (lists ++ news ∷ []) new.slot (is_ahead_of q j) new.next) (sym here.0) (subst (λ (k : ℕ). IsLast (lists ++ news ∷ []) new.slot (is_ahead_of place k) new.next) (sym here.1) now))
+            own_before : (q j : ℕ) → (q ≡ place) × (j ≡ edge) → is_before q j place edge ≡ true → Before place edge place edge
+            own_before q j at before = true_before place edge place edge ((λ k. is_before (sym at.0 k) (sym at.1 k) place edge) ∙ before)
 
--- ---- the end: all edges are linked
+            below : (q j : ℕ) → is_wanted_ahead then place edge q j ≡ true → wanted q j ≡ true
+            below q j ahead =
+                let both = and_both (then q j) (is_before q j place edge) ahead in
+                elim (split q j both.0) as (λ c. wanted q j ≡ true) [
+                  | inl on ↦ on
+                  | inr at ↦ absurd (never_both place edge place edge (own_before q j at both.1) (own_before q j at both.1))
+                ]
 
-pub end_linking : (first : List (Option EdgeAt)) (lists : List (List Edge)) (edges : List Edge) (place count : ℕ) → length lists ≡ place → length edges ≤ count → IsLinking first lists edges place count → KeepsWays first (lists ++ edges ∷ [])
-end_linking first lists edges place count long all links =
-    record {
-      first_kept = λ slot o at.
-          let was = links.first_kept slot o at in
-          record { one = was.one; wanted_one = λ a is. refl; last = λ p i e there on any. was.last p i e there on (ahead p i e there) };
-      next_kept = λ p i e there. links.next_kept p i e there (ahead p i e there);
-    }
-  where
-    ahead : (p i : ℕ) (e : Edge) → IsEdge (lists ++ edges ∷ []) p i e → is_before p i place count ≡ true
-    ahead p i e there =
-        before_true p i place count (elim (places p (length lists)) as (λ c. Before p i place count) [
-          | inl here ↦ inr (here ∙ long, omega (arith, slice_get_within edges i e (was_late lists edges p i e there here)))
-          | inr apart ↦ inl (omega (arith, apart, long, place_within lists edges p i e there))
-        ])
+    prev_then : (p i : ℕ) (x : Edge) → IsEdge news p i x → then p i ≡ true → IsPrevOf firsts news x.slot then p i x.prev
+    prev_then p i x x_there is =
+        let y = edited.back p i x x_there in
+        subst (λ (z : Edge). IsPrevOf firsts news z.slot then p i z.prev) y.2 (by_split y.0 y.1 (split p i is))
+      where
+        by_prev : (y : Edge) (slot : ℕ) → y.slot ≡ slot → wanted p i ≡ true → (head ≡ Some (place_at p i) → ⊥) → (o : Option EdgeAt) → IsPrevOf first olds y.slot wanted p i o → IsPrevOf firsts news slot then p i o
+        by_prev y slot on wants off None was =
+            elim (places y.slot e.slot) as (λ c. slice_get firsts slot ≡ Some (Some (place_at p i))) [
+              | inl same ↦ absurd (off (same_Some head (Some (place_at p i)) (sym was_first ∙ (ap (slice_get first) (sym same) ∙ was))))
+              | inr other ↦ ap (slice_get firsts) (sym on) ∙ (firsts_other y.slot other ∙ was)
+            ]
+        by_prev y slot on wants off (Some q) was =
+            record {
+              edge = change q.depend q.edge was.edge;
+              there = edited.forth q.depend q.edge was.edge was.there;
+              slot_is = slots q.depend q.edge was.edge ∙ (was.slot_is ∙ on);
+              wanted_is = grow q.depend q.edge was.wanted_is;
+              next_is = next_off q.depend q.edge was.edge was.wanted_is ∙ was.next_is;
+            }
 
--- ---- aims of edges
+        by_head : (y : Edge) → IsEdge olds p i y → wanted p i ≡ true → (head ≡ Some (place_at p i)) ⊎ (head ≡ Some (place_at p i) → ⊥) → IsPrevOf firsts news (change p i y).slot then p i (change p i y).prev
+        by_head y y_there on (inl at) =
+            let of = (ways.first_kept e.slot head was_first).one (place_at p i) at in
+            let slot_is : y.slot ≡ e.slot = ap (λ (z : Edge). z.slot) (edge_same olds p i y of.edge y_there of.there) ∙ of.slot_is in
+            let now : IsNextOf news (change p i y).slot then p i (place_at place edge) =
+            record {
+              edge = change place edge e;
+              there = own_edge;
+              slot_is = slots place edge e ∙ (sym slot_is ∙ sym (slots p i y));
+              wanted_is = own;
+              next_is = next_here e ∙ at;
+            } in
+            subst (IsPrevOf firsts news (change p i y).slot then p i) (sym (prev_at p i y on at)) now
+        by_head y y_there on (inr off) =
+            subst (IsPrevOf firsts news (change p i y).slot then p i) (sym (prev_off p i y on off)) (by_prev y (change p i y).slot (sym (slots p i y)) on off y.prev (ways.prev_kept p i y y_there on))
 
-pub aims_set : (edges : List Edge) (i : ℕ) (e new : Edge) → slice_get edges i ≡ Some e → aim_of new ≡ aim_of e → map aim_of (slice_set edges i new) ≡ map aim_of edges
-aims_set [] i e new at same = refl
-aims_set (x ∷ xs) zero e new at same = ap (λ (a : Aim). a ∷ map aim_of xs) (same ∙ ap aim_of (sym (same_Some x e at)))
-aims_set (x ∷ xs) (suc i) e new at same = ap (λ (as_of : List Aim). aim_of x ∷ as_of) (aims_set xs i e new at same)
+        by_split : (y : Edge) → IsEdge olds p i y → (wanted p i ≡ true) ⊎ ((p ≡ place) × (i ≡ edge)) → IsPrevOf firsts news (change p i y).slot then p i (change p i y).prev
+        by_split y y_there (inl on) = by_head y y_there on (is_it head p i)
+        by_split y y_there (inr here) =
+            let same = edge_here p i y y_there here in
+            let now : slice_get firsts (change place edge y).slot ≡ Some (Some (place_at place edge)) = ap (slice_get firsts) (slots place edge y ∙ ap (λ (z : Edge). z.slot) same) ∙ firsts_here in
+            let there_now : IsPrevOf firsts news (change place edge y).slot then place edge (change place edge y).prev = subst (IsPrevOf firsts news (change place edge y).slot then place edge) (sym (prev_here y)) now in
+            subst (λ (q : ℕ). IsPrevOf firsts news (change q i y).slot then q i (change q i y).prev) (sym here.0)
+            (subst (λ (j : ℕ). IsPrevOf firsts news (change place j y).slot then place j (change place j y).prev) (sym here.1) there_now)
 
-pub aim_there : (edges olds : List Edge) → map aim_of edges ≡ map aim_of olds → (i : ℕ) (e : Edge) → slice_get edges i ≡ Some e → (old : Edge) × (slice_get olds i ≡ Some old) × (aim_of old ≡ aim_of e)
-aim_there edges olds same i e at =
-    option_map-from aim_of (slice_get olds i) (aim_of e)
-    (sym (slice_get-map aim_of olds i) ∙ (ap (λ (xs : List Aim). slice_get xs i) (sym same) ∙ (slice_get-map aim_of edges i ∙ ap (option_map aim_of) at)))
-
-pub aims_long : (edges olds : List Edge) → map aim_of edges ≡ map aim_of olds → length edges ≡ length olds
-aims_long edges olds same = sym (length-map edges aim_of) ∙ (ap (λ (xs : List Aim). length xs) same ∙ length-map olds aim_of)
+    pub linked_step : KeepsWaysOf then firsts news
+    linked_step = record { first_kept = first_then; next_kept = next_then; prev_kept = prev_then }

@@ -25,8 +25,10 @@ made_depends ds none =
     subst KeepsDepends (sym none)
     (record {
       listed = λ p d at. absurd (none-some d at);
-      numbers_differ = λ p q d e at_d at_e same. absurd (none-some d at_d);
+      gone_empty = λ p d at gone. absurd (none-some d at);
+      numbers_differ = λ p q d e at_d at_e there_d there_e same. absurd (none-some d at_d);
       count_within = omega arith;
+      places_within = omega arith;
     })
 
 pub made_sums : (unmet : List ℕ) (ds : List ListedLists) → ds ≡ [] → unmet ≡ replicate SLOT_LIMIT 0 → KeepsSums unmet 0 ds
@@ -52,4 +54,5 @@ made_ways first ds none ends =
           subst (IsLast [] s is_any) (all_same SLOT_LIMIT s None o at)
           (record { one = λ a is. absurd (none-some a is); wanted_one = λ a is. absurd (none-some a is); last = λ p i e there on wanted. absurd (none-some there.edges there.listed) });
       next_kept = λ p i e there. absurd (none-some there.edges there.listed);
+      prev_kept = λ p i e there. absurd (none-some there.edges there.listed);
     }))

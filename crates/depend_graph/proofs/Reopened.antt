@@ -22,7 +22,7 @@ use Rattle.depend_graph.proofs.FlowKept.{recount_each, watches_same}
 use Rattle.depend_graph.proofs.Pending.{pending_other, pending_rises}
 use Rattle.depend_graph.proofs.Recounted.{IsElsewhere, IsHere, recounted}
 use Rattle.depend_graph.proofs.Steps.{steps_fall, steps_left}
-use Rattle.depend_graph.proofs.Still.{still_at}
+use Rattle.depend_graph.proofs.Still.{still_differ, still_empty, there_counted, there_still}
 use Rattle.depend_graph.proofs.Targets.{enough_fewer, group_of_edge}
 
 -- the edge that the way has come to, with its group
@@ -173,9 +173,8 @@ module _ (done : List Bool) (slot : ℕ) (olds news : List ListedLists) (pass : 
   reopened_depends before =
       record {
         listed = pass.listed;
-        numbers_differ = λ p q d e at_d at_e one.
-            let x = still_at olds news pass.structure p d at_d in
-            let y = still_at olds news pass.structure q e at_e in
-            before.numbers_differ p q x.0 y.0 x.1 y.1 (ap (λ (s : Still). s.depend) x.2 ∙ (one ∙ ap (λ (s : Still). s.depend) (sym y.2)));
-        count_within = omega (arith, length_still olds news pass.structure, before.count_within);
+        gone_empty = still_empty olds news pass.structure before.gone_empty;
+        numbers_differ = still_differ olds news pass.structure before.numbers_differ;
+        count_within = omega (arith, there_counted olds news (there_still olds news pass.structure), before.count_within);
+        places_within = omega (arith, length_still olds news pass.structure, before.places_within);
       }

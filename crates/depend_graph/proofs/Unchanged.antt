@@ -1,6 +1,6 @@
 -- What changes nothing.
 use Rattle.std.proofs.Common.{◌≡◌, ◌≤◌, ℕ, zero, suc, Bool, true, false, not, cond, eqb, List, [], ◌∷◌, map, length, Some, refl, sym, ap, subst, ◌∙◌, ◌⊎◌, inl, inr, arith}
-use Rattle.std.specs.Prelude.{◌||◌}
+use Rattle.std.specs.Prelude.{◌&&◌, ◌||◌}
 use Rattle.std.specs.List.{slice_get, slice_set, filter, list_any}
 use Rattle.std.proofs.lemmas.Bool.{cases_Bool}
 use Rattle.std.proofs.lemmas.Option.{same_Some}
@@ -9,11 +9,12 @@ use Rattle.farm_types.specs.Depends.{are_done}
 use Rattle.farm_types.proofs.Lists.{and_both}
 use Rattle.depend_graph.specs.Graph.{GraphLists, HasOpened, OpenedLists, Watch, completed, completed_in, has_opened, is_completed, is_flagged, nothing_opened, numbers_from, opened_between, with_done}
 use Rattle.farm_types.specs.declared.limits.TheConstants.{SLOT_LIMIT}
-use Rattle.depend_graph.specs.Inside.{watches}
-use Rattle.depend_graph.specs.Listed.{ListedLists, has_number, is_enough, watch_by, watched_by}
+use Rattle.depend_graph.specs.Inside.{there_of, watches}
+use Rattle.depend_graph.specs.Listed.{ListedLists, has_number, is_enough, is_there, watch_by, watched_by}
 use Rattle.depend_graph.specs.declared.listed.Count.{Count}
 use Rattle.depend_graph.proofs.Finished.{all_counted, all_listed, watched_changed, watches_changed}
 use Rattle.depend_graph.proofs.FlowKept.{never_opened, never_satisfied}
+use Rattle.depend_graph.proofs.Thinned.{mapped_there}
 use Rattle.depend_graph.proofs.Targets.{are_done_by, edges_counted, targets_in}
 
 -- ---- a flag that is so already
@@ -68,6 +69,14 @@ done_already done slot ds listed counted true same =
     ∙ λ i. record { done = sym same i; depends = map (completed_in (sym same i) slot) (watches ds) }
 done_already done slot ds listed counted false same = λ i. record { done = sym same i; depends = watches ds }
 
+-- and so it is with those that weren't forgotten
+pub done_there : (done : List Bool) (slot : ℕ) (ds : List ListedLists) → all_listed ds → all_counted done ds → (flag : Bool) → slice_set done slot flag ≡ done
+    → ◌≡◌ {A = GraphLists} (record { done = done; depends = watches (there_of ds) }) (with_done (record { done = done; depends = watches (there_of ds) }) slot flag)
+done_there done slot ds listed counted true same =
+    (λ i. record { done = done; depends = mapped_there ds ds refl (completed_in done slot) (all_stay done slot ds listed counted) i })
+    ∙ λ i. record { done = sym same i; depends = map (completed_in (sym same i) slot) (watches (there_of ds)) }
+done_there done slot ds listed counted false same = λ i. record { done = sym same i; depends = watches (there_of ds) }
+
 -- ---- nothing opened
 
 pub filter_none : (test : ℕ → Bool) → ((n : ℕ) → test n ≡ false) → (ns : List ℕ) → filter test ns ≡ []
@@ -81,6 +90,10 @@ opened_none ws opened none =
 
 -- ---- a number among the depends
 
-pub numbers_any : (n : ℕ) (ds : List ListedLists) → list_any (λ (w : Watch). eqb w.depend n) (watches ds) ≡ list_any (has_number n) ds
+pub numbers_any : (n : ℕ) (ds : List ListedLists) → list_any (λ (w : Watch). eqb w.depend n) (watches (there_of ds)) ≡ list_any (has_number n) ds
 numbers_any n [] = refl
-numbers_any n (d ∷ ds) = ap (λ b. eqb d.depend n || b) (numbers_any n ds)
+numbers_any n (d ∷ ds) = by_mark (is_there d) (numbers_any n ds) where
+  by_mark : (m : Bool) → list_any (λ (w : Watch). eqb w.depend n) (watches (there_of ds)) ≡ list_any (has_number n) ds
+      → list_any (λ (w : Watch). eqb w.depend n) (watches (cond m (d ∷ there_of ds) (there_of ds))) ≡ ((m && eqb d.depend n) || list_any (has_number n) ds)
+  by_mark true more = ap (λ b. eqb d.depend n || b) more
+  by_mark false more = more

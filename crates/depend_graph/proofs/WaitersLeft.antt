@@ -1,5 +1,5 @@
 -- Those who wait in groups that aren't met, and what is unmet without them.
-use Rattle.std.proofs.Common.{◌≡◌, ◌≢◌, ℕ, zero, suc, ◌+◌, ◌-◌, Bool, true, false, not, cond, List, [], ◌∷◌, ◌++◌, map, drop, Some, option_map, refl, sym, ap, ◌∙◌, inl, inr, arith}
+use Rattle.std.proofs.Common.{◌≡◌, ℕ, zero, suc, ◌+◌, ◌-◌, Bool, true, false, not, cond, List, [], ◌∷◌, ◌++◌, map, drop, Some, option_map, refl, sym, ap, subst, ◌∙◌, ◌⊎◌, inl, inr, arith}
 use Rattle.std.specs.Prelude.{nat_eq, ◌&&◌}
 use Rattle.std.specs.List.{slice_get, count_by, AllByRecursion, IsDistinct}
 use Rattle.std.proofs.lemmas.Bool.{eq-eqb, ne_eqb}
@@ -14,11 +14,12 @@ use Rattle.farm_types.proofs.Changed.{places}
 use Rattle.farm_types.proofs.Passes.{option_map-from}
 use Rattle.depend_graph.specs.Graph.{IsGroup, Watch, Watched, holds, met_group, met_where, unmet_in, unmet_of}
 use Rattle.depend_graph.specs.Inside.{KeepsDepends, KeepsSums, watches}
-use Rattle.depend_graph.specs.Listed.{ListedLists, watch_by, watched_by, watched_with}
+use Rattle.depend_graph.specs.Listed.{ListedLists, is_there, watch_by, watched_by, watched_with}
 use Rattle.depend_graph.specs.Trial.{is_at, waiters_left}
 use Rattle.depend_graph.specs.declared.listed.Count.{Count}
 use Rattle.depend_graph.proofs.Counts.{count_by-cons, one_if}
 use Rattle.depend_graph.proofs.Freed.{among_head, among_tail, is_among, not_later}
+use Rattle.depend_graph.proofs.Gone.{met_stays, other_empty}
 use Rattle.depend_graph.proofs.Tried.{at_both}
 
 -- ---- group by group
@@ -66,21 +67,22 @@ none_held s (w ∷ ws) =
 met_here : (n s : ℕ) (w : Watch) → w.depend ≡ n → unmet_in s (met_where n w) ≡ 0
 met_here n s w same = ap (λ b. unmet_in s (cond b (record { depend = w.depend; groups = map met_group w.groups }) w)) (eq-eqb w.depend n same) ∙ none_held s w.groups
 
-met_elsewhere : (n : ℕ) (w : Watch) → w.depend ≢ n → met_where n w ≡ w
-met_elsewhere n w apart = ap (λ b. cond b (record { depend = w.depend; groups = map met_group w.groups }) w) (ne_eqb w.depend n apart)
-
-others_stay : (n : ℕ) (ws : List Watch) → ((q : ℕ) (v : Watch) → slice_get ws q ≡ Some v → v.depend ≢ n) → map (met_where n) ws ≡ ws
+others_stay : (n : ℕ) (ws : List Watch) → ((q : ℕ) (v : Watch) → slice_get ws q ≡ Some v → v.depend ≡ n → v.groups ≡ []) → map (met_where n) ws ≡ ws
 others_stay n [] apart = refl
 others_stay n (w ∷ ws) apart =
     let rest = others_stay n ws (λ q v at. apart (suc q) v at) in
-    λ i. met_elsewhere n w (apart 0 w refl) i ∷ rest i
+    λ i. met_stays n w (apart 0 w refl) i ∷ rest i
 
-without_unmet : (n s : ℕ) (ws : List Watch) (p : ℕ) (w : Watch) → slice_get ws p ≡ Some w → w.depend ≡ n → ((q : ℕ) (v : Watch) → slice_get ws q ≡ Some v → v.depend ≡ n → q ≡ p)
+or_empty : (v : Watch) (q p : ℕ) → (q ≡ p → ⊥) → (q ≡ p) ⊎ (v.groups ≡ []) → v.groups ≡ []
+or_empty v q p apart (inl same) = absurd (apart same)
+or_empty v q p apart (inr none) = none
+
+without_unmet : (n s : ℕ) (ws : List Watch) (p : ℕ) (w : Watch) → slice_get ws p ≡ Some w → w.depend ≡ n → ((q : ℕ) (v : Watch) → slice_get ws q ≡ Some v → v.depend ≡ n → (q ≡ p) ⊎ (v.groups ≡ []))
     → unmet_of (map (met_where n) ws) s + unmet_in s w ≡ unmet_of ws s
 without_unmet n s [] p w at named alone = absurd (none-some w at)
 without_unmet n s (v ∷ vs) zero w at named alone =
     let same : v ≡ w = same_Some v w at in
-    let rest : map (met_where n) vs ≡ vs = others_stay n vs (λ q u at_u is. absurd (omega (arith, alone (suc q) u at_u is))) in
+    let rest : map (met_where n) vs ≡ vs = others_stay n vs (λ q u at_u is. or_empty u (suc q) 0 (λ e. absurd (omega (arith, e))) (alone (suc q) u at_u is)) in
     omega (
       arith,
       sum_by-cons (unmet_in s) (met_where n v) (map (met_where n) vs),
@@ -90,23 +92,27 @@ without_unmet n s (v ∷ vs) zero w at named alone =
       ap (λ (us : List Watch). unmet_of us s) rest,
     )
 without_unmet n s (v ∷ vs) (suc p) w at named alone =
-    let stays : met_where n v ≡ v = met_elsewhere n v (λ is. absurd (omega (arith, alone 0 v refl is))) in
+    let stays : met_where n v ≡ v = met_stays n v (λ is. or_empty v 0 (suc p) (λ e. absurd (omega (arith, e))) (alone 0 v refl is)) in
     omega (
       arith,
       sum_by-cons (unmet_in s) (met_where n v) (map (met_where n) vs),
       sum_by-cons (unmet_in s) v vs,
       ap (unmet_in s) stays,
-      without_unmet n s vs p w at named (λ q u at_u is. omega (arith, alone (suc q) u at_u is)),
+      without_unmet n s vs p w at named (λ q u at_u is. earlier u q (alone (suc q) u at_u is)),
     )
+  where
+    earlier : (u : Watch) (q : ℕ) → (suc q ≡ suc p) ⊎ (u.groups ≡ []) → (q ≡ p) ⊎ (u.groups ≡ [])
+    earlier u q (inl same) = inl (omega (arith, same))
+    earlier u q (inr none) = inr none
 
-pub without_counted : (ds : List ListedLists) (unmet : List ℕ) (left : ℕ) → KeepsDepends ds → KeepsSums unmet left ds → (p : ℕ) (d : ListedLists) → slice_get ds p ≡ Some d → (n : ℕ) → d.depend ≡ n → (s : ℕ)
+pub without_counted : (ds : List ListedLists) (unmet : List ℕ) (left : ℕ) → KeepsDepends ds → KeepsSums unmet left ds → (p : ℕ) (d : ListedLists) → slice_get ds p ≡ Some d → is_there d ≡ true → (n : ℕ) → d.depend ≡ n → (s : ℕ)
     → unmet_of (map (met_where n) (watches ds)) s ≡ total_at unmet s - count_by (is_at s) (waiters_left d.groups d.counts)
-without_counted ds unmet left depends sums p d at n named s =
+without_counted ds unmet left depends sums p d at marked n named s =
     let there : slice_get (watches ds) p ≡ Some (watch_by d) = slice_get-map watch_by ds p ∙ ap (option_map watch_by) at in
-    let alone : (q : ℕ) (v : Watch) → slice_get (watches ds) q ≡ Some v → v.depend ≡ n → q ≡ p =
+    let alone : (q : ℕ) (v : Watch) → slice_get (watches ds) q ≡ Some v → v.depend ≡ n → (q ≡ p) ⊎ (v.groups ≡ []) =
     λ q v at_v is.
     let e = option_map-from watch_by (slice_get ds q) v (sym (slice_get-map watch_by ds q) ∙ at_v) in
-    depends.numbers_differ q p e.0 d e.1 at (ap (λ (w : Watch). w.depend) e.2 ∙ (is ∙ sym named))
+    subst (λ (w : Watch). (q ≡ p) ⊎ (w.groups ≡ [])) e.2 (other_empty ds depends q p e.0 d e.1 at marked (ap (λ (w : Watch). w.depend) e.2 ∙ (is ∙ sym named)))
     in
     omega (
       arith,

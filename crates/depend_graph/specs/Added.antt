@@ -1,5 +1,5 @@
 -- A depend that is added: the counts of its groups, and those who wait in them.
-use Rattle.std.specs.Prelude.{ℕ, ◌+◌, Bool, not, List, [], ◌∷◌, count_by, fold, min, if◌then◌else◌}
+use Rattle.std.specs.Prelude.{ℕ, ◌+◌, ◌-◌, Bool, not, List, [], ◌∷◌, count_by, fold, min, if◌then◌else◌}
 use Rattle.farm_types.specs.declared.depend.Group.{Group}
 use Rattle.farm_types.specs.Farm.{changed_at}
 use Rattle.depend_graph.specs.Graph.{is_flagged}
@@ -29,3 +29,18 @@ abbrev pub held_in : List ℕ → List Group → List Count → List ℕ
 held_in unmet [] counts = unmet
 held_in unmet (g ∷ gs) [] = unmet
 held_in unmet (g ∷ gs) (c ∷ cs) = held_in (if c.met then unmet else all_held unmet g.waiters) gs cs
+
+-- ---- a depend that is forgotten
+
+-- the frame in the slot waits in one unmet group fewer
+abbrev pub released : List ℕ → ℕ → List ℕ
+released unmet slot = changed_at unmet slot (λ n. n - 1)
+
+abbrev pub all_released : List ℕ → List ℕ → List ℕ
+all_released unmet waiters = fold released unmet waiters
+
+-- and so it is with each group that isn't met
+abbrev pub released_in : List ℕ → List Group → List Count → List ℕ
+released_in unmet [] counts = unmet
+released_in unmet (g ∷ gs) [] = unmet
+released_in unmet (g ∷ gs) (c ∷ cs) = released_in (if c.met then unmet else all_released unmet g.waiters) gs cs

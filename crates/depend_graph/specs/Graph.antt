@@ -96,6 +96,13 @@ met_where depend d = if d.depend == depend then record d { groups = map met_grou
 abbrev pub without_depend : GraphLists → ℕ → GraphLists
 without_depend g depend = record g { depends = map (met_where depend) g.depends }
 
+abbrev pub is_not_named : ℕ → Watch → Bool
+is_not_named depend d = not (d.depend == depend)
+
+-- the depend goes, with its groups
+abbrev pub forgotten : GraphLists → ℕ → GraphLists
+forgotten g depend = record g { depends = filter (is_not_named depend) g.depends }
+
 -- ---- what opens
 
 abbrev pub numbers_from : ℕ → ℕ → List ℕ

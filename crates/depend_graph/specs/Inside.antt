@@ -1,24 +1,30 @@
 -- What the graph keeps true of its fields.
-use Rattle.std.specs.Prelude.{ℕ, ◌≡◌, ◌≤◌, List, map, length, Some, slice_get}
+use Rattle.std.specs.Prelude.{ℕ, ◌≡◌, ◌≤◌, ◌*◌, List, [], true, map, filter, count_by, length, Some, slice_get}
 use Rattle.std.specs.Vec.{vec_capacity}
 use Rattle.farm_types.specs.declared.limits.TheConstants.{MOST_DEPENDS, MOST_GROUPS, SLOT_LIMIT}
 use Rattle.farm_types.specs.Sums.{total_at}
 use Rattle.depend_graph.specs.Graph.{GraphLists, Watch, groups_left, unmet_of}
-use Rattle.depend_graph.specs.Listed.{IsListed, KeepsCounts, ListedLists, watch_by}
+use Rattle.depend_graph.specs.Listed.{IsListed, KeepsCounts, ListedLists, is_there, watch_by}
 use Rattle.depend_graph.specs.Ways.{KeepsWays, edge_lists}
 use Rattle.depend_graph.specs.declared.graph.Graph.TheInside.{Inside}
 
 abbrev pub watches : List ListedLists → List Watch
 watches depends = map watch_by depends
 
-abbrev pub graph_of : Inside → GraphLists
-graph_of a = record { done = a.done.items; depends = watches a.depends.items }
+-- those that weren't forgotten
+abbrev pub there_of : List ListedLists → List ListedLists
+there_of depends = filter is_there depends
 
--- no two depends have one number, and as many fit as there may be
+abbrev pub graph_of : Inside → GraphLists
+graph_of a = record { done = a.done.items; depends = watches (there_of a.depends.items) }
+
+-- Of one that was forgotten no group is left. No two others have one number, and there are as many as there may be, with at most as many empty places.
 pub record KeepsDepends (depends : List ListedLists) : Type 0 where
   pub listed : (p : ℕ) (d : ListedLists) → slice_get depends p ≡ Some d → IsListed d
-  pub numbers_differ : (p q : ℕ) (d e : ListedLists) → slice_get depends p ≡ Some d → slice_get depends q ≡ Some e → d.depend ≡ e.depend → p ≡ q
-  pub count_within : length depends ≤ MOST_DEPENDS
+  pub gone_empty : (p : ℕ) (d : ListedLists) → slice_get depends p ≡ Some d → d.gone ≡ true → d.groups ≡ []
+  pub numbers_differ : (p q : ℕ) (d e : ListedLists) → slice_get depends p ≡ Some d → slice_get depends q ≡ Some e → is_there d ≡ true → is_there e ≡ true → d.depend ≡ e.depend → p ≡ q
+  pub count_within : count_by is_there depends ≤ MOST_DEPENDS
+  pub places_within : length depends ≤ 2 * MOST_DEPENDS
 
 -- at each slot stands in how many unmet groups its frame waits, and the groups of the depends that aren't satisfied are counted
 pub record KeepsSums (unmet : List ℕ) (left : ℕ) (depends : List ListedLists) : Type 0 where
@@ -34,4 +40,4 @@ pub record KeepsGraph (a : Inside) : Type 0 where
   pub ways : KeepsWays a.first.items (edge_lists a.depends.items)
   pub done_counted : length a.done.items ≡ SLOT_LIMIT
   pub first_counted : length a.first.items ≡ SLOT_LIMIT
-  pub room : MOST_DEPENDS ≤ vec_capacity a.depends
+  pub room : 2 * MOST_DEPENDS ≤ vec_capacity a.depends

@@ -14,9 +14,10 @@ pub record Still : Type 0 where
   pub depend : ℕ
   pub groups : List Group
   pub edges : List Edge
+  pub gone : Bool
 
 abbrev pub still_of : ListedLists → Still
-still_of d = record { depend = d.depend; groups = d.groups; edges = d.edges }
+still_of d = record { depend = d.depend; groups = d.groups; edges = d.edges; gone = d.gone }
 
 -- some group of it is unmet
 abbrev pub is_left : ListedLists → Bool

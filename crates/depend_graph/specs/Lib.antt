@@ -1,5 +1,6 @@
 pub mod Added
 pub mod Aims
+pub mod Bare
 pub mod Flow
 pub mod Graph
 pub mod Inside

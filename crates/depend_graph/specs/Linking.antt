@@ -1,10 +1,25 @@
--- What is true while the edges of the last depend are put on their ways.
-use Rattle.std.specs.Prelude.{ℕ, ◌≡◌, List, [], ◌∷◌, ◌++◌, true, Option, Some, slice_get}
-use Rattle.depend_graph.specs.Ways.{IsEdge, IsLast, is_ahead_of, is_before}
+-- One edge goes to the front of its slot's way, or is taken off it.
+use Rattle.std.specs.Prelude.{ℕ, ◌≡◌, List, Option, None, Some, slice_get, slice_set}
+use Rattle.depend_graph.specs.Bare.{changed_edge, with_next, with_prev}
+use Rattle.depend_graph.specs.Listed.{ListedLists}
 use Rattle.depend_graph.specs.declared.links.Edge.{Edge}
 use Rattle.depend_graph.specs.declared.links.EdgeAt.{EdgeAt}
 
--- the edges before that place of the last depend are linked
-pub record IsLinking (first : List (Option EdgeAt)) (lists : List (List Edge)) (edges : List Edge) (place edge : ℕ) : Type 0 where
-  pub first_kept : (slot : ℕ) (o : Option EdgeAt) → slice_get first slot ≡ Some o → IsLast (lists ++ edges ∷ []) slot (is_ahead_of place edge) o
-  pub next_kept : (p i : ℕ) (e : Edge) → IsEdge (lists ++ edges ∷ []) p i e → is_before p i place edge ≡ true → IsLast (lists ++ edges ∷ []) e.slot (is_ahead_of p i) e.next
+-- the depends with the edge that is named before the one that was first
+abbrev pub linked_in : EdgeAt → Option EdgeAt → List ListedLists → List ListedLists
+linked_in at next depends = changed_edge (Some at) (with_next next) (changed_edge (Some at) (with_prev None) (changed_edge next (with_prev (Some at)) depends))
+
+pub record IsLinked (at : EdgeAt) (slot : ℕ) (first firsts : List (Option EdgeAt)) (olds news : List ListedLists) : Type 0 where
+  pub next : Option EdgeAt
+  pub was_first : slice_get first slot ≡ Some next
+  pub first_is : firsts ≡ slice_set first slot (Some at)
+  pub depends_are : news ≡ linked_in at next olds
+
+-- the depends without the edge on its slot's way
+abbrev pub unlinked_in : Edge → List ListedLists → List ListedLists
+unlinked_in e depends = changed_edge e.next (with_prev e.prev) (changed_edge e.prev (with_next e.next) depends)
+
+-- where none is behind it on the way, the slot's first one is the next
+abbrev pub first_without : ℕ → Option EdgeAt → Option EdgeAt → List (Option EdgeAt) → List (Option EdgeAt)
+first_without slot None next first = slice_set first slot next
+first_without slot (Some at) next first = first

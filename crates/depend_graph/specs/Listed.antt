@@ -7,13 +7,14 @@ use Rattle.depend_graph.specs.Graph.{IsGroup, Watch, Watched, is_flagged}
 use Rattle.depend_graph.specs.declared.links.Edge.{Edge}
 use Rattle.depend_graph.specs.declared.listed.Count.{Count}
 
--- its groups, a count for each of them, an edge for each target of each group, and how many groups aren't met
+-- its groups, a count for each of them, an edge for each target of each group, how many groups aren't met, and whether it was forgotten
 pub record ListedLists : Type 0 where
   pub depend : ℕ
   pub groups : List Group
   pub counts : List Count
   pub edges : List Edge
   pub unmet : ℕ
+  pub gone : Bool
 
 -- ---- the depend that it stands for
 
@@ -29,8 +30,16 @@ watched_with (g ∷ gs) (c ∷ cs) = watched_by g c ∷ watched_with gs cs
 abbrev pub watch_by : ListedLists → Watch
 watch_by d = record { depend = d.depend; groups = watched_with d.groups d.counts }
 
+-- it wasn't forgotten
+abbrev pub is_there : ListedLists → Bool
+is_there d = not d.gone
+
 abbrev pub has_number : ℕ → ListedLists → Bool
-has_number depend d = d.depend == depend
+has_number depend d = is_there d && d.depend == depend
+
+-- all of it that is left once it is forgotten
+abbrev pub emptied : ListedLists → ListedLists
+emptied d = record { depend = d.depend; groups = []; counts = []; edges = []; unmet = 0; gone = true }
 
 -- ---- edges
 

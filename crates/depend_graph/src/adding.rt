@@ -9,6 +9,7 @@ use crate::counting::{count_all, hold_all, unmet_among};
 use crate::graph::Graph;
 use crate::linking::link;
 use crate::listed::Listed;
+use crate::room::make_room;
 use crate::spare::GraphSpare;
 use farm_types::{DependNo, Group, Items};
 
@@ -19,22 +20,22 @@ impl Graph {
         requires can { CanAdd self.old depend groups }
         ensures { self.new ≡ with_depend self.old depend groups }
     {
-        let GraphSpare {
-            mut counts,
-            mut edges,
-        } = spare;
+        make_room(&mut self.first, &mut self.depends);
+        let GraphSpare { mut counts, edges } = spare;
         count_all(&mut counts, groups.as_slice(), self.done.as_slice());
         hold_all(&mut self.unmet, groups.as_slice(), counts.as_slice());
-        link(&mut self.first, &mut edges, self.depends.len() as u32);
         let unmet = unmet_among(counts.as_slice());
         self.left = raised_left(self.left, unmet, groups.len());
+        let place = self.depends.len() as u32;
         self.depends.push_reserved(Listed {
             depend,
             groups,
             counts,
             edges,
             unmet,
+            gone: false,
         });
+        link(&mut self.first, &mut self.depends, place);
     }
 }
 

@@ -4,7 +4,7 @@ ghost use Rattle.std.specs.Prelude.{◌≡◌, ◌<◌, ℕ, false, length, map,
 ghost use Rattle.std.specs.Vec.{vec_capacity};
 ghost use Rattle.depend_graph.specs.Graph.{HasOpened, completed_in, is_flagged, nothing_opened};
 ghost use Rattle.depend_graph.specs.Inside.{KeepsDepends, KeepsSums, watches};
-ghost use Rattle.depend_graph.specs.Listed.{KeepsCounts, ListedLists};
+ghost use Rattle.depend_graph.specs.Listed.{KeepsCounts, ListedLists, is_there};
 ghost use Rattle.depend_graph.specs.Ways.{IsEdge, IsLast, edge_lists, is_ahead_of, is_any};
 ghost use Rattle.depend_graph.specs.declared.links.Edge.{Edge};
 
@@ -35,6 +35,7 @@ pub(crate) fn complete(
     ensures done { done.new.items ≡ slice_set done.old.items slot true }
     ensures watches { watches depends.new.items ≡ map (completed_in (slice_set done.old.items slot true) slot) (watches depends.old.items) }
     ensures edges { edge_lists depends.new.items ≡ edge_lists depends.old.items }
+    ensures there { map is_there depends.new.items ≡ map is_there depends.old.items }
     ensures depends { KeepsDepends depends.new.items }
     ensures sums { KeepsSums unmet.new.items left.new depends.new.items }
     ensures counts { (p : ℕ) (d : ListedLists) → slice_get depends.new.items p ≡ Some d → KeepsCounts (slice_set done.old.items slot true) d }

@@ -1,6 +1,6 @@
 //! A copy of the graph.
 
-ghost use Rattle.std.specs.Prelude.{◌≡◌, ◌≤◌, IfOk};
+ghost use Rattle.std.specs.Prelude.{◌≡◌, ◌*◌, ◌≤◌, IfOk};
 ghost use Rattle.std.specs.Vec.{vec_capacity};
 ghost use Rattle.farm_types.specs.declared.limits.TheConstants.{MOST_DEPENDS};
 
@@ -20,16 +20,17 @@ impl Graph {
             first: Vec::from_slice(alloc, self.first.as_slice())?,
             depends: copy_depends(alloc, self.depends.as_slice())?,
             left: self.left,
+            alloc,
         })
     }
 }
 
-// Equal depends, with room for as many as there may be.
+// Equal depends, with room for as many as there may be, and as many empty places.
 fn copy_depends(alloc: Global, depends: &[Listed]) -> Result<Vec<Listed>, AllocError>
     ensures items { IfOk result (λ copies. copies.items ≡ depends.now) }
-    ensures capacity { IfOk result (λ copies. MOST_DEPENDS ≤ vec_capacity copies) }
+    ensures capacity { IfOk result (λ copies. 2 * MOST_DEPENDS ≤ vec_capacity copies) }
 {
-    let mut copies = Vec::with_capacity(alloc, MOST_DEPENDS as usize)?;
+    let mut copies = Vec::with_capacity(alloc, 2 * MOST_DEPENDS as usize)?;
     for listed in depends {
         copies.push(copy_listed(alloc, listed)?)?;
     }
@@ -46,6 +47,7 @@ fn copy_listed(alloc: Global, listed: &Listed) -> Result<Listed, AllocError>
         counts: Vec::from_slice(alloc, listed.counts.as_slice())?,
         edges: Vec::from_slice(alloc, listed.edges.as_slice())?,
         unmet: listed.unmet,
+        gone: listed.gone,
     })
 }
 

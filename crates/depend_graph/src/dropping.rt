@@ -1,6 +1,6 @@
 //! A depend is dropped: all its groups are met.
 
-ghost use Rattle.std.specs.Prelude.{◌≡◌, ◌+◌, ◌≤◌, ◌<◌, ℕ, List, Bool, Some, count_by, if◌then◌else◌, length, map, slice_get, true};
+ghost use Rattle.std.specs.Prelude.{◌≡◌, ◌+◌, ◌*◌, ◌≤◌, ◌<◌, ℕ, List, Bool, None, Some, IfSome, count_by, if◌then◌else◌, length, map, slice_get, false, true};
 ghost use Rattle.std.specs.List.{list_any};
 ghost use Rattle.std.specs.Vec.{vec_capacity};
 ghost use Rattle.farm_types.specs.declared.depend.Group.{Group};
@@ -8,7 +8,7 @@ ghost use Rattle.farm_types.specs.declared.limits.TheConstants.{MOST_DEPENDS, MO
 ghost use Rattle.depend_graph.specs.Flow.{IsGroupAt, flow_of, is_last_of, is_positive, met_flow};
 ghost use Rattle.depend_graph.specs.Graph.{HasOpened, met_where, nothing_opened};
 ghost use Rattle.depend_graph.specs.Inside.{KeepsDepends, KeepsSums, watches};
-ghost use Rattle.depend_graph.specs.Listed.{KeepsCounts, ListedLists, has_number};
+ghost use Rattle.depend_graph.specs.Listed.{KeepsCounts, ListedLists, has_number, is_there};
 ghost use Rattle.depend_graph.specs.Ways.{edge_lists};
 ghost use Rattle.depend_graph.specs.declared.listed.Count.{Count};
 
@@ -17,53 +17,64 @@ use crate::listed::Listed;
 use crate::opened::Opened;
 use farm_types::DependNo;
 
-/// The place of the depend of that number. Where depends are numbered from 1 on as they come, it is found at once.
+/// The place of the depend of that number.
 pub(crate) fn place_of(depends: &[Listed], depend: DependNo) -> u32
     requires there { list_any (has_number depend) depends.now ≡ true }
-    requires within { length depends.now ≤ MOST_DEPENDS }
+    requires within { length depends.now ≤ 2 * MOST_DEPENDS }
     ensures there { result < length depends.now }
-    ensures number { (d : ListedLists) → slice_get depends.now result ≡ Some d → d.depend ≡ depend }
+    ensures number { (d : ListedLists) → slice_get depends.now result ≡ Some d → has_number depend d ≡ true }
 {
-    let likely = depend.0.saturating_sub(1);
-    if is_number_at(depends, likely, depend) {
-        return likely;
+    match find_place(depends, depend) {
+        Some(place) => place,
+        None => unreachable!(),
     }
-    last_place_of(depends, depend)
+}
+
+/// The place of the depend of that number, if it is there. Where numbers rise, it is found by halves, and else looked for among all.
+pub(crate) fn find_place(depends: &[Listed], depend: DependNo) -> Option<u32>
+    requires within { length depends.now ≤ 2 * MOST_DEPENDS }
+    ensures there { IfSome result (λ place. place < length depends.now) }
+    ensures number { IfSome result (λ place. (d : ListedLists) → slice_get depends.now place ≡ Some d → has_number depend d ≡ true) }
+    ensures none { result ≡ None → list_any (has_number depend) depends.now ≡ false }
+{
+    let likely = depends.partition_point(|listed| listed.number() < depend);
+    if is_number_at(depends, likely, depend) {
+        return Some(likely as u32);
+    }
+    first_place_of(depends, depend)
 }
 
 // Whether a depend of that number stands at the place.
-fn is_number_at(depends: &[Listed], place: u32, depend: DependNo) -> bool
+fn is_number_at(depends: &[Listed], place: usize, depend: DependNo) -> bool
     ensures there { result ≡ true → place < length depends.now }
-    ensures number { result ≡ true → (d : ListedLists) → slice_get depends.now place ≡ Some d → d.depend ≡ depend }
+    ensures number { result ≡ true → (d : ListedLists) → slice_get depends.now place ≡ Some d → has_number depend d ≡ true }
 {
-    match depends.get(place as usize) {
+    match depends.get(place) {
         None => false,
         Some(listed) => is_number_of(listed, depend),
     }
 }
 
-// The place of the depend of that number, looked for from the last one on.
-fn last_place_of(depends: &[Listed], depend: DependNo) -> u32
-    requires there { list_any (has_number depend) depends.now ≡ true }
-    requires within { length depends.now ≤ MOST_DEPENDS }
-    ensures there { result < length depends.now }
-    ensures number { (d : ListedLists) → slice_get depends.now result ≡ Some d → d.depend ≡ depend }
+// The place of the first depend of that number.
+fn first_place_of(depends: &[Listed], depend: DependNo) -> Option<u32>
+    requires within { length depends.now ≤ 2 * MOST_DEPENDS }
+    ensures there { IfSome result (λ place. place < length depends.now) }
+    ensures number { IfSome result (λ place. (d : ListedLists) → slice_get depends.now place ≡ Some d → has_number depend d ≡ true) }
+    ensures none { result ≡ None → list_any (has_number depend) depends.now ≡ false }
 {
-    let mut place = depends.len();
-    while place > 0 {
-        place -= 1;
+    for place in 0..depends.len() {
         if is_number_of(&depends[place], depend) {
-            return place as u32;
+            return Some(place as u32);
         }
     }
-    unreachable!()
+    None
 }
 
 // Whether the depend has that number.
 fn is_number_of(listed: &Listed, depend: DependNo) -> bool
     ensures { result ≡ has_number depend listed.now }
 {
-    listed.number() == depend
+    listed.is_there() && listed.number() == depend
 }
 
 /// All groups of the depend at a place are met, with those who wait in them.
@@ -78,8 +89,9 @@ pub(crate) fn meet_all(
     requires opened { opened.old ≡ nothing_opened }
     requires depends { KeepsDepends depends.old.items }
     requires sums { KeepsSums unmet.old.items left.old depends.old.items }
-    ensures watches { (d : ListedLists) → slice_get depends.old.items place ≡ Some d → watches depends.new.items ≡ map (met_where d.depend) (watches depends.old.items) }
+    ensures watches { (d : ListedLists) → slice_get depends.old.items place ≡ Some d → is_there d ≡ true → watches depends.new.items ≡ map (met_where d.depend) (watches depends.old.items) }
     ensures edges { edge_lists depends.new.items ≡ edge_lists depends.old.items }
+    ensures there { map is_there depends.new.items ≡ map is_there depends.old.items }
     ensures depends { KeepsDepends depends.new.items }
     ensures sums { KeepsSums unmet.new.items left.new depends.new.items }
     ensures counts { (done : List Bool) → ((p : ℕ) (d : ListedLists) → slice_get depends.old.items p ≡ Some d → KeepsCounts done d) → (p : ℕ) (d : ListedLists) → slice_get depends.new.items p ≡ Some d → KeepsCounts done d }

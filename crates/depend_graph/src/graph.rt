@@ -14,7 +14,8 @@ use std::alloc::{AllocError, Global};
 use std::marker::Model;
 
 /// The groups of depends, which of them are met, and which frames are done. Beside them are kept by slot in how many unmet groups the frame waits,
-/// and the way along the groups that it is a target of: at each slot the edge that was added last, and at each edge the one before it.
+/// and the way along the groups that it is a target of: at each slot the edge that was added last, and at each edge the one before it and the one
+/// behind it. A depend that is forgotten leaves an empty place.
 #[derive(Debug, Drop)]
 pub struct Graph {
     pub(crate) done: Vec<bool>,
@@ -22,6 +23,7 @@ pub struct Graph {
     pub(crate) first: Vec<Option<EdgeAt>>,
     pub(crate) depends: Vec<Listed>,
     pub(crate) left: u32,
+    pub(crate) alloc: Global,
 }
 
 impl Model for Graph {
@@ -45,8 +47,9 @@ impl Graph {
             done: vec![in alloc; false; SLOT_LIMIT as usize]?,
             unmet: vec![in alloc; 0; SLOT_LIMIT as usize]?,
             first: no_edges(alloc)?,
-            depends: Vec::with_capacity(alloc, MOST_DEPENDS as usize)?,
+            depends: Vec::with_capacity(alloc, 2 * MOST_DEPENDS as usize)?,
             left: 0,
+            alloc,
         })
     }
 

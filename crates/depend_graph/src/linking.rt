@@ -1,40 +1,106 @@
 //! The edges of a depend are put on the ways of their slots.
 
-ghost use Rattle.std.specs.Prelude.{◌≡◌, ◌<◌, ◌^◌, ◌++◌, ◌∷◌, [], ℕ, List, Some, length, map, slice_get, slice_set};
-ghost use Rattle.depend_graph.specs.Listed.{aim_of};
-ghost use Rattle.depend_graph.specs.Ways.{KeepsWays};
+ghost use Rattle.std.specs.Prelude.{◌≡◌, ◌<◌, ◌+◌, ◌^◌, ℕ, Some, length, map, slice_get, slice_set};
+ghost use Rattle.std.specs.Vec.{vec_capacity};
+ghost use Rattle.farm_types.specs.declared.limits.TheConstants.{SLOT_LIMIT};
+ghost use Rattle.depend_graph.specs.Bare.{bare_of, changed_edge, with_next, with_prev};
+ghost use Rattle.depend_graph.specs.Flow.{IsEdgeAt};
+ghost use Rattle.depend_graph.specs.Linking.{IsLinked};
+ghost use Rattle.depend_graph.specs.Listed.{IsListed, ListedLists};
+ghost use Rattle.depend_graph.specs.Ways.{KeepsWaysOf, edge_lists, is_ahead_of};
 ghost use Rattle.depend_graph.specs.declared.links.Edge.{Edge};
 
-use crate::links::{Edge, EdgeAt};
+use crate::changing::first_of;
+use crate::flow::edge_in;
+use crate::links::EdgeAt;
+use crate::listed::Listed;
+use farm_types::Slot;
 
-/// The edges of the depend at a place, which is behind all others, go to the front of their slots' ways, each before the one before it.
-pub(crate) fn link(first: &mut Vec<Option<EdgeAt>>, edges: &mut Vec<Edge>, place: u32)
-    requires edges { length edges.old.items < 2 ^ 32 }
-    requires slots { (i : ℕ) (e : Edge) → slice_get edges.old.items i ≡ Some e → e.slot < length first.old.items }
-    ensures aims { map aim_of edges.new.items ≡ map aim_of edges.old.items }
-    ensures first { length first.new.items ≡ length first.old.items }
-    ensures ways { (lists : List (List Edge)) → length lists ≡ place → KeepsWays first.old.items lists → KeepsWays first.new.items (lists ++ edges.new.items ∷ []) }
+/// The edges of the depend at a place go to the front of their slots' ways, where all edges of those before it are on them.
+pub(crate) fn link(first: &mut Vec<Option<EdgeAt>>, depends: &mut Vec<Listed>, place: u32)
+    requires place { place < length depends.old.items }
+    requires listed { (p : ℕ) (d : ListedLists) → slice_get depends.old.items p ≡ Some d → IsListed d }
+    requires first { length first.old.items ≡ SLOT_LIMIT }
+    requires ways { KeepsWaysOf (is_ahead_of place 0) first.old.items (edge_lists depends.old.items) }
+    ensures bare { map bare_of depends.new.items ≡ map bare_of depends.old.items }
+    ensures first { length first.new.items ≡ SLOT_LIMIT }
+    ensures ways { KeepsWaysOf (is_ahead_of (place + 1) 0) first.new.items (edge_lists depends.new.items) }
+    ensures capacity { vec_capacity depends.new ≡ vec_capacity depends.old }
 {
-    for edge in 0..edges.len() {
-        link_one(
-            first,
-            &mut edges[edge],
-            EdgeAt {
-                depend: place,
-                edge: edge as u32,
-            },
-        );
+    let count = edge_count_at(depends.as_slice(), place);
+    for edge in 0..count {
+        let at = EdgeAt {
+            depend: place,
+            edge,
+        };
+        link_one(first, depends, at);
     }
 }
 
-// The edge goes to the front of its slot's way.
-fn link_one(first: &mut Vec<Option<EdgeAt>>, edge: &mut Edge, at: EdgeAt)
-    requires { edge.old.slot < length first.old.items }
-    ensures edge { slice_get first.old.items edge.old.slot ≡ Some edge.new.next }
-    ensures aim { aim_of edge.new ≡ aim_of edge.old }
-    ensures first { first.new.items ≡ slice_set first.old.items edge.old.slot (Some at) }
+/// How many edges the depend at a place has.
+pub(crate) fn edge_count_at(depends: &[Listed], place: u32) -> u32
+    requires place { place < length depends.now }
+    requires within { (d : ListedLists) → slice_get depends.now place ≡ Some d → length d.edges < 2 ^ 32 }
+    ensures { (d : ListedLists) → slice_get depends.now place ≡ Some d → result ≡ length d.edges }
 {
-    let place = edge.slot.0 as usize;
-    edge.next = first[place];
-    first[place] = Some(at);
+    edge_count_of(&depends[place as usize])
+}
+
+// How many edges the depend has.
+fn edge_count_of(listed: &Listed) -> u32
+    requires { length listed.now.edges < 2 ^ 32 }
+    ensures { result ≡ length listed.now.edges }
+{
+    listed.edge_count() as u32
+}
+
+// The edge goes to the front of its slot's way.
+fn link_one(first: &mut Vec<Option<EdgeAt>>, depends: &mut Vec<Listed>, at: EdgeAt)
+    requires there { IsEdgeAt depends.old.items at }
+    requires slot { (e : Edge) (d : ListedLists) → slice_get depends.old.items at.depend ≡ Some d → slice_get d.edges at.edge ≡ Some e → e.slot < length first.old.items }
+    ensures linked { (e : Edge) (d : ListedLists) → slice_get depends.old.items at.depend ≡ Some d → slice_get d.edges at.edge ≡ Some e → IsLinked at e.slot first.old.items first.new.items depends.old.items depends.new.items }
+    ensures capacity { vec_capacity depends.new ≡ vec_capacity depends.old }
+{
+    let edge = edge_in(depends.as_slice(), at);
+    let next = first_of(first.as_slice(), edge.slot);
+    set_prev_in(depends, next, Some(at));
+    set_prev_in(depends, Some(at), None);
+    set_next_in(depends, Some(at), next);
+    set_first(first, edge.slot, Some(at));
+}
+
+/// The slot's way begins with that edge.
+pub(crate) fn set_first(first: &mut Vec<Option<EdgeAt>>, slot: Slot, at: Option<EdgeAt>)
+    requires { slot < length first.old.items }
+    ensures { first.new.items ≡ slice_set first.old.items slot at }
+{
+    first[slot.0 as usize] = at;
+}
+
+/// The way goes on from the edge that is named to another one.
+pub(crate) fn set_next_in(depends: &mut Vec<Listed>, at: Option<EdgeAt>, next: Option<EdgeAt>)
+    ensures depends { depends.new.items ≡ changed_edge at (with_next next) depends.old.items }
+    ensures capacity { vec_capacity depends.new ≡ vec_capacity depends.old }
+{
+    let Some(at) = at else {
+        return;
+    };
+    let place = at.depend as usize;
+    if place < depends.len() {
+        depends[place].set_next(at.edge, next);
+    }
+}
+
+/// The way comes to the edge that is named from another one.
+pub(crate) fn set_prev_in(depends: &mut Vec<Listed>, at: Option<EdgeAt>, prev: Option<EdgeAt>)
+    ensures depends { depends.new.items ≡ changed_edge at (with_prev prev) depends.old.items }
+    ensures capacity { vec_capacity depends.new ≡ vec_capacity depends.old }
+{
+    let Some(at) = at else {
+        return;
+    };
+    let place = at.depend as usize;
+    if place < depends.len() {
+        depends[place].set_prev(at.edge, prev);
+    }
 }

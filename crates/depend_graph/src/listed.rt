@@ -5,12 +5,14 @@ ghost use Rattle.farm_types.specs.declared.limits.TheConstants.{MOST_GROUPS};
 ghost use Rattle.farm_types.specs.declared.depend.Group.{Group};
 ghost use Rattle.farm_types.specs.Farm.{changed_at};
 ghost use Rattle.depend_graph.specs.Flow.{is_due, lowered, met_at, raised};
-ghost use Rattle.depend_graph.specs.Listed.{is_enough};
+ghost use Rattle.depend_graph.specs.Bare.{edge_changed, with_next, with_prev};
+ghost use Rattle.depend_graph.specs.Listed.{emptied, is_enough, is_there};
 ghost use Rattle.depend_graph.specs.Trial.{becomes_due};
 ghost use Rattle.depend_graph.specs.declared.listed.Count.{Count};
 
-use crate::links::Edge;
+use crate::links::{Edge, EdgeAt};
 use farm_types::{DependNo, Group, Items, Slot};
+use std::alloc::Global;
 use std::marker::Model;
 
 /// How many targets of a group aren't done, and whether the group is met.
@@ -20,7 +22,8 @@ pub(crate) struct Count {
     pub(crate) met: bool,
 }
 
-/// A depend: its groups, a count for each of them, an edge for each target of each group in order, and how many groups aren't met.
+/// A depend: its groups, a count for each of them, an edge for each target of each group in order, and how many groups aren't met. One that was
+/// forgotten keeps its number, by which its place is found, and nothing else.
 #[derive(Debug, Drop)]
 pub(crate) struct Listed {
     pub(crate) depend: DependNo,
@@ -28,6 +31,7 @@ pub(crate) struct Listed {
     pub(crate) counts: Vec<Count>,
     pub(crate) edges: Vec<Edge>,
     pub(crate) unmet: u32,
+    pub(crate) gone: bool,
 }
 
 impl Model for Listed {
@@ -53,6 +57,20 @@ impl Listed {
         ensures { result ≡ self.now.unmet }
     {
         self.unmet
+    }
+
+    /// Whether it wasn't forgotten.
+    pub(crate) fn is_there(&self) -> bool
+        ensures { result ≡ is_there self.now }
+    {
+        !self.gone
+    }
+
+    /// How many edges there are.
+    pub(crate) fn edge_count(&self) -> usize
+        ensures { result ≡ length self.now.edges }
+    {
+        self.edges.len()
     }
 
     /// How many groups there are.
@@ -133,6 +151,37 @@ impl Listed {
         if place < self.counts.len() {
             self.counts[place].undone += 1;
         }
+    }
+
+    /// The way goes on from the edge to that one.
+    pub(crate) fn set_next(&mut self, edge: u32, next: Option<EdgeAt>)
+        ensures { self.new ≡ edge_changed edge (with_next next) self.old }
+    {
+        let place = edge as usize;
+        if place < self.edges.len() {
+            self.edges[place].next = next;
+        }
+    }
+
+    /// The way comes to the edge from that one.
+    pub(crate) fn set_prev(&mut self, edge: u32, prev: Option<EdgeAt>)
+        ensures { self.new ≡ edge_changed edge (with_prev prev) self.old }
+    {
+        let place = edge as usize;
+        if place < self.edges.len() {
+            self.edges[place].prev = prev;
+        }
+    }
+
+    /// It is forgotten: its number stays.
+    pub(crate) fn empty(&mut self, alloc: Global)
+        ensures { self.new ≡ emptied self.old }
+    {
+        self.groups = Items::new(alloc);
+        self.counts = Vec::new(alloc);
+        self.edges = Vec::new(alloc);
+        self.unmet = 0;
+        self.gone = true;
     }
 
     /// The group is met.

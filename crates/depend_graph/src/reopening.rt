@@ -1,10 +1,10 @@
 //! A frame isn't done any more: the groups that it is a target of.
 
-ghost use Rattle.std.specs.Prelude.{◌≡◌, ◌<◌, ℕ, Some, false, length, slice_get, slice_set, true};
+ghost use Rattle.std.specs.Prelude.{◌≡◌, ◌<◌, ℕ, Some, false, length, map, slice_get, slice_set, true};
 ghost use Rattle.std.specs.Vec.{vec_capacity};
 ghost use Rattle.depend_graph.specs.Graph.{is_flagged};
 ghost use Rattle.depend_graph.specs.Inside.{KeepsDepends, watches};
-ghost use Rattle.depend_graph.specs.Listed.{KeepsCounts, ListedLists};
+ghost use Rattle.depend_graph.specs.Listed.{KeepsCounts, ListedLists, is_there};
 ghost use Rattle.depend_graph.specs.Ways.{IsEdge, IsLast, edge_lists, is_ahead_of, is_any};
 ghost use Rattle.depend_graph.specs.declared.links.Edge.{Edge};
 
@@ -29,6 +29,7 @@ pub(crate) fn reopen(
     ensures done { done.new.items ≡ slice_set done.old.items slot false }
     ensures watches { watches depends.new.items ≡ watches depends.old.items }
     ensures edges { edge_lists depends.new.items ≡ edge_lists depends.old.items }
+    ensures there { map is_there depends.new.items ≡ map is_there depends.old.items }
     ensures depends { KeepsDepends depends.new.items }
     ensures counts { (p : ℕ) (d : ListedLists) → slice_get depends.new.items p ≡ Some d → KeepsCounts (slice_set done.old.items slot false) d }
     ensures capacity { vec_capacity depends.new ≡ vec_capacity depends.old }

@@ -77,7 +77,7 @@ fn push_edges(edges: &mut Vec<Edge>, group: u32, targets: &[Slot]) -> Result<(),
 
 // An edge more.
 fn push_edge(edges: &mut Vec<Edge>, group: u32, target: &Slot) -> Result<(), AllocError>
-    ensures items { OnOk result (edges.new.items ≡ edges.old.items ++ record { slot = target.now; group = group; next = None } ∷ []) }
+    ensures items { OnOk result (edges.new.items ≡ edges.old.items ++ record { slot = target.now; group = group; next = None; prev = None } ∷ []) }
     ensures within { OnOk result (length edges.new.items < 2 ^ 32) }
 {
     if edges.len() >= u32::MAX as usize {
@@ -87,6 +87,7 @@ fn push_edge(edges: &mut Vec<Edge>, group: u32, target: &Slot) -> Result<(), All
         slot: *target,
         group,
         next: None,
+        prev: None,
     })?;
     Ok(())
 }

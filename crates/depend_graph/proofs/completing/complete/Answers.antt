@@ -5,6 +5,8 @@ use Rattle.depend_graph.specs.Passing.{IsPassing}
 use Rattle.depend_graph.specs.declared.links.EdgeAt.{EdgeAt}
 use Rattle.depend_graph.proofs.EdgeLists.{edge_lists-still}
 use Rattle.depend_graph.proofs.Finished.{completed_all, depends_kept, end_counted, opened_all, start_passing}
+use Rattle.depend_graph.proofs.Gone.{few_left}
+use Rattle.depend_graph.proofs.Still.{there_still}
 use Rattle.depend_graph.proofs.Walked.{place_there, satisfied_fits, step_falls, step_passed}
 use Rattle.depend_graph.proofs.completing.complete.Goals as goal
 
@@ -15,7 +17,7 @@ loop-next-init c =
     record {
       passing =
           subst (λ (o : OpenedLists). IsPassing c.args.done.now.items c.args.slot olds c.args.first (flow_of olds c.args.unmet.now.items c.args.left.now o)) (sym r.opened)
-          (start_passing c.args.done.now.items c.args.slot olds c.args.first r.first c.args.unmet.now.items c.args.left.now r.undone r.depends.listed r.depends.count_within r.sums r.counts);
+          (start_passing c.args.done.now.items c.args.slot olds c.args.first r.first c.args.unmet.now.items c.args.left.now r.undone r.depends.listed (few_left olds r.depends) r.sums r.counts);
       capacity = refl;
     }
 
@@ -66,3 +68,6 @@ pub returns-clause-opened : goal.returns-clause-opened
 returns-clause-opened c =
     opened_all c.args.depends.now.items _ c.args.unmet.now.items c.args.left.now c.sort.new.self c.loop-next.invariant.passing.flow c.requires.sums c.sort.ensures.sorted c.sort.ensures.moved
     c.sort.ensures.satisfied
+
+pub returns-clause-there : goal.returns-clause-there
+returns-clause-there c = there_still c.args.depends.now.items c.loop-next.depends.items c.loop-next.invariant.passing.flow.structure

@@ -8,6 +8,7 @@ use Rattle.depend_graph.specs.Passing.{IsDropping}
 use Rattle.depend_graph.proofs.Dropped.{dropped_all, group_place, start_dropping, step_dropped}
 use Rattle.depend_graph.proofs.EdgeLists.{edge_lists-still}
 use Rattle.depend_graph.proofs.Finished.{depends_kept, opened_all}
+use Rattle.depend_graph.proofs.Still.{there_still}
 use Rattle.depend_graph.proofs.Walked.{satisfied_fits}
 use Rattle.depend_graph.proofs.dropping.meet_all.Goals as goal
 
@@ -50,10 +51,10 @@ loop-group-preserved c =
     }
 
 pub returns-clause-watches : goal.returns-clause-watches
-returns-clause-watches c = λ d at.
+returns-clause-watches c = λ d at there.
     let count = c.count_at-count.ensures d (ap (λ (ds : List ListedLists). slice_get ds c.args.place) c.as_slice.ensures.value ∙ at) in
     let ended : c.loop-group.group ≡ length d.groups = omega (arith, c.loop-group-test.false, c.loop-group.auto.group-end) in
-    dropped_all c.args.depends.now.items c.args.place c.loop-group.group _ c.loop-group.invariant.dropping c.requires.depends d at ended
+    dropped_all c.args.depends.now.items c.args.place c.loop-group.group _ c.loop-group.invariant.dropping c.requires.depends d at there ended
 
 pub returns-clause-edges : goal.returns-clause-edges
 returns-clause-edges c = edge_lists-still c.args.depends.now.items c.loop-group.depends.items c.loop-group.invariant.dropping.flow.structure
@@ -65,3 +66,6 @@ pub returns-clause-opened : goal.returns-clause-opened
 returns-clause-opened c =
     opened_all c.args.depends.now.items _ c.args.unmet.now.items c.args.left.now c.sort.new.self c.loop-group.invariant.dropping.flow c.requires.sums c.sort.ensures.sorted c.sort.ensures.moved
     c.sort.ensures.satisfied
+
+pub returns-clause-there : goal.returns-clause-there
+returns-clause-there c = there_still c.args.depends.now.items c.loop-group.depends.items c.loop-group.invariant.dropping.flow.structure

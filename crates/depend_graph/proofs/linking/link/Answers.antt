@@ -1,49 +1,60 @@
-use Rattle.std.proofs.Common.{rules, ◌≡◌, ℕ, List, Option, Some, length, refl, ap, subst, ◌∙◌, arith}
+use Rattle.std.proofs.Common.{◌≡◌, List, Option, length, map, sym, ap, ◌∙◌, arith}
 use Rattle.std.specs.List.{slice_get}
 use Rattle.std.proofs.Math.ListN.{length-set}
-use Rattle.std.proofs.lemmas.Option.{slice_get_read}
-use Rattle.depend_graph.specs.Aims.{Aim}
-use Rattle.depend_graph.specs.Linking.{IsLinking}
+use Rattle.farm_types.proofs.Lists.{slice_get_below}
+use Rattle.depend_graph.specs.Bare.{bare_of}
+use Rattle.depend_graph.specs.Listed.{ListedLists}
+use Rattle.depend_graph.specs.Ways.{edge_lists, place_at}
 use Rattle.depend_graph.specs.declared.links.EdgeAt.{EdgeAt}
-use Rattle.depend_graph.proofs.Linked.{aim_there, aims_long, aims_set, begin_linking, end_linking, link_step}
+use Rattle.depend_graph.proofs.Bared.{listed_bare}
+use Rattle.depend_graph.proofs.EdgeLists.{edge_is, edges_listed}
+use Rattle.depend_graph.proofs.LinkSteps.{linked_bare, linked_ways}
+use Rattle.depend_graph.proofs.Standing.{edge_stands, long_there, slot_low, stands}
+use Rattle.depend_graph.proofs.Wanted.{next_place}
 use Rattle.depend_graph.proofs.linking.link.Goals as goal
 
-pub loop-edge-init : goal.loop-edge-init
-loop-edge-init c =
-    record {
-      aims = refl;
-      first = refl;
-      linking = λ lists long ways.
-          subst (λ (place : ℕ). IsLinking c.args.first.now.items lists c.args.edges.now.items place 0) long (begin_linking c.args.first.now.items lists c.args.edges.now.items ways);
-    }
+pub edge_count_at-count-requires-clause-within : goal.edge_count_at-count-requires-clause-within
+edge_count_at-count-requires-clause-within c = λ d at. (c.requires.listed c.args.place d (ap (λ (ds : List ListedLists). slice_get ds c.args.place) (sym c.as_slice.ensures.value) ∙ at)).edges_within
 
-pub link_one-requires : goal.link_one-requires
-link_one-requires c =
-    let edges = c.loop-edge.edges.items in
-    let e = c.index_mut.result.now in
-    let long : length c.args.edges.now.items ≡ c.len-edge-end.result = search (rules, arith) in
-    let as_long = aims_long edges c.args.edges.now.items c.loop-edge.invariant.aims in
-    let at : slice_get edges c.loop-edge.edge ≡ Some e = slice_get_read edges (length edges) c.loop-edge.edge e refl (omega (arith, c.loop-edge-test.true)) c.index_mut.ensures.value in
-    let old = aim_there edges c.args.edges.now.items c.loop-edge.invariant.aims c.loop-edge.edge e at in
-    omega (arith, c.requires.slots c.loop-edge.edge old.0 old.1, ap (λ (a : Aim). a.slot) old.2, c.loop-edge.invariant.first)
+pub link_one-requires-clause-there : goal.link_one-requires-clause-there
+link_one-requires-clause-there c =
+    let olds = c.args.depends.now.items in
+    let mids = c.loop-edge.depends.items in
+    let place = c.args.place in
+    let d = slice_get_below olds place c.requires.place in
+    let count : c.edge_count_at-count.result ≡ length d.0.edges = c.edge_count_at-count.ensures d.0 (ap (λ (ds : List ListedLists). slice_get ds place) c.as_slice.ensures.value ∙ d.1) in
+    let s = stands olds mids c.loop-edge.invariant.bare place d.0 d.1 c.loop-edge.edge (omega (arith, c.loop-edge-test.true, count)) in
+    edge_stands mids (listed_bare olds mids c.loop-edge.invariant.bare c.requires.listed) place c.loop-edge.edge s.0 s.2 s.1 s.3
+
+pub link_one-requires-clause-slot : goal.link_one-requires-clause-slot
+link_one-requires-clause-slot c = λ e d at at_e.
+    let olds = c.args.depends.now.items in
+    let mids = c.loop-edge.depends.items in
+    let low = slot_low mids (listed_bare olds mids c.loop-edge.invariant.bare c.requires.listed) c.args.place c.loop-edge.edge d e at at_e in
+    omega (arith, low, c.loop-edge.invariant.first)
 
 pub loop-edge-preserved : goal.loop-edge-preserved
 loop-edge-preserved c =
-    let edges = c.loop-edge.edges.items in
-    let e = c.index_mut.result.now in
-    let long : length c.args.edges.now.items ≡ c.len-edge-end.result = search (rules, arith) in
-    let as_long = aims_long edges c.args.edges.now.items c.loop-edge.invariant.aims in
-    let at : slice_get edges c.loop-edge.edge ≡ Some e = slice_get_read edges (length edges) c.loop-edge.edge e refl (omega (arith, c.loop-edge-test.true)) c.index_mut.ensures.value in
+    let olds = c.args.depends.now.items in
+    let mids = c.loop-edge.depends.items in
+    let place = c.args.place in
+    let d = slice_get_below olds place c.requires.place in
+    let count : c.edge_count_at-count.result ≡ length d.0.edges = c.edge_count_at-count.ensures d.0 (ap (λ (ds : List ListedLists). slice_get ds place) c.as_slice.ensures.value ∙ d.1) in
+    let s = stands olds mids c.loop-edge.invariant.bare place d.0 d.1 c.loop-edge.edge (omega (arith, c.loop-edge-test.true, count)) in
+    let links = c.link_one.ensures.linked s.2 s.0 s.1 s.3 in
     record {
-      aims = aims_set edges c.loop-edge.edge e c.link_one.new.edge at c.link_one.ensures.aim ∙ c.loop-edge.invariant.aims;
-      first = ap (λ (fs : List (Option EdgeAt)). length fs) c.link_one.ensures.first ∙ (length-set c.loop-edge.first.items e.slot _ ∙ c.loop-edge.invariant.first);
-      linking = λ lists long ways.
-          link_step c.loop-edge.first.items lists edges c.args.place c.loop-edge.edge long (c.loop-edge.invariant.linking lists long ways) e c.link_one.new.edge at c.link_one.ensures.edge c.link_one.ensures.aim
-          c.link_one.new.first.items c.link_one.ensures.first;
+      bare = ap (map bare_of) links.depends_are ∙ (linked_bare (place_at place c.loop-edge.edge) links.next mids ∙ c.loop-edge.invariant.bare);
+      first = ap (λ (fs : List (Option EdgeAt)). length fs) links.first_is ∙ (length-set c.loop-edge.first.items s.2.slot _ ∙ c.loop-edge.invariant.first);
+      ways = linked_ways place c.loop-edge.edge s.2 c.loop-edge.first.items c.link_one.new.first.items mids c.link_one.new.depends.items (edge_is mids place c.loop-edge.edge s.0 s.2 s.1 s.3) links c.loop-edge.invariant.ways;
+      capacity = c.link_one.ensures.capacity ∙ c.loop-edge.invariant.capacity;
     }
 
 pub returns-clause-ways : goal.returns-clause-ways
-returns-clause-ways c = λ lists long ways.
-    let count : length c.args.edges.now.items ≡ c.len-edge-end.result = search (rules, arith) in
-    let as_long = aims_long c.loop-edge.edges.items c.args.edges.now.items c.loop-edge.invariant.aims in
-    end_linking c.loop-edge.first.items lists c.loop-edge.edges.items c.args.place c.loop-edge.edge long (omega (arith, c.loop-edge-test.false)) (c.loop-edge.invariant.linking lists long ways)
+returns-clause-ways c =
+    let olds = c.args.depends.now.items in
+    let mids = c.loop-edge.depends.items in
+    let place = c.args.place in
+    let d = slice_get_below olds place c.requires.place in
+    let count : c.edge_count_at-count.result ≡ length d.0.edges = c.edge_count_at-count.ensures d.0 (ap (λ (ds : List ListedLists). slice_get ds place) c.as_slice.ensures.value ∙ d.1) in
+    let x = long_there olds mids c.loop-edge.invariant.bare place d.0 d.1 in
+    next_place c.loop-edge.first.items (edge_lists mids) place x.0.edges (edges_listed mids place x.0 x.1) c.loop-edge.edge (omega (arith, c.loop-edge-test.false, count, x.2)) c.loop-edge.invariant.ways

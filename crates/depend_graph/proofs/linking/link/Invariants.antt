@@ -1,13 +1,14 @@
-use Rattle.std.proofs.Common.{◌≡◌, List, map, length}
-use Rattle.depend_graph.specs.Linking.{IsLinking}
-use Rattle.depend_graph.specs.Listed.{aim_of}
-use Rattle.depend_graph.specs.Ways.{KeepsWays}
-use Rattle.depend_graph.specs.declared.links.Edge.{Edge}
+use Rattle.std.proofs.Common.{◌≡◌, length, map}
+use Rattle.std.specs.Vec.{vec_capacity}
+use Rattle.farm_types.specs.declared.limits.TheConstants.{SLOT_LIMIT}
+use Rattle.depend_graph.specs.Bare.{bare_of}
+use Rattle.depend_graph.specs.Ways.{KeepsWaysOf, edge_lists, is_ahead_of}
 use Rattle.depend_graph.proofs.linking.link.Given as goal
 
 abbrev pub invariant-loop-edge : goal.invariant-loop-edge
 invariant-loop-edge l = record {
-  aims : map aim_of l.edges.items ≡ map aim_of l.fn.edges.items;
-  first : length l.first.items ≡ length l.fn.first.items;
-  linking : (lists : List (List Edge)) → length lists ≡ l.place → KeepsWays l.fn.first.items lists → IsLinking l.first.items lists l.edges.items l.place l.edge;
+  bare : map bare_of l.depends.items ≡ map bare_of l.fn.depends.items;
+  first : length l.first.items ≡ SLOT_LIMIT;
+  ways : KeepsWaysOf (is_ahead_of l.place l.edge) l.first.items (edge_lists l.depends.items);
+  capacity : vec_capacity l.depends ≡ vec_capacity l.fn.depends;
 }

@@ -3,6 +3,7 @@ use Rattle.depend_graph.specs.Passing.{IsReopening}
 use Rattle.depend_graph.specs.declared.links.EdgeAt.{EdgeAt}
 use Rattle.depend_graph.proofs.EdgeLists.{edge_lists-still}
 use Rattle.depend_graph.proofs.Reopened.{raised_fits, reopen_falls, reopened_counted, reopened_depends, standing, start_reopening, step_reopened}
+use Rattle.depend_graph.proofs.Still.{there_still}
 use Rattle.depend_graph.proofs.reopening.reopen.Goals as goal
 
 pub loop-next-init : goal.loop-next-init
@@ -48,3 +49,6 @@ pub returns-clause-counts : goal.returns-clause-counts
 returns-clause-counts c =
     reopened_counted c.args.done.now.items c.args.slot c.args.depends.now.items c.loop-next.depends.items
     (subst (λ (o : Option EdgeAt). IsReopening c.args.done.now.items c.args.slot c.args.depends.now.items o c.loop-next.depends.items) c.in_default.is c.loop-next.invariant.reopening) c.requires.slot
+
+pub returns-clause-there : goal.returns-clause-there
+returns-clause-there c = there_still c.args.depends.now.items c.loop-next.depends.items c.loop-next.invariant.reopening.structure

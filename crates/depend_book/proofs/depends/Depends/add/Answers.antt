@@ -1,16 +1,15 @@
-use Rattle.std.proofs.Common.{◌∙◌, List, sym, ap, subst, arith}
-use Rattle.farm_types.specs.declared.depend.DependRow.{DependRow}
-use Rattle.depend_graph.specs.Graph.{GraphLists}
+use Rattle.std.proofs.Common.{◌≡◌, ◌∙◌, ℕ, sym, ap, subst}
+use Rattle.depend_graph.specs.Graph.{CanAdd as GraphCanAdd, with_depend}
 use Rattle.depend_book.specs.Book.{CanAdd, DependLists, IsBook, with_new}
 use Rattle.depend_book.specs.Inside.{lists_of}
-use Rattle.depend_book.proofs.Added.{book_added, graph_can_add, rows_added}
+use Rattle.depend_book.proofs.Added.{book_added, graph_can_add, rows_pushed}
 use Rattle.depend_book.proofs.depends.Depends.add.Goals as goal
 
 pub add-requires-clause-can : goal.add-requires-clause-can
 add-requires-clause-can c =
     let n = c.args.depend in
     let can = subst (λ (lists : DependLists). CanAdd lists n) (sym c.self.view_is) c.requires.can in
-    graph_can_add (lists_of c.self.inside) n c.self.invariant.book can
+    subst (λ (m : ℕ). GraphCanAdd c.self.inside.graph m n.groups) (sym c.next.ensures) (graph_can_add (lists_of c.self.inside) n c.self.invariant.book can)
 
 pub invariant_of-self : goal.invariant_of-self
 invariant_of-self c =
@@ -18,19 +17,16 @@ invariant_of-self c =
     let n = c.args.depend in
     let can = subst (λ (lists : DependLists). CanAdd lists n) (sym c.self.view_is) c.requires.can in
     let added = with_new b n in
-    let rows = c.push_reserved.ensures.items ∙ rows_added b c.args.self.now n c.are_met_at_once-met_all.result c.self.view_is c.are_met_at_once-met_all.ensures in
-    let graph = subst (λ (g : GraphLists). IsBook (record { rows = added.rows; graph = g; next = added.next })) (sym c.add.ensures) (book_added b n c.self.invariant.book can) in
-    record {
-      book = subst (λ (ds : List DependRow). IsBook (record { rows = ds; graph = c.add.new.self; next = added.next })) (sym rows) graph;
-      capacity = omega (arith, c.push_reserved.ensures.capacity, c.self.invariant.capacity);
-    }
+    let rows = rows_pushed b c.args.self.now n c.next.result c.are_met_at_once-met_all.result c.push.new.self c.self.view_is c.next.ensures c.are_met_at_once-met_all.ensures c.push.ensures in
+    let graph = c.add.ensures ∙ ap (λ (m : ℕ). with_depend b.graph m n.groups) c.next.ensures in
+    let lists : added ≡ record { rows = c.push.new.self.rows; graph = c.add.new.self; next = c.push.new.self.next } =
+    λ i. record { rows = sym rows.0 i; graph = sym graph i; next = sym rows.1 i } in
+    record { book = subst IsBook lists (book_added b n c.self.invariant.book can) }
 
 pub returns : goal.returns
 returns c =
     let b = lists_of c.self.inside in
     let n = c.args.depend in
-    let added = with_new b n in
-    let rows = c.push_reserved.ensures.items ∙ rows_added b c.args.self.now n c.are_met_at_once-met_all.result c.self.view_is c.are_met_at_once-met_all.ensures in
-    ap (λ (ds : List DependRow). record { rows = ds; graph = c.add.new.self; next = added.next }) rows
-    ∙ ap (λ (g : GraphLists). record { rows = added.rows; graph = g; next = added.next }) c.add.ensures
-    ∙ ap (λ (lists : DependLists). with_new lists n) c.self.view_is
+    let rows = rows_pushed b c.args.self.now n c.next.result c.are_met_at_once-met_all.result c.push.new.self c.self.view_is c.next.ensures c.are_met_at_once-met_all.ensures c.push.ensures in
+    let graph = c.add.ensures ∙ ap (λ (m : ℕ). with_depend b.graph m n.groups) c.next.ensures in
+    (λ i. record { rows = rows.0 i; graph = graph i; next = rows.1 i }) ∙ ap (λ (lists : DependLists). with_new lists n) c.self.view_is

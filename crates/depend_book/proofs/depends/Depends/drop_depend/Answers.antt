@@ -1,5 +1,4 @@
-use Rattle.std.proofs.Common.{◌∙◌, List, length, sym, ap, subst, arith}
-use Rattle.farm_types.specs.declared.depend.DependRow.{DependRow}
+use Rattle.std.proofs.Common.{◌∙◌, length, sym, ap, subst}
 use Rattle.depend_graph.specs.Graph.{GraphLists}
 use Rattle.depend_book.specs.Book.{DependLists, IsBook, dropped_in, with_graph}
 use Rattle.depend_book.specs.Inside.{lists_of}
@@ -12,10 +11,9 @@ invariant_of-self c =
     let g = c.drop_depend.new.self in
     let book = c.self.invariant.book in
     let kept = subst (λ (graph : GraphLists). IsKept b.graph.depends graph.depends) (sym c.drop_depend.ensures.graph) (dropped_kept b.graph c.args.depend) in
-    let rows = rows_told b g c.drop_depend.new.opened c.satisfied.result.now c.satisfy_all.new.rows.items book kept c.drop_depend.ensures.opened c.satisfied.ensures c.satisfy_all.ensures.items in
+    let rows = rows_told b g c.drop_depend.new.opened c.satisfied.result.now c.satisfy_all.new.self.rows book kept c.drop_depend.ensures.opened c.satisfied.ensures c.satisfy_all.ensures.rows in
     record {
-      book = subst (λ (ds : List DependRow). IsBook (record { rows = ds; graph = g; next = b.next })) (sym rows) (book_after b g book kept (ap (λ (graph : GraphLists). length graph.done) c.drop_depend.ensures.graph));
-      capacity = omega (arith, c.satisfy_all.ensures.capacity, c.self.invariant.capacity);
+      book = subst (λ (lists : DependLists). IsBook lists) (λ i. record { rows = sym rows i; graph = g; next = sym c.satisfy_all.ensures.next i }) (book_after b g book kept (ap (λ (graph : GraphLists). length graph.done) c.drop_depend.ensures.graph));
     }
 
 pub returns : goal.returns
@@ -23,6 +21,6 @@ returns c =
     let b = lists_of c.self.inside in
     let g = c.drop_depend.new.self in
     let kept = subst (λ (graph : GraphLists). IsKept b.graph.depends graph.depends) (sym c.drop_depend.ensures.graph) (dropped_kept b.graph c.args.depend) in
-    let rows = rows_told b g c.drop_depend.new.opened c.satisfied.result.now c.satisfy_all.new.rows.items c.self.invariant.book kept c.drop_depend.ensures.opened c.satisfied.ensures c.satisfy_all.ensures.items in
-    ap (λ (ds : List DependRow). record { rows = ds; graph = g; next = b.next }) rows ∙ ap (with_graph b) c.drop_depend.ensures.graph
+    let rows = rows_told b g c.drop_depend.new.opened c.satisfied.result.now c.satisfy_all.new.self.rows c.self.invariant.book kept c.drop_depend.ensures.opened c.satisfied.ensures c.satisfy_all.ensures.rows in
+    (λ i. record { rows = rows i; graph = g; next = c.satisfy_all.ensures.next i }) ∙ ap (with_graph b) c.drop_depend.ensures.graph
     ∙ ap (λ (lists : DependLists). dropped_in lists c.args.depend) c.self.view_is

@@ -1,9 +1,11 @@
-use Rattle.std.proofs.Common.{List, map, sym, ap, ◌∙◌}
+use Rattle.std.proofs.Common.{◌≡◌, List, eqb, map, sym, ap, subst, ◌∙◌}
 use Rattle.std.specs.List.{list_any, slice_get}
-use Rattle.farm_types.proofs.Lists.{slice_get_below}
-use Rattle.depend_graph.specs.Graph.{GraphLists, has_depend, met_where, without_depend}
-use Rattle.depend_graph.specs.Inside.{watches}
-use Rattle.depend_graph.specs.Listed.{ListedLists, has_number}
+use Rattle.std.proofs.lemmas.Bool.{eqb-true}
+use Rattle.farm_types.proofs.Lists.{and_both, slice_get_below}
+use Rattle.depend_graph.specs.Graph.{GraphLists, HasOpened, Watch, has_depend, met_where, without_depend}
+use Rattle.depend_graph.specs.Inside.{there_of, watches}
+use Rattle.depend_graph.specs.Listed.{ListedLists, has_number, is_there}
+use Rattle.depend_graph.proofs.Thinned.{mapped_there, opened_there}
 use Rattle.depend_graph.proofs.Unchanged.{numbers_any}
 use Rattle.depend_graph.proofs.graph.Graph.drop_depend.Goals as goal
 
@@ -15,11 +17,20 @@ place_of-place-requires-clause-there c =
 pub returns-clause-graph : goal.returns-clause-graph
 returns-clause-graph c =
     let ds = c.self.inside.depends.items in
+    let news = c.meet_all.new.depends.items in
     let place = c.place_of-place.result in
     let below = c.place_of-place.ensures.there in
     let d = slice_get_below c.as_slice.result.now place below in
-    let number = c.place_of-place.ensures.number d.0 d.1 in
+    let named = and_both (is_there d.0) (eqb d.0.depend c.args.depend) (c.place_of-place.ensures.number d.0 d.1) in
+    let number = eqb-true d.0.depend c.args.depend named.1 in
     let at = ap (λ (xs : List ListedLists). slice_get xs place) (sym c.as_slice.ensures.value) ∙ d.1 in
-    let met = c.meet_all.ensures.watches d.0 at in
-    (λ i. record { done = c.self.inside.done.items; depends = (met ∙ ap (λ n. map (met_where n) (watches ds)) number) i })
+    let met : watches news ≡ map (met_where c.args.depend) (watches ds) = c.meet_all.ensures.watches d.0 at named.0 ∙ ap (λ n. map (met_where n) (watches ds)) number in
+    (λ i. record { done = c.self.inside.done.items; depends = mapped_there ds news c.meet_all.ensures.there (met_where c.args.depend) met i })
     ∙ ap (λ (g : GraphLists). without_depend g c.args.depend) c.self.view_is
+
+pub returns-clause-opened : goal.returns-clause-opened
+returns-clause-opened c =
+    let ds = c.self.inside.depends.items in
+    let news = c.meet_all.new.depends.items in
+    subst (λ (ws : List Watch). HasOpened ws (watches (there_of news)) c.meet_all.new.opened) (ap (λ (g : GraphLists). g.depends) c.self.view_is)
+    (opened_there ds news c.self.invariant.depends c.meet_all.ensures.depends c.meet_all.ensures.there c.meet_all.new.opened c.meet_all.ensures.opened)

@@ -1,7 +1,7 @@
 use Rattle.std.proofs.Common.{Bool, List, None, Option, false, length, ap, ◌∙◌}
 use Rattle.std.proofs.lemmas.List.{length-replicate}
 use Rattle.farm_types.specs.declared.limits.TheConstants.{SLOT_LIMIT}
-use Rattle.depend_graph.specs.Inside.{watches}
+use Rattle.depend_graph.specs.Inside.{there_of, watches}
 use Rattle.depend_graph.specs.declared.links.EdgeAt.{EdgeAt}
 use Rattle.depend_graph.proofs.Made.{made_counts, made_depends, made_sums, made_ways}
 use Rattle.depend_graph.proofs.graph.Graph.make.Goals as goal
@@ -21,4 +21,4 @@ invariant_of-result c =
     }
 
 pub returns : goal.returns
-returns c = λ i. record { done = c.in_ok-vec.ensures.items_if_clones_equal (λ y h. h) i; depends = watches (c.in_ok-with_capacity.ensures.items i) }
+returns c = λ i. record { done = c.in_ok-vec.ensures.items_if_clones_equal (λ y h. h) i; depends = watches (there_of (c.in_ok-with_capacity.ensures.items i)) }
