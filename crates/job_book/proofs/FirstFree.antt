@@ -5,7 +5,7 @@ use Rattle.farm_types.specs.Jobs.{is_free, free_among}
 use Rattle.job_book.specs.Book.{first_free}
 use Rattle.job_book.proofs.FreeSlots.{free_cons}
 
-fewer_behind : (k : ℕ) (ss : List SlotRow) → free_among (drop k ss) ≤ free_among ss
+pub fewer_behind : (k : ℕ) (ss : List SlotRow) → free_among (drop k ss) ≤ free_among ss
 fewer_behind zero ss = omega arith
 fewer_behind (suc k) [] = omega arith
 fewer_behind (suc k) (s ∷ ss) = omega (arith, fewer_behind k ss, free_cons (is_free s) s ss refl)

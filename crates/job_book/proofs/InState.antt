@@ -1,27 +1,30 @@
 -- One slot whose row is set, its frame in any state: what is free, and what is counted.
-use Rattle.std.proofs.Common.{◌≡◌, ℕ, ◌+◌, ◌-◌, ◌≤◌, ◌&&◌, true, false, cond, eqb, List, length, map, drop, sum, Option, Some, None, refl, sym, ap, subst, ◌∙◌, arith}
+use Rattle.std.proofs.Common.{◌≡◌, ℕ, ◌+◌, ◌-◌, ◌≤◌, ◌&&◌, Bool, true, false, cond, eqb, List, length, map, drop, sum, Option, Some, None, refl, sym, ap, subst, ◌∙◌, arith}
 use Rattle.std.specs.Option.{IfSome}
-use Rattle.std.specs.List.{slice_get, position_or_len}
+use Rattle.std.specs.List.{list_all, slice_get, position_or_len}
 use Rattle.std.proofs.lemmas.Option.{slice_get_within, get_or_from_slice_get, same_Some}
 use Rattle.std.proofs.lemmas.List.{drop-map}
 use Rattle.std.proofs.lemmas.List.Sums.{get_or-le-sum_by, count_by-le-length, sum-map}
-use Rattle.std.proofs.lemmas.Bool.{eq-eqb}
+use Rattle.std.proofs.lemmas.Bool.{eqb-true, eq-eqb}
 use Rattle.farm_types.specs.declared.rows.JobRow.{JobRow}
 use Rattle.farm_types.specs.declared.slot_row.Frame.{Frame}
 use Rattle.farm_types.specs.declared.slot_row.SlotRow.{SlotRow}
 use Rattle.farm_types.specs.declared.states.FrameState.{FrameState}
 use Rattle.farm_types.specs.declared.states.FrameState.TheVariants.{Waiting, Setup, Running, Succeeded, Depend, Dead, Eaten}
+use Rattle.farm_types.specs.Booking.{is_pending}
 use Rattle.farm_types.specs.Farm.{for_some, changed_at}
+use Rattle.farm_types.specs.Finish.{is_frame_of}
+use Rattle.std.specs.Prelude.{nat_le, nat_lt}
 use Rattle.farm_types.specs.Jobs.{JobLists, is_free, free_among, free_in}
 use Rattle.job_book.specs.declared.counts.Counts.{Counts}
 use Rattle.job_book.specs.Book.{is_in, count_in, counts_of, number_of, IsSameFrame, KeepsFrame}
 use Rattle.job_book.specs.Counting.{one, part, moved, CanMove}
 use Rattle.farm_types.specs.Rising.{IsRising, job_key}
-use Rattle.job_book.specs.Inside.{IsBook, KeepsFree, is_below, counts_for}
+use Rattle.job_book.specs.Inside.{IsBook, KeepsFree, is_below, counts_for, has_slots, taken_by}
 use Rattle.farm_types.proofs.Changed.{changed_at_sum, length-changed_at}
-use Rattle.farm_types.proofs.Lists.{list_all-at}
+use Rattle.farm_types.proofs.Lists.{list_all-at, list_all-from_at}
 use Rattle.farm_types.proofs.ChangedLists.{list_all-changed_at, map-changed_at, changed_at_kept}
-use Rattle.job_book.proofs.Places.{recounted, at_place}
+use Rattle.job_book.proofs.JobPlaces.{recounted, at_place}
 use Rattle.farm_types.specs.declared.limits.TheConstants.{SLOT_LIMIT}
 
 same_made : (a0 a1 a2 a3 a4 a5 a6 b0 b1 b2 b3 b4 b5 b6 : ℕ) → a0 ≡ b0 → a1 ≡ b1 → a2 ≡ b2 → a3 ≡ b3 → a4 ≡ b4 → a5 ≡ b5 → a6 ≡ b6
@@ -111,6 +114,30 @@ module _ (slots : List SlotRow) (i : ℕ) (row : SlotRow) (x : Frame) (state : F
       let e = changed_at_sum (λ (s : SlotRow). weight s.frame) slots i (λ _. row) r.old r.at in
       ap (λ (n : ℕ). count_in job st new + n) (sym (ap weight r.was)) ∙ e ∙ ap (λ (n : ℕ). count_in job st slots + n) (ap weight r.is)
 
+  -- each job has as many slots
+  pub same_taken : (job : ℕ) → taken_by job new ≡ taken_by job slots
+  same_taken job =
+      let weight = λ (s : SlotRow). cond (is_frame_of job s) 1 0 in
+      let same : map weight new ≡ map weight slots = read_same weight (rw (r.is, r.was) refl) in
+      sym (sum-map weight new) ∙ ap sum same ∙ sum-map weight slots
+
+  -- the frame's job has a slot
+  taken_here : 1 ≤ taken_by x.job slots
+  taken_here =
+      let h = get_or-le-sum_by (λ (s : SlotRow). cond (is_frame_of x.job s) 1 0) slots i r.old (slice_get_within slots i r.old r.at) in
+      let itself : eqb x.job x.job ≡ true = eq-eqb x.job x.job refl in
+      rw itself at (rw r.was at (rw (get_or_from_slice_get slots i r.old r.old r.at) at h))
+
+  -- so it is pending, where it is there
+  pub begun_here : (jobs : List JobRow) (n : ℕ) (j : JobRow) → list_all (has_slots slots) jobs ≡ true → slice_get jobs n ≡ Some j → j.job ≡ x.job → is_pending j.state ≡ true
+  begun_here jobs n j all at same = by (is_pending j.state) refl (list_all-at (has_slots slots) jobs n j all at)
+    where
+      by : (b : Bool) → is_pending j.state ≡ b → has_slots slots j ≡ true → is_pending j.state ≡ true
+      by true is had = is
+      by false is had =
+          let none : taken_by j.job slots ≡ 0 = eqb-true (taken_by j.job slots) 0 (rw is at had) in
+          absurd (omega (arith, taken_here, none, ap (λ (n : ℕ). taken_by n slots) same))
+
   -- the counts of the other jobs stay
   pub counts_other : (job : ℕ) → eqb x.job job ≡ false → counts_of job new ≡ counts_of job slots
   counts_other job apart =
@@ -159,10 +186,11 @@ in_state_book b i row x state r ok =
       next_within = ok.next_within;
       jobs_rise = ok.jobs_rise;
       layers_rise = ok.layers_rise;
-      places_within = ok.places_within;
+      layers_owned = ok.layers_owned;
       frames_below = list_all-changed_at (is_below b.next_job) b.slots i (λ _. row) ok.frames_below (λ s at. below ∙ list_all-at (is_below b.next_job) b.slots i r.old ok.frames_below r.at);
       jobs_fit = rw free ok.jobs_fit;
-      layers_fit = rw free ok.layers_fit;
+      slots_had = list_all-from_at (has_slots (with_row b.slots i row)) b.jobs (λ n j at.
+          ap (λ (k : ℕ). cond (is_pending j.state) (nat_lt 0 j.frames && nat_le k j.frames) (eqb k 0)) (same_taken b.slots i row x state r j.job) ∙ list_all-at (has_slots b.slots) b.jobs n j ok.slots_had at);
     }
 
 pub in_state_free : (free lowest : ℕ) (slots : List SlotRow) (i : ℕ) (row : SlotRow) (x : Frame) (state : FrameState) → IsInState slots i row x state → KeepsFree free lowest slots → KeepsFree free lowest (with_row slots i row)

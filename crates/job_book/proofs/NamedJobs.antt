@@ -1,36 +1,18 @@
--- The place of a name is that of the job of that name.
-use Rattle.std.proofs.Common.{◌≡◌, ℕ, suc, ◌+◌, ◌≤◌, ◌||◌, Bool, true, false, cond, not, ltb, List, [], ◌∷◌, ◌++◌, map, length, Some, None, refl, sym, ap, ◌∙◌, arith}
-use Rattle.std.specs.List.{position, position_or_len, list_any, list_all, AllZip}
-use Rattle.std.specs.Option.{unwrap_or}
+-- The jobs of a name.
+use Rattle.std.proofs.Common.{◌≡◌, ℕ, suc, ◌+◌, ◌≤◌, ◌&&◌, Bool, true, false, cond, eqb, not, ltb, List, [], ◌∷◌, ◌++◌, map, filter, length, length-append, append-nil, Option, Some, None, option_map, is_some, refl, sym, ap, ◌∙◌, arith}
+use Rattle.std.specs.List.{find, position_or_len, list_any, AllZip}
 use Rattle.std.specs.Str.{bytes_eq}
-use Rattle.std.specs.Cmp.Lexicographic.{nat_list_eq_equiv}
+use Rattle.std.proofs.lemmas.Bool.{false≢true, eq-eqb, ne_eqb, lt-ltb}
 use Rattle.std.proofs.lemmas.Bool.Decides.{nat_tests}
-use Rattle.std.proofs.lemmas.Bool.{ltb-false, lt-ltb, and_from}
-use Rattle.std.proofs.lemmas.List.{map_push}
-use Rattle.std.proofs.lemmas.List.Folds.{list_all-append}
+use Rattle.std.proofs.lemmas.List.{map-append}
+use Rattle.std.proofs.lemmas.Slice.Eq.{bytes_eq-Decides}
+use Rattle.std.proofs.lemmas.List.Elements.{filter-append}
 use Rattle.farm_types.specs.declared.rows.JobRow.{JobRow}
 use Rattle.farm_types.specs.Booking.{is_pending}
 use Rattle.farm_types.specs.Jobs.{is_pending_named}
-use Rattle.farm_types.proofs.Lists.{and_both}
-use Rattle.job_book.specs.Inside.{name_of, has_begun, KeepsNames}
-use Rattle.job_book.specs.declared.jobs.TheConstants.{MOST_JOBS}
-
--- where nothing is found, the length
-by_found : {X : Type 0} (b : Bool) (test : X → Bool) (xs : List X) → ltb (position_or_len test xs) (length xs) ≡ b
-    → unwrap_or (cond (ltb (position_or_len test xs) (length xs)) (Some (position_or_len test xs)) None) (length xs) ≡ position_or_len test xs
-by_found true test xs is = rw is refl
-by_found false test xs is = rw is (omega (arith, ltb-false (position_or_len test xs) (length xs) is, at_most test xs))
-  where
-    most_step : {X : Type 0} (b : Bool) (test : X → Bool) (x : X) (xs : List X) → test x ≡ b → position_or_len test xs ≤ length xs → position_or_len test (x ∷ xs) ≤ length (x ∷ xs)
-    most_step true test x xs is h = rw is (omega arith)
-    most_step false test x xs is h = rw is (omega arith)
-
-    at_most : {X : Type 0} (test : X → Bool) (xs : List X) → position_or_len test xs ≤ length xs
-    at_most test [] = omega arith
-    at_most test (x ∷ xs) = most_step (test x) test x xs refl (at_most test xs)
-
-pub position-or : {X : Type 0} (test : X → Bool) (xs : List X) → unwrap_or (position test xs) (length xs) ≡ position_or_len test xs
-position-or test xs = by_found (ltb (position_or_len test xs) (length xs)) test xs refl
+use Rattle.farm_types.specs.Kept.{is_of_pending}
+use Rattle.farm_types.specs.Rising.{IsRising, job_key}
+use Rattle.job_book.specs.Names.{KeepsNames, as_list, is_named, number_of}
 
 -- of what is read of the items
 pub position_or_len-map : {X Y : Type 0} (test : Y → Bool) (read : X → Y) (xs : List X) → position_or_len test (map read xs) ≡ position_or_len (λ x. test (read x)) xs
@@ -52,58 +34,150 @@ pub found_any : {X : Type 0} (test : X → Bool) (xs : List X) → ltb (position
 found_any test [] = refl
 found_any test (x ∷ xs) = any_step (test x) test x xs refl (found_any test xs)
 
--- ---- jobs by name
+-- ---- the job of a name
 
-same_test : (name : List ℕ) (js : List JobRow) → position_or_len (λ (j : JobRow). bytes_eq name j.name) js ≡ position_or_len (λ (j : JobRow). bytes_eq j.name name) js
-same_test name [] = refl
-same_test name (j ∷ js) = rw (nat_list_eq_equiv.symm name j.name, same_test name js) refl
-
--- the place of the name is that of the first job of that name
-pub job_place : (name : List ℕ) (names : List (List ℕ)) (jobs : List JobRow) → names ≡ map name_of jobs
-    → position_or_len (λ n. bytes_eq name n) names ≡ position_or_len (λ (j : JobRow). bytes_eq j.name name) jobs
-job_place name names jobs are = ap (position_or_len (λ n. bytes_eq name n)) are ∙ position_or_len-map (λ n. bytes_eq name n) name_of jobs ∙ same_test name jobs
-
-any_pending : (name : List ℕ) (jobs : List JobRow) → list_all has_begun jobs ≡ true → list_any (is_pending_named name) jobs ≡ list_any (λ (j : JobRow). bytes_eq j.name name) jobs
-any_pending name [] all = refl
-any_pending name (j ∷ js) all =
-    let both = and_both (is_pending j.state) (list_all has_begun js) all in
-    rw (both.0, any_pending name js both.1) refl
-
--- a pending job has the name where the name has a place
-pub pending_place : (name : List ℕ) (names : List (List ℕ)) (jobs : List JobRow) → names ≡ map name_of jobs → list_all has_begun jobs ≡ true
-    → ltb (position_or_len (λ n. bytes_eq name n) names) (length jobs) ≡ list_any (is_pending_named name) jobs
-pending_place name names jobs are pending = rw (job_place name names jobs are) (found_any (λ (j : JobRow). bytes_eq j.name name) jobs ∙ sym (any_pending name jobs pending))
-
--- one job more, behind the others, that is pending
-pub keeps_more : (names : List (List ℕ)) (fit later : ℕ) (jobs : List JobRow) (name : List ℕ) (j : JobRow) → name ≡ j.name → is_pending j.state ≡ true → MOST_JOBS ≤ later
-    → KeepsNames names fit jobs → KeepsNames (names ++ name ∷ []) later (jobs ++ j ∷ [])
-keeps_more names fit later jobs name j is begun enough keeps =
-    record {
-      names_are = rw (keeps.names_are, is) (sym (map_push name_of jobs j));
-      pending = list_all-append has_begun jobs (j ∷ []) ∙ and_from _ _ keeps.pending (and_from _ _ begun refl);
-      room = enough;
-    }
-
--- a name that no pending job has is none of those
-none_named : (name : List ℕ) (jobs : List JobRow) → list_all has_begun jobs ≡ true → list_any (is_pending_named name) jobs ≡ false → list_any (λ n. bytes_eq name n) (map name_of jobs) ≡ false
-none_named name [] all none = refl
-none_named name (j ∷ js) all none =
-    let both = and_both (is_pending j.state) (list_all has_begun js) all in
-    let split = or_none (bytes_eq j.name name) (list_any (is_pending_named name) js) (rw both.0 at none) in
-    rw (nat_list_eq_equiv.symm name j.name, split.0, none_named name js both.1 split.1) refl
+pub any_found : {X : Type 0} (test : X → Bool) (xs : List X) → list_any test xs ≡ is_some (find test xs)
+any_found test [] = refl
+any_found test (x ∷ xs) = by (test x) refl (any_found test xs)
   where
-    or_none : (a b : Bool) → (a || b) ≡ false → (a ≡ false) × (b ≡ false)
-    or_none true b h = absurd (cc)
-    or_none false b h = (refl, h)
+    by : (b : Bool) → test x ≡ b → list_any test xs ≡ is_some (find test xs) → list_any test (x ∷ xs) ≡ is_some (find test (x ∷ xs))
+    by true is later = rw is refl
+    by false is later = rw is later
 
-module _ {K : Type 0} (text : K → List ℕ) where
-  any-map : (test : List ℕ → Bool) (keys : List K) → list_any (λ k. test (text k)) keys ≡ list_any test (map text keys)
-  any-map test [] = refl
-  any-map test (k ∷ ks) = ap (λ b. test (text k) || b) (any-map test ks)
+abbrev first_of : List ℕ → Option ℕ
+first_of [] = None
+first_of (n ∷ ns) = Some n
 
-  pub unnamed : (name : List ℕ) (keys : List K) (jobs : List JobRow) → map text keys ≡ map name_of jobs → list_all has_begun jobs ≡ true → list_any (is_pending_named name) jobs ≡ false
-      → list_any (λ k. bytes_eq name (text k)) keys ≡ false
-  unnamed name keys jobs are pending none = any-map (λ n. bytes_eq name n) keys ∙ ap (list_any (λ n. bytes_eq name n)) are ∙ none_named name jobs pending none
+first_listed : (o : Option ℕ) → first_of (as_list o) ≡ o
+first_listed None = refl
+first_listed (Some n) = refl
+
+pub first_found : (test : JobRow → Bool) (jobs : List JobRow) → first_of (map job_key (filter test jobs)) ≡ option_map job_key (find test jobs)
+first_found test [] = refl
+first_found test (j ∷ js) = by (test j) refl (first_found test js)
+  where
+    by : (b : Bool) → test j ≡ b → first_of (map job_key (filter test js)) ≡ option_map job_key (find test js) → first_of (map job_key (filter test (j ∷ js))) ≡ option_map job_key (find test (j ∷ js))
+    by true is later = rw is refl
+    by false is later = rw is later
+
+-- the number that the name leads to is that of the first job of the name
+pub name_found : (names : List (List ℕ × ℕ)) (jobs : List JobRow) → KeepsNames names jobs → (name : List ℕ) → number_of name names ≡ option_map job_key (find (is_named name) jobs)
+name_found names jobs keeps name = sym (first_listed (number_of name names)) ∙ ap first_of (sym (keeps.named name)) ∙ first_found (is_named name) jobs
+
+-- what is found, where the number's job is pending
+abbrev pub if_pending : List JobRow → Option ℕ → Option ℕ
+if_pending jobs None = None
+if_pending jobs (Some n) = cond (is_of_pending jobs n) (Some n) None
+
+none_named : (name : List ℕ) (jobs : List JobRow) → map job_key (filter (is_named name) jobs) ≡ [] → find (is_pending_named name) jobs ≡ None
+none_named name [] none = refl
+none_named name (j ∷ js) none = by (bytes_eq j.name name) refl (none_named name js)
+  where
+    by : (b : Bool) → bytes_eq j.name name ≡ b → (map job_key (filter (is_named name) js) ≡ [] → find (is_pending_named name) js ≡ None) → find (is_pending_named name) (j ∷ js) ≡ None
+    by true is later = let impossible : job_key j ∷ map job_key (filter (is_named name) js) ≡ [] = rw is at none in absurd (cc)
+    by false is later =
+        let idle : is_pending_named name j ≡ false = rw is (and_false (is_pending j.state)) in
+        rw idle (later (rw is at none))
+      where
+        and_false : (a : Bool) → (a && false) ≡ false
+        and_false true = refl
+        and_false false = refl
+
+-- the number of a job that has the name is at least the least
+at_least_listed : (name : List ℕ) (low high : ℕ) (jobs : List JobRow) (n : ℕ) → IsRising job_key low jobs high → map job_key (filter (is_named name) jobs) ≡ n ∷ [] → low ≤ n
+at_least_listed name low high [] n rise is = absurd (cc)
+at_least_listed name low high (j ∷ js) n rise is = by (bytes_eq j.name name) refl (at_least_listed name (j.job + 1) high js n rise.1)
+  where
+    head_is : (a b : ℕ) (xs ys : List ℕ) → a ∷ xs ≡ b ∷ ys → a ≡ b
+    head_is a b xs ys e = cc
+
+    by : (b : Bool) → bytes_eq j.name name ≡ b → (map job_key (filter (is_named name) js) ≡ n ∷ [] → j.job + 1 ≤ n) → low ≤ n
+    by true same later = let e = head_is j.job n (map job_key (filter (is_named name) js)) [] (rw same at is) in omega (arith, rise.0, e)
+    by false other later = let more = later (rw other at is) in omega (arith, rise.0, more)
+
+one_named : (name : List ℕ) (low high : ℕ) (jobs : List JobRow) (n : ℕ) → IsRising job_key low jobs high → map job_key (filter (is_named name) jobs) ≡ n ∷ []
+    → option_map job_key (find (is_pending_named name) jobs) ≡ if_pending jobs (Some n)
+one_named name low high [] n rise is = absurd (cc)
+one_named name low high (j ∷ js) n rise is = by (bytes_eq j.name name) refl (one_named name (j.job + 1) high js n rise.1)
+  where
+    head_is : (a b : ℕ) (xs ys : List ℕ) → a ∷ xs ≡ b ∷ ys → a ≡ b
+    head_is a b xs ys e = cc
+
+    tail_is : (a b : ℕ) (xs ys : List ℕ) → a ∷ xs ≡ b ∷ ys → xs ≡ ys
+    tail_is a b xs ys e = cc
+
+    here : (p : Bool) → is_pending j.state ≡ p → bytes_eq j.name name ≡ true → j.job ≡ n → find (is_pending_named name) js ≡ None → option_map job_key (find (is_pending_named name) (j ∷ js)) ≡ if_pending (j ∷ js) (Some n)
+    here true pending same number none = rw (same, pending, eq-eqb j.job n number, pending) (ap Some number)
+    here false pending same number none = rw (same, pending, eq-eqb j.job n number, pending, none) refl
+
+    by : (b : Bool) → bytes_eq j.name name ≡ b → (map job_key (filter (is_named name) js) ≡ n ∷ [] → option_map job_key (find (is_pending_named name) js) ≡ if_pending js (Some n))
+        → option_map job_key (find (is_pending_named name) (j ∷ js)) ≡ if_pending (j ∷ js) (Some n)
+    by true same later =
+        let all : j.job ∷ map job_key (filter (is_named name) js) ≡ n ∷ [] = rw same at is in
+        here (is_pending j.state) refl same (head_is _ _ _ _ all) (none_named name js (tail_is _ _ _ _ all))
+    by false other later =
+        let rest : map job_key (filter (is_named name) js) ≡ n ∷ [] = rw other at is in
+        let apart : eqb j.job n ≡ false = ne_eqb j.job n (λ e. absurd (omega (arith, e, at_least_listed name (j.job + 1) high js n rise.1 rest))) in
+        let idle : is_pending_named name j ≡ false = rw other (and_false (is_pending j.state)) in
+        rw (idle, apart) (later rest)
+      where
+        and_false : (a : Bool) → (a && false) ≡ false
+        and_false true = refl
+        and_false false = refl
+
+-- the pending job of a name is the one that the name leads to, where that is pending
+pub pending_found : (names : List (List ℕ × ℕ)) (low high : ℕ) (jobs : List JobRow) → IsRising job_key low jobs high → KeepsNames names jobs → (name : List ℕ)
+    → option_map job_key (find (is_pending_named name) jobs) ≡ if_pending jobs (number_of name names)
+pending_found names low high jobs rise keeps name = by (number_of name names) (keeps.named name)
+  where
+    by : (o : Option ℕ) → map job_key (filter (is_named name) jobs) ≡ as_list o → option_map job_key (find (is_pending_named name) jobs) ≡ if_pending jobs o
+    by None is = ap (option_map job_key) (none_named name jobs is)
+    by (Some n) is = one_named name low high jobs n rise is
+
+some_mapped : (o : Option JobRow) → is_some (option_map job_key o) ≡ is_some o
+some_mapped None = refl
+some_mapped (Some j) = refl
+
+-- whether a pending job has the name
+pub pending_any : (names : List (List ℕ × ℕ)) (low high : ℕ) (jobs : List JobRow) → IsRising job_key low jobs high → KeepsNames names jobs → (name : List ℕ)
+    → is_some (if_pending jobs (number_of name names)) ≡ list_any (is_pending_named name) jobs
+pending_any names low high jobs rise keeps name =
+    ap (λ (o : Option ℕ). is_some o) (sym (pending_found names low high jobs rise keeps name)) ∙ some_mapped (find (is_pending_named name) jobs) ∙ sym (any_found (is_pending_named name) jobs)
+
+pub some_if : (b : Bool) (n : ℕ) → b ≡ is_some (cond b (Some n) None)
+some_if true n = refl
+some_if false n = refl
+
+-- ---- one job more
+
+-- no job has the name of the new one
+pub unnamed : (names : List (List ℕ × ℕ)) (jobs : List JobRow) (name : List ℕ) → KeepsNames names jobs → list_any (is_named name) jobs ≡ false → number_of name names ≡ None
+unnamed names jobs name keeps none = name_found names jobs keeps name ∙ ap (option_map job_key) (nothing (find (is_named name) jobs) (sym (any_found (is_named name) jobs) ∙ none))
+  where
+    nothing : (o : Option JobRow) → is_some o ≡ false → o ≡ None
+    nothing None e = refl
+    nothing (Some j) e = absurd (false≢true (sym e))
+
+pub keeps_more : (names more : List (List ℕ × ℕ)) (jobs : List JobRow) (j : JobRow) → list_any (is_named j.name) jobs ≡ false
+    → ((other : List ℕ) → number_of other more ≡ cond (bytes_eq j.name other) (Some j.job) (number_of other names)) → length more ≡ length names + 1 → KeepsNames names jobs → KeepsNames more (jobs ++ j ∷ [])
+keeps_more names more jobs j none found count keeps =
+    record {
+      named = λ name. by (bytes_eq j.name name) name refl;
+      as_many = omega (arith, keeps.as_many, count, length-append jobs (j ∷ []));
+    }
+  where
+    by : (b : Bool) (name : List ℕ) → bytes_eq j.name name ≡ b → map job_key (filter (is_named name) (jobs ++ j ∷ [])) ≡ as_list (number_of name more)
+    by true name is =
+        let same : j.name ≡ name = (bytes_eq-Decides j.name name).0 is in
+        let new : number_of name names ≡ None = ap (λ (n : List ℕ). number_of n names) (sym same) ∙ unnamed names jobs j.name keeps none in
+        let had : map job_key (filter (is_named name) jobs) ≡ [] = keeps.named name ∙ ap as_list new in
+        ap (map job_key) (filter-append (is_named name) jobs (j ∷ []))
+        ∙ map-append job_key (filter (is_named name) jobs) (filter (is_named name) (j ∷ []))
+        ∙ rw (had, found name, is) refl
+    by false name is =
+        ap (map job_key) (filter-append (is_named name) jobs (j ∷ []))
+        ∙ map-append job_key (filter (is_named name) jobs) (filter (is_named name) (j ∷ []))
+        ∙ rw (found name, is) (append-nil (map job_key (filter (is_named name) jobs)) ∙ keeps.named name)
 
 -- ---- texts
 

@@ -1,5 +1,5 @@
 -- One job is paused or resumed: where its row stands, and what the book keeps of the other fields.
-use Rattle.std.proofs.Common.{◌≡◌, ℕ, suc, ◌+◌, ◌<◌, ◌≤◌, Bool, true, false, cond, eqb, List, [], ◌∷◌, map, filter, refl, sym, ap, ◌∙◌, arith}
+use Rattle.std.proofs.Common.{◌≡◌, ℕ, suc, ◌+◌, ◌<◌, ◌≤◌, Bool, true, false, cond, eqb, List, [], ◌∷◌, map, filter, length, refl, sym, ap, ◌∙◌, arith}
 use Rattle.std.specs.List.{list_all, position_or_len}
 use Rattle.std.proofs.lemmas.Bool.{eqb-true, ne_eqb}
 use Rattle.std.proofs.lemmas.List.{length-map}
@@ -11,7 +11,12 @@ use Rattle.farm_types.specs.Operators.{paused_row}
 use Rattle.farm_types.specs.Rising.{IsRising, job_key}
 use Rattle.farm_types.proofs.ChangedLists.{changed_at_suc, map-map_kept}
 use Rattle.job_book.specs.Book.{counts_of, with_pause}
-use Rattle.job_book.specs.Inside.{IsBook, KeepsNames, counts_for, has_begun, name_of}
+use Rattle.job_book.specs.Finished.{KeepsFinished, finish_key, has_finish}
+use Rattle.job_book.specs.Inside.{IsBook, counts_for, frames_left, has_layers_if, has_slots}
+use Rattle.job_book.specs.Names.{KeepsNames, is_named}
+use Rattle.farm_types.specs.Finish.{is_finished}
+use Rattle.std.specs.List.{sum_by}
+use Rattle.std.proofs.lemmas.List.Sums.{sum_by-cons}
 use Rattle.job_book.specs.Ready.{KeepsReady, has_priority, is_ready_in, ready_key, sorted}
 
 module _ (job : ℕ) (paused : Bool) where
@@ -75,6 +80,10 @@ module _ (job : ℕ) (paused : Bool) where
   rising low [] high rise = rise
   rising low (j ∷ js) high rise = rising_by (eqb j.job job) low j js high refl rise.0 (rising (j.job + 1) js high rise.1)
 
+  sums_kept : (js : List JobRow) → sum_by frames_left (map row js) ≡ sum_by frames_left js
+  sums_kept [] = refl
+  sums_kept (j ∷ js) = omega (arith, sum_by-cons frames_left (row j) (map row js), sum_by-cons frames_left j js, kept frames_left (λ i. refl) j, sums_kept js)
+
   -- ---- what the book keeps
 
   pub paused_book : (b : JobLists) → IsBook b → IsBook (record b { jobs = map row b.jobs })
@@ -84,18 +93,26 @@ module _ (job : ℕ) (paused : Bool) where
         next_within = ok.next_within;
         jobs_rise = rising 0 b.jobs b.next_job ok.jobs_rise;
         layers_rise = ok.layers_rise;
-        places_within = ok.places_within;
+        layers_owned = all_kept (has_layers_if b.layers) (kept (has_layers_if b.layers) (λ j. refl)) b.jobs ∙ ok.layers_owned;
         frames_below = ok.frames_below;
-        jobs_fit = omega (arith, ok.jobs_fit, length-map b.jobs row);
-        layers_fit = ok.layers_fit;
+        slots_had = all_kept (has_slots b.slots) (kept (has_slots b.slots) (λ j. refl)) b.jobs ∙ ok.slots_had;
+        jobs_fit = omega (arith, ok.jobs_fit, sums_kept b.jobs);
       }
 
-  pub paused_names : (names : List (List ℕ)) (fit : ℕ) (jobs : List JobRow) → KeepsNames names fit jobs → KeepsNames names fit (map row jobs)
-  paused_names names fit jobs keeps =
+  pub paused_names : (names : List (List ℕ × ℕ)) (jobs : List JobRow) → KeepsNames names jobs → KeepsNames names (map row jobs)
+  paused_names names jobs keeps =
       record {
-        names_are = keeps.names_are ∙ sym (map-map_kept name_of row (kept name_of (λ j. refl)) jobs);
-        pending = all_kept has_begun (kept has_begun (λ j. refl)) jobs ∙ keeps.pending;
-        room = keeps.room;
+        named = λ name. keys_kept (is_named name) job_key (kept (is_named name) (λ j. refl)) (kept job_key (λ j. refl)) jobs ∙ keeps.named name;
+        as_many = omega (arith, keeps.as_many, length-map jobs row);
+      }
+
+  pub paused_finished : (jobs : List JobRow) (keys : List ℕ) → KeepsFinished jobs keys → KeepsFinished (map row jobs) keys
+  paused_finished jobs keys keeps =
+      let same = keys_kept is_finished finish_key (kept is_finished (λ j. refl)) (kept finish_key (λ j. refl)) jobs in
+      record {
+        keys_are = keeps.keys_are ∙ sym (ap sorted same);
+        within = all_kept has_finish (kept has_finish (λ j. refl)) jobs ∙ keeps.within;
+        few = omega (arith, keeps.few, ap (λ (ns : List ℕ). length ns) same, length-map (filter is_finished (map row jobs)) finish_key, length-map (filter is_finished jobs) finish_key);
       }
 
   pub paused_ready : (jobs : List JobRow) (slots : List SlotRow) (ready : List (List ℕ)) → KeepsReady jobs slots ready → KeepsReady (map row jobs) slots ready

@@ -1,11 +1,11 @@
 -- A job that isn't refused is placed: its frames have slots, and the book stays in order.
-use Rattle.std.proofs.Common.{◌≡◌, ℕ, suc, ◌+◌, ◌-◌, ◌*◌, ◌<◌, ◌≤◌, ◌&&◌, not, Bool, true, false, cond, eqb, List, [], ◌∷◌, ◌++◌, length, map, Option, Some, None, is_none, ℤ, refl, sym, ap, subst, ◌∙◌, arith, length-append}
+use Rattle.std.proofs.Common.{◌≡◌, ℕ, suc, ◌+◌, ◌-◌, ◌*◌, ◌<◌, ◌≤◌, ◌&&◌, ◌||◌, not, Bool, true, false, cond, eqb, List, [], ◌∷◌, ◌++◌, length, map, filter, Option, Some, None, is_none, ℤ, refl, sym, ap, subst, ◌∙◌, arith, append-nil}
 use Rattle.std.specs.Prelude.{nat_le, nat_lt}
 use Rattle.std.specs.List.{sum_by, list_all, list_any, All}
 use Rattle.std.proofs.lemmas.List.{map_push, length-map}
 use Rattle.std.proofs.lemmas.List.Folds.{list_all-append}
 use Rattle.std.proofs.lemmas.List.Sums.{sum_by-cons, sum_by-append}
-use Rattle.std.proofs.lemmas.Bool.{false≢true, ltb-false, lt-ltb, lt-leb, leb-false, eq-eqb, ne_eqb, and_from}
+use Rattle.std.proofs.lemmas.Bool.{false≢true, ltb-false, ltb-true, lt-ltb, lt-leb, le-leb, leb-false, eq-eqb, ne_eqb, and_from}
 use Rattle.farm_types.specs.declared.job.JobSpec.{JobSpec}
 use Rattle.farm_types.specs.declared.job.LayerSpec.{LayerSpec}
 use Rattle.farm_types.specs.declared.rows.JobRow.{JobRow}
@@ -14,20 +14,26 @@ use Rattle.farm_types.specs.declared.slot_row.Frame.{Frame}
 use Rattle.farm_types.specs.declared.slot_row.SlotRow.{SlotRow}
 use Rattle.farm_types.specs.declared.states.FrameState.{FrameState}
 use Rattle.farm_types.specs.declared.states.FrameState.TheVariants.{Waiting, Setup, Running, Succeeded, Depend, Dead, Eaten}
+use Rattle.farm_types.specs.Booking.{is_pending}
 use Rattle.farm_types.specs.Farm.{for_some}
-use Rattle.farm_types.specs.Jobs.{JobLists, is_free, free_among, free_in, slot_with, fresh_slot, place_frames, new_frame, frames_from, frames_of, job_row, layer_rows, with_job, job_refusal, layers_refusal, room_refusal, repeated_name, is_pending_named}
+use Rattle.farm_types.specs.Finish.{is_finished, is_frame_of}
+use Rattle.farm_types.specs.Jobs.{JobLists, is_free, free_among, free_in, slot_with, fresh_slot, place_frames, new_frame, frames_from, frames_of, job_row, layer_rows, job_refusal, layers_refusal, room_refusal, repeated_name, is_pending_named}
 use Rattle.farm_types.specs.Jobs.{frames_in}
 use Rattle.farm_types.specs.SpecLimits.{JobKeepsLimits, LayerKeepsLimits}
-use Rattle.job_book.specs.Book.{is_in, count_in, counts_of, number_of}
+use Rattle.job_book.specs.Book.{is_in, count_in, counts_of, number_of, with_new_job}
 use Rattle.job_book.specs.Counting.{part, new_counts}
+use Rattle.job_book.specs.Entries.{are_layers}
+use Rattle.job_book.specs.Finished.{KeepsFinished, finish_key, has_finish}
+use Rattle.job_book.specs.Ready.{sorted}
+use Rattle.std.proofs.lemmas.List.Elements.{filter-append}
 use Rattle.farm_types.specs.Rising.{IsRising, job_key}
-use Rattle.job_book.specs.Inside.{IsBook, layer_key, has_place, is_below, counts_for}
+use Rattle.job_book.specs.Inside.{IsBook, layer_key, is_below, counts_for, taken_by, has_slots, has_layers_if, frames_left}
 use Rattle.job_book.proofs.FreeSlots.{free_cons}
 use Rattle.farm_types.proofs.Lists.{and_both}
 use Rattle.job_book.proofs.Putting.{length-frames_of}
 use Rattle.job_book.proofs.InState.{same_counts, part_is}
 use Rattle.farm_types.specs.declared.limits.TheConstants.{LAST_JOB, LAST_VERSION, SLOT_LIMIT}
-use Rattle.job_book.specs.declared.place_of.TheConstants.{PLACE_LIMIT}
+use Rattle.job_book.specs.declared.jobs.TheConstants.{PLACE_LIMIT}
 
 -- ---- how many slots there are, and how many of them are free
 
@@ -148,6 +154,30 @@ count_placed slots next ls job state =
     let new = sum_of (λ (y : Frame). cond (is_in job state y) 1 0) next 0 ls (cond (eqb next job && eqb 0 (number_of state)) 1 0) (λ l q n. refl) in
     omega (arith, all, new)
 
+-- as many slots more have a frame of the job
+pub taken_placed : (slots : List SlotRow) (next : ℕ) (ls : List LayerSpec) (job : ℕ) → taken_by job (place_frames slots (frames_of next 0 ls)) ≡ taken_by job slots + frames_in ls * cond (eqb next job) 1 0
+taken_placed slots next ls job =
+    let all = sum_placed (λ o. cond (for_some o (λ (x : Frame). eqb x.job job)) 1 0) refl slots (frames_of next 0 ls) in
+    let new = sum_of (λ (y : Frame). cond (eqb y.job job) 1 0) next 0 ls (cond (eqb next job) 1 0) (λ l q n. refl) in
+    omega (arith, all, new)
+
+-- a job that wasn't placed has no slot
+below_taken : (o : Option Frame) (next job : ℕ) → next ≤ job → not (for_some o (λ x. nat_le next x.job)) ≡ true → ◌≡◌ {A = ℕ} (cond (for_some o (λ (x : Frame). eqb x.job job)) 1 0) 0
+below_taken None next job later below = refl
+below_taken (Some x) next job later below = apart_by (nat_le next x.job) refl below
+  where
+    apart_by : (b : Bool) → nat_le next x.job ≡ b → not (nat_le next x.job) ≡ true → ◌≡◌ {A = ℕ} (cond (eqb x.job job) 1 0) 0
+    apart_by true is h = absurd (false≢true (rw is at h))
+    apart_by false is h =
+        let apart : eqb x.job job ≡ false = ne_eqb x.job job (λ e. absurd (omega (arith, leb-false next x.job is))) in
+        rw apart refl
+
+pub new_taken_none : (slots : List SlotRow) (next job : ℕ) → next ≤ job → list_all (is_below next) slots ≡ true → taken_by job slots ≡ 0
+new_taken_none [] next job later below = refl
+new_taken_none (s ∷ ss) next job later below =
+    let both = and_both (is_below next s) (list_all (is_below next) ss) below in
+    omega (arith, sum_by-cons (λ (r : SlotRow). cond (is_frame_of job r) 1 0) s ss, below_taken s.frame next job later both.0, new_taken_none ss next job later both.1)
+
 -- a job that wasn't placed has no frame
 below_frame : (o : Option Frame) (next job : ℕ) (state : FrameState) → next ≤ job → not (for_some o (λ x. nat_le next x.job)) ≡ true → ◌≡◌ {A = ℕ} (cond (for_some o (is_in job state)) 1 0) 0
 below_frame None next job state later below = refl
@@ -171,7 +201,7 @@ pub rising_within : {X : Type 0} (key : X → ℕ) (low : ℕ) (xs : List X) (hi
 rising_within key low [] high rise = rise
 rising_within key low (x ∷ xs) high rise = omega (arith, rise.0, rising_within key (key x + 1) xs high rise.1)
 
-rising-append : {X : Type 0} (key : X → ℕ) (low mid high : ℕ) (xs ys : List X) → IsRising key low xs mid → IsRising key mid ys high → IsRising key low (xs ++ ys) high
+pub rising-append : {X : Type 0} (key : X → ℕ) (low mid high : ℕ) (xs ys : List X) → IsRising key low xs mid → IsRising key mid ys high → IsRising key low (xs ++ ys) high
 rising-append key low mid high [] ys first second = rising_lower key low mid ys high first second
   where
     rising_lower : {X : Type 0} (key : X → ℕ) (low mid : ℕ) (ys : List X) (high : ℕ) → low ≤ mid → IsRising key mid ys high → IsRising key low ys high
@@ -184,10 +214,6 @@ layers_rising job p [] few = omega arith
 layers_rising job p (l ∷ ls) few =
     let next : PLACE_LIMIT * job + p + 1 ≡ PLACE_LIMIT * job + (p + 1) = omega arith in
     (omega arith, subst (λ k. IsRising layer_key k (layer_rows job (p + 1) ls) (PLACE_LIMIT * (job + 1))) (sym next) (layers_rising job (p + 1) ls (omega arith)))
-
-places_rows : (job p : ℕ) (ls : List LayerSpec) → p + length ls ≤ PLACE_LIMIT → list_all has_place (layer_rows job p ls) ≡ true
-places_rows job p [] few = refl
-places_rows job p (l ∷ ls) few = and_from (nat_lt p PLACE_LIMIT) _ (lt-ltb p PLACE_LIMIT (omega arith)) (places_rows job (p + 1) ls (omega arith))
 
 pub length-layer_rows : (job p : ℕ) (ls : List LayerSpec) → length (layer_rows job p ls) ≡ length ls
 length-layer_rows job p [] = refl
@@ -250,7 +276,7 @@ all_later (s ∷ ss) next h =
 
 module _ (b : JobLists) (show : ℕ) (spec : JobSpec) (limits : JobKeepsLimits spec) (none : job_refusal b spec ≡ None) (ok : IsBook b) where
   abbrev pub placed_lists : JobLists
-  placed_lists = with_job b show spec
+  placed_lists = with_new_job b show spec
 
   abbrev frames : List Frame
   frames = frames_of b.next_job 0 spec.layers
@@ -270,12 +296,44 @@ module _ (b : JobLists) (show : ℕ) (spec : JobSpec) (limits : JobKeepsLimits s
       let k : nat_le (b.next_job + 1) b.next_job ≡ false = lt-leb (b.next_job + 1) b.next_job (omega arith) in
       all_of (λ o. not (for_some o (λ x. nat_le (b.next_job + 1) x.job))) b.next_job 0 spec.layers (λ l q n. rw k refl)
 
+  -- earlier jobs have the slots that they had
+  had_kept : (low : ℕ) (js : List JobRow) → IsRising job_key low js b.next_job → list_all (has_slots b.slots) js ≡ true → list_all (has_slots placed_lists.slots) js ≡ true
+  had_kept low [] rise all = refl
+  had_kept low (j ∷ js) rise all =
+      let both = and_both (has_slots b.slots j) (list_all (has_slots b.slots) js) all in
+      let apart : eqb b.next_job j.job ≡ false = ne_eqb b.next_job j.job (λ e. absurd (omega (arith, e, rising_within job_key (j.job + 1) js b.next_job rise.1))) in
+      let e = rw apart at (taken_placed b.slots b.next_job spec.layers j.job) in
+      let same : taken_by j.job placed_lists.slots ≡ taken_by j.job b.slots = omega (arith, e) in
+      and_from (has_slots placed_lists.slots j) _ (ap (λ (n : ℕ). cond (is_pending j.state) (nat_lt 0 j.frames && nat_le n j.frames) (eqb n 0)) same ∙ both.0) (had_kept (j.job + 1) js rise.1 both.1)
+
+  new_had : has_slots placed_lists.slots (job_row b.next_job show spec) ≡ true
+  new_had =
+      let itself : eqb b.next_job b.next_job ≡ true = eq-eqb b.next_job b.next_job refl in
+      let e = rw itself at (taken_placed b.slots b.next_job spec.layers b.next_job) in
+      let none = new_taken_none b.slots b.next_job b.next_job (omega arith) ok.frames_below in
+      and_from (nat_lt 0 (frames_in spec.layers)) _ (lt-ltb 0 (frames_in spec.layers) (omega (arith, limits.frames_within.0))) (le-leb (taken_by b.next_job placed_lists.slots) (frames_in spec.layers) (omega (arith, e, none)))
+
+  -- new layers are of the new job alone
+  other_rows : (job p : ℕ) (ls : List LayerSpec) → eqb b.next_job job ≡ false → list_any (λ (l : LayerRow). eqb l.job job) (layer_rows b.next_job p ls) ≡ false
+  other_rows job p [] apart = refl
+  other_rows job p (l ∷ ls) apart = rw apart (other_rows job (p + 1) ls apart)
+
+  any_both : (test : LayerRow → Bool) (xs ys : List LayerRow) → list_any test ys ≡ false → list_any test (xs ++ ys) ≡ list_any test xs
+  any_both test [] ys none = none
+  any_both test (x ∷ xs) ys none = ap (λ (c : Bool). test x || c) (any_both test xs ys none)
+
+  owned_kept : (low : ℕ) (js : List JobRow) → IsRising job_key low js b.next_job → list_all (has_layers_if b.layers) js ≡ true → list_all (has_layers_if placed_lists.layers) js ≡ true
+  owned_kept low [] rise all = refl
+  owned_kept low (j ∷ js) rise all =
+      let both = and_both (has_layers_if b.layers j) (list_all (has_layers_if b.layers) js) all in
+      let apart : eqb b.next_job j.job ≡ false = ne_eqb b.next_job j.job (λ e. absurd (omega (arith, e, rising_within job_key (j.job + 1) js b.next_job rise.1))) in
+      let same = any_both (λ (l : LayerRow). eqb l.job j.job) b.layers (layer_rows b.next_job 0 spec.layers) (other_rows j.job 0 spec.layers apart) in
+      and_from (has_layers_if placed_lists.layers j) _ (ap (λ (c : Bool). is_pending j.state || not c) same ∙ both.0) (owned_kept (j.job + 1) js rise.1 both.1)
+
   pub placed_book : IsBook placed_lists
   placed_book =
       let last = (accepted_fits b spec none).1 in
       let free = placed_free in
-      let each = layers_within spec.layers limits.each_layer in
-      let long = length-layer_rows b.next_job 0 spec.layers in
       let from : PLACE_LIMIT * b.next_job + 0 ≡ PLACE_LIMIT * b.next_job = omega arith in
       record {
         slot_count = placed_slot_count;
@@ -284,10 +342,10 @@ module _ (b : JobLists) (show : ℕ) (spec : JobSpec) (limits : JobKeepsLimits s
         layers_rise =
             rising-append layer_key 0 (PLACE_LIMIT * b.next_job) (PLACE_LIMIT * (b.next_job + 1)) b.layers (layer_rows b.next_job 0 spec.layers) ok.layers_rise
             (subst (λ k. IsRising layer_key k (layer_rows b.next_job 0 spec.layers) (PLACE_LIMIT * (b.next_job + 1))) from (layers_rising b.next_job 0 spec.layers (omega (arith, limits.layers_within.1))));
-        places_within = list_all-append has_place b.layers (layer_rows b.next_job 0 spec.layers) ∙ and_from _ _ ok.places_within (places_rows b.next_job 0 spec.layers (omega (arith, limits.layers_within.1)));
+        layers_owned = list_all-append (has_layers_if placed_lists.layers) b.jobs (job_row b.next_job show spec ∷ []) ∙ and_from _ _ (owned_kept 0 b.jobs ok.jobs_rise ok.layers_owned) refl;
         frames_below = all_placed (λ o. not (for_some o (λ x. nat_le (b.next_job + 1) x.job))) b.slots frames (all_later b.slots b.next_job ok.frames_below) new_below;
-        jobs_fit = omega (arith, free, ok.jobs_fit, length-append b.jobs (job_row b.next_job show spec ∷ []), limits.frames_within.0);
-        layers_fit = omega (arith, free, ok.layers_fit, length-append b.layers (layer_rows b.next_job 0 spec.layers), long, each);
+        slots_had = list_all-append (has_slots placed_lists.slots) b.jobs (job_row b.next_job show spec ∷ []) ∙ and_from _ _ (had_kept 0 b.jobs ok.jobs_rise ok.slots_had) (and_from _ _ new_had refl);
+        jobs_fit = omega (arith, free, ok.jobs_fit, sum_by-append frames_left b.jobs (job_row b.next_job show spec ∷ []), sum_by-cons frames_left (job_row b.next_job show spec) []);
       }
 
   counts_before : (job : ℕ) → job < b.next_job → counts_of job placed_lists.slots ≡ counts_of job b.slots
@@ -327,7 +385,42 @@ module _ (b : JobLists) (show : ℕ) (spec : JobSpec) (limits : JobKeepsLimits s
       map_push (λ (j : JobRow). counts_of j.job placed_lists.slots) b.jobs (job_row b.next_job show spec)
       ∙ ap (λ cs. cs ++ counts_of b.next_job placed_lists.slots ∷ []) (counts_kept 0 b.jobs ok.jobs_rise) ∙ ap (λ c. counts_for b.jobs b.slots ++ c ∷ []) counts_new
 
+-- the rows of a job's layers are its own, in order
+pub rows_are_layers : (job p : ℕ) (ls : List LayerSpec) → are_layers job p (layer_rows job p ls) ≡ true
+rows_are_layers job p [] = refl
+rows_are_layers job p (l ∷ ls) = rw (eq-eqb job job refl, eq-eqb p p refl) (rows_are_layers job (p + 1) ls)
+
+-- the new job isn't finished
+pub placed_finished : (b : JobLists) (show : ℕ) (spec : JobSpec) (keys : List ℕ) → KeepsFinished b.jobs keys → KeepsFinished (b.jobs ++ job_row b.next_job show spec ∷ []) keys
+placed_finished b show spec keys keeps =
+    let same : filter is_finished (b.jobs ++ job_row b.next_job show spec ∷ []) ≡ filter is_finished b.jobs = filter-append is_finished b.jobs (job_row b.next_job show spec ∷ []) ∙ append-nil (filter is_finished b.jobs) in
+    record {
+      keys_are = keeps.keys_are ∙ ap (λ (js : List JobRow). sorted (map finish_key js)) (sym same);
+      within = list_all-append has_finish b.jobs (job_row b.next_job show spec ∷ []) ∙ and_from _ _ keeps.within refl;
+      few = omega (arith, keeps.few, ap (λ (js : List JobRow). length js) same);
+    }
+
+-- ---- how many jobs there are
+
+few_step : (c : Bool) (slots : List SlotRow) (j : JobRow) (js : List JobRow) → is_pending j.state ≡ c → has_slots slots j ≡ true → length js ≤ sum_by frames_left js + length (filter is_finished js)
+    → length (j ∷ js) ≤ sum_by frames_left (j ∷ js) + length (filter is_finished (j ∷ js))
+few_step true slots j js is had later =
+    let both = and_both (nat_lt 0 j.frames) (nat_le (taken_by j.job slots) j.frames) (rw is at had) in
+    let left : frames_left j ≡ j.frames = rw is refl in
+    let done : filter is_finished (j ∷ js) ≡ filter is_finished js = rw is refl in
+    omega (arith, sum_by-cons frames_left j js, left, ap (λ (ks : List JobRow). length ks) done, ltb-true 0 j.frames both.0, later)
+few_step false slots j js is had later =
+    let done : filter is_finished (j ∷ js) ≡ j ∷ filter is_finished js = rw is refl in
+    omega (arith, sum_by-cons frames_left j js, ap (λ (ks : List JobRow). length ks) done, later)
+
+-- each pending job has a frame
+pub rows_few : (slots : List SlotRow) (jobs : List JobRow) → list_all (has_slots slots) jobs ≡ true → length jobs ≤ sum_by frames_left jobs + length (filter is_finished jobs)
+rows_few slots [] all = omega arith
+rows_few slots (j ∷ js) all =
+    let both = and_both (has_slots slots j) (list_all (has_slots slots) js) all in
+    few_step (is_pending j.state) slots j js refl both.0 (rows_few slots js both.1)
+
 -- lists that are those of a book
-pub book_from : (b : JobLists) (jobs : List JobRow) (layers : List LayerRow) (slots : List SlotRow) (next : ℕ) → jobs ≡ b.jobs → layers ≡ b.layers → slots ≡ b.slots → next ≡ b.next_job
-    → IsBook b → IsBook (record { jobs = jobs; layers = layers; slots = slots; next_job = next })
-book_from b jobs layers slots next e0 e1 e2 e3 ok = rw (e0, e1, e2, e3) ok
+pub book_from : (b : JobLists) (jobs : List JobRow) (layers : List LayerRow) (slots : List SlotRow) (next finish : ℕ) → jobs ≡ b.jobs → layers ≡ b.layers → slots ≡ b.slots → next ≡ b.next_job → finish ≡ b.next_finish
+    → IsBook b → IsBook (record { jobs = jobs; layers = layers; slots = slots; next_job = next; next_finish = finish })
+book_from b jobs layers slots next finish e0 e1 e2 e3 e4 ok = rw (e0, e1, e2, e3, e4) ok

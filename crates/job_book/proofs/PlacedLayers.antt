@@ -19,7 +19,7 @@ use Rattle.job_book.specs.Inside.{is_below, layer_key}
 use Rattle.job_book.specs.Layers.{KeepsLayers, layer_position, place_in, places_past, put_places}
 use Rattle.job_book.proofs.NamedJobs.{found_any}
 use Rattle.job_book.proofs.Placed.{no_frame, all_placed, all_from, all_of, length-layer_rows, rising_within}
-use Rattle.job_book.specs.declared.place_of.TheConstants.{PLACE_LIMIT}
+use Rattle.job_book.specs.declared.jobs.TheConstants.{PLACE_LIMIT}
 
 -- the test says of no frame that it is one
 abbrev pub fails : (Frame → Bool) → Frame → Bool
@@ -238,7 +238,7 @@ module _ {X : Type 0} (test : X → Bool) where
 
 -- ---- the layers of all jobs
 
-abbrev is_layer : ℕ → ℕ → LayerRow → Bool
+abbrev pub is_layer : ℕ → ℕ → LayerRow → Bool
 is_layer job layer l = eqb l.job job && eqb l.place layer
 
 -- no layer of a job that wasn't placed

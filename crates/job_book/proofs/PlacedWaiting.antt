@@ -20,7 +20,7 @@ use Rattle.job_book.specs.Layers.{LayerPlaces, KeepsLayers, KeepsWaiting, count_
 use Rattle.job_book.proofs.LayerSlots.{from_slot, listed, map_same}
 use Rattle.job_book.proofs.Placed.{no_frame, all_placed, all_of}
 use Rattle.job_book.proofs.PlacedLayers.{placed_layers, slice_get-front, slice_get-back}
-use Rattle.job_book.specs.declared.place_of.TheConstants.{PLACE_LIMIT}
+use Rattle.job_book.specs.declared.jobs.TheConstants.{PLACE_LIMIT}
 
 kept_first : (b : Bool) (s : SlotRow) (ss : List SlotRow) (x : Frame) (xs : List Frame) (row : SlotRow) (y : Frame) → is_free s ≡ b → Some s ≡ Some row → row.frame ≡ Some y
     → slice_get (place_frames (s ∷ ss) (x ∷ xs)) 0 ≡ Some row

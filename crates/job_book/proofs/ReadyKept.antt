@@ -1,6 +1,6 @@
 -- The ready jobs when a slot's row is set, and when a job is placed.
 use Rattle.std.proofs.Common.{◌≡◌, ℕ, zero, suc, ◌+◌, ◌<◌, ◌≤◌, Bool, true, false, eqb, ltb, List, [], ◌∷◌, ◌++◌, length, Option, Some, None, option_map, refl, sym, ap, ◌∙◌, arith, length-append}
-use Rattle.std.specs.List.{find, list_all, position_or_len, slice_get}
+use Rattle.std.specs.List.{find, position_or_len, slice_get}
 use Rattle.std.proofs.lemmas.Bool.{eq-eqb, ne_eqb, eqb-true, eqb-false, lt-ltb, le-leb}
 use Rattle.std.proofs.lemmas.List.Folds.{find_at}
 use Rattle.std.proofs.lemmas.Option.{none-some, same_Some, slice_get-map}
@@ -10,15 +10,16 @@ use Rattle.farm_types.specs.declared.slot_row.Frame.{Frame}
 use Rattle.farm_types.specs.declared.slot_row.SlotRow.{SlotRow}
 use Rattle.farm_types.specs.declared.states.FrameState.{FrameState}
 use Rattle.farm_types.specs.declared.states.FrameState.TheVariants.{Waiting}
+use Rattle.farm_types.specs.Booking.{is_pending}
 use Rattle.farm_types.specs.Farm.{for_some, changed_at}
-use Rattle.farm_types.specs.Jobs.{JobLists, frames_of, job_row, place_frames, with_job}
+use Rattle.farm_types.specs.Jobs.{JobLists, frames_of, job_row, place_frames}
 use Rattle.farm_types.specs.SpecLimits.{JobKeepsLimits}
 use Rattle.farm_types.specs.declared.limits.TheConstants.{MOST_PRIORITY}
 use Rattle.farm_types.specs.Rising.{IsRising, job_key}
 use Rattle.farm_types.proofs.Lists.{found_is, list_all-at}
 use Rattle.job_book.specs.declared.counts.Counts.{Counts}
-use Rattle.job_book.specs.Book.{count_in, counts_of}
-use Rattle.job_book.specs.Inside.{IsBook, counts_for, has_begun}
+use Rattle.job_book.specs.Book.{count_in, counts_of, with_new_job}
+use Rattle.job_book.specs.Inside.{IsBook, counts_for}
 use Rattle.job_book.specs.Ready.{CanBeReady, CanChange, KeepsReady, changed_ready, has_priority, put_key, ready_key, waits}
 use Rattle.job_book.proofs.InState.{IsInState, counts_other, with_row}
 use Rattle.job_book.proofs.Placed.{count_placed, new_job_counts_none}
@@ -45,13 +46,13 @@ said_is : (jobs : List JobRow) (slots : List SlotRow) (counts : List Counts) (pl
 said_is jobs slots counts place j are at =
     ap (λ (cs : List Counts). said (slice_get cs place)) are ∙ ap said (slice_get-map (λ (r : JobRow). counts_of r.job slots) jobs place ∙ ap (option_map (λ (r : JobRow). counts_of r.job slots)) at)
 
-module _ (jobs : List JobRow) (high : ℕ) (most : high ≤ JOB_NUMBERS) (rise : IsRising job_key 0 jobs high) (begun : list_all has_begun jobs ≡ true) (few : length jobs < MOST_JOBS) (ready : List (List ℕ)) where
-  module _ (slots : List SlotRow) (keeps : KeepsReady jobs slots ready) (counts : List Counts) (are : counts ≡ counts_for jobs slots) (place : ℕ) (had has : Bool) (was : had ≡ said (slice_get counts place)) where
+module _ (jobs : List JobRow) (high : ℕ) (most : high ≤ JOB_NUMBERS) (rise : IsRising job_key 0 jobs high) (few : length jobs < MOST_JOBS) (ready : List (List ℕ)) where
+  module _ (slots : List SlotRow) (keeps : KeepsReady jobs slots ready) (counts : List Counts) (are : counts ≡ counts_for jobs slots) (place : ℕ) (begun : (j : JobRow) → slice_get jobs place ≡ Some j → is_pending j.state ≡ true) (had has : Bool) (was : had ≡ said (slice_get counts place)) where
     can_by : (o : Option JobRow) → slice_get jobs place ≡ o → CanChange had has ready o
     can_by None at = tt
     can_by (Some j) at = (
       list_all-at has_priority jobs place j keeps.priorities at,
-      λ none _. can_be_ready jobs high most rise place j at (list_all-at has_begun jobs place j begun at) slots slots (λ job far. refl) ready keeps few (sym (said_is jobs slots counts place j are at) ∙ sym was ∙ none),
+      λ none _. can_be_ready jobs high most rise place j at (begun j at) slots slots (λ job far. refl) ready keeps few (sym (said_is jobs slots counts place j are at) ∙ sym was ∙ none),
     )
 
     -- a job that becomes ready stands in no list yet
@@ -73,14 +74,14 @@ module _ (jobs : List JobRow) (high : ℕ) (most : high ≤ JOB_NUMBERS) (rise :
       kept_by None here = same_ready jobs slots new ready (λ k l there. apart_same l.job (eqb-false l.job x.job (find_none (λ (j : JobRow). eqb j.job x.job) jobs k l (found None here) there))) keeps
       kept_by (Some j) here =
           let same : j.job ≡ x.job = eqb-true j.job x.job (found_is (λ (r : JobRow). eqb r.job x.job) jobs j (found (Some j) here)) in
-          ready_after jobs high most rise place j here (list_all-at has_begun jobs place j begun here) slots new (λ job far. apart_same job (λ e. far (e ∙ sym same))) ready keeps had has
+          ready_after jobs high most rise place j here (begun j here) slots new (λ job far. apart_same job (λ e. far (e ∙ sym same))) ready keeps had has
           (sym (said_is jobs slots counts place j are here) ∙ sym was) (sym (said_is jobs new later place j now_are here) ∙ sym now)
 
       pub in_state_ready : KeepsReady jobs new (changed_ready had has ready (slice_get jobs place))
       in_state_ready = kept_by (slice_get jobs place) refl
 
 -- a job is placed
-module _ (b : JobLists) (show : ℕ) (spec : JobSpec) (limits : JobKeepsLimits spec) (ok : IsBook b) (placed : IsBook (with_job b show spec)) (few : length b.jobs + 1 < MOST_JOBS) (ready : List (List ℕ)) (keeps : KeepsReady b.jobs b.slots ready) where
+module _ (b : JobLists) (show : ℕ) (spec : JobSpec) (limits : JobKeepsLimits spec) (ok : IsBook b) (placed : IsBook (with_new_job b show spec)) (few : length b.jobs + 1 < MOST_JOBS) (ready : List (List ℕ)) (keeps : KeepsReady b.jobs b.slots ready) where
   abbrev row : JobRow
   row = job_row b.next_job show spec
 

@@ -96,7 +96,7 @@ by_sorted p low (j ∷ js) high most rise all =
     let above = above_all j.job (j.job + 1) js high (omega arith) most rise.1 both.1 in
     by_sorted_step (p j) p j js refl both.0 (all-by_priority (is_above j.job) (filter p js) (all-filter (is_above j.job) p js above)) (by_sorted p (j.job + 1) js high most rise.1 both.1)
 
-number_of_key : (b a : ℕ) → a < JOB_NUMBERS → (b * JOB_NUMBERS + a) % JOB_NUMBERS ≡ a
+pub number_of_key : (b a : ℕ) → a < JOB_NUMBERS → (b * JOB_NUMBERS + a) % JOB_NUMBERS ≡ a
 number_of_key b a less = omega arith
 
 abbrev is_numbered : JobRow → Bool
@@ -137,7 +137,7 @@ commute_step false true a c k ks xa yc apart later =
     rw (xa, yc) (rw (idle, xa) refl)
 commute_step false false a c k ks xa yc apart later = rw (xa, yc) (rw xa (ap (λ ns. k ∷ ns) later))
 
-commute : (a c : ℕ) (ks : List ℕ) → (a ≡ c → ⊥) → put_key a (put_key c ks) ≡ put_key c (put_key a ks)
+pub commute : (a c : ℕ) (ks : List ℕ) → (a ≡ c → ⊥) → put_key a (put_key c ks) ≡ put_key c (put_key a ks)
 commute a c [] apart = commute_first (ltb a c) a c [] refl apart
 commute a c (k ∷ ks) apart = commute_step (ltb a k) (ltb c k) a c k ks refl refl apart (commute a c ks apart)
 
@@ -153,7 +153,7 @@ none_or : (a b : Bool) → a ≡ false → b ≡ false → (a || b) ≡ false
 none_or true b h k = absurd (false≢true (sym h))
 none_or false b h k = k
 
-drop_put : (key : ℕ) (ks : List ℕ) → list_any (λ (k : ℕ). eqb k key) ks ≡ false → drop_key key (put_key key ks) ≡ ks
+pub drop_put : (key : ℕ) (ks : List ℕ) → list_any (λ (k : ℕ). eqb k key) ks ≡ false → drop_key key (put_key key ks) ≡ ks
 drop_put key [] none = rw (eq-eqb key key refl) refl
 drop_put key (k ∷ ks) none =
     let split = or_none (eqb k key) (list_any (λ (n : ℕ). eqb n key) ks) none in
@@ -163,7 +163,7 @@ none-put_step : (b : Bool) (test : ℕ → Bool) (key k : ℕ) (ks : List ℕ) �
 none-put_step true test key k ks is here first rest later = rw is (none_or _ _ here (none_or _ _ first rest))
 none-put_step false test key k ks is here first rest later = rw is (none_or _ _ first later)
 
-none-put : (test : ℕ → Bool) (key : ℕ) (ks : List ℕ) → test key ≡ false → list_any test ks ≡ false → list_any test (put_key key ks) ≡ false
+pub none-put : (test : ℕ → Bool) (key : ℕ) (ks : List ℕ) → test key ≡ false → list_any test ks ≡ false → list_any test (put_key key ks) ≡ false
 none-put test key [] here rest = none_or _ _ here refl
 none-put test key (k ∷ ks) here rest =
     let split = or_none (test k) (list_any test ks) rest in
@@ -173,11 +173,11 @@ length-put_step : (b : Bool) (key k : ℕ) (ks : List ℕ) → ltb key k ≡ b �
 length-put_step true key k ks is later = rw is refl
 length-put_step false key k ks is later = rw is (ap suc later)
 
-length-put : (key : ℕ) (ks : List ℕ) → length (put_key key ks) ≡ suc (length ks)
+pub length-put : (key : ℕ) (ks : List ℕ) → length (put_key key ks) ≡ suc (length ks)
 length-put key [] = refl
 length-put key (k ∷ ks) = length-put_step (ltb key k) key k ks refl (length-put key ks)
 
-length-sorted : (ks : List ℕ) → length (sorted ks) ≡ length ks
+pub length-sorted : (ks : List ℕ) → length (sorted ks) ≡ length ks
 length-sorted [] = refl
 length-sorted (k ∷ ks) = length-put k (sorted ks) ∙ ap suc (length-sorted ks)
 
@@ -185,13 +185,13 @@ fewer_step : (b : Bool) (p : JobRow → Bool) (j : JobRow) (js : List JobRow) �
 fewer_step true p j js is later = rw is (omega (arith, later))
 fewer_step false p j js is later = rw is (omega (arith, later))
 
-fewer : (p : JobRow → Bool) (js : List JobRow) → length (filter p js) ≤ length js
+pub fewer : (p : JobRow → Bool) (js : List JobRow) → length (filter p js) ≤ length js
 fewer p [] = omega arith
 fewer p (j ∷ js) = fewer_step (p j) p j js refl (fewer p js)
 
 -- ---- jobs by number
 
-at_bounds : (low : ℕ) (js : List JobRow) (high i : ℕ) (j : JobRow) → IsRising job_key low js high → slice_get js i ≡ Some j → (low ≤ j.job) × (j.job < high)
+pub at_bounds : (low : ℕ) (js : List JobRow) (high i : ℕ) (j : JobRow) → IsRising job_key low js high → slice_get js i ≡ Some j → (low ≤ j.job) × (j.job < high)
 at_bounds low [] high i j rise at = absurd (none-some j at)
 at_bounds low (k ∷ ks) high zero j rise at =
     let same : k.job ≡ j.job = ap (λ (r : JobRow). r.job) (same_Some k j at) in
@@ -201,7 +201,7 @@ at_bounds low (k ∷ ks) high (suc i) j rise at =
     (omega (arith, rise.0, later.0), later.1)
 
 -- one job has a number
-one_of : (low : ℕ) (js : List JobRow) (high i k : ℕ) (j l : JobRow) → IsRising job_key low js high → slice_get js i ≡ Some j → slice_get js k ≡ Some l → l.job ≡ j.job → l ≡ j
+pub one_of : (low : ℕ) (js : List JobRow) (high i k : ℕ) (j l : JobRow) → IsRising job_key low js high → slice_get js i ≡ Some j → slice_get js k ≡ Some l → l.job ≡ j.job → l ≡ j
 one_of low [] high i k j l rise at there same = absurd (none-some j at)
 one_of low (r ∷ rs) high zero zero j l rise at there same = sym (same_Some r l there) ∙ same_Some r j at
 one_of low (r ∷ rs) high zero (suc k) j l rise at there same =
@@ -210,14 +210,14 @@ one_of low (r ∷ rs) high (suc i) zero j l rise at there same =
     absurd (omega (arith, (at_bounds (r.job + 1) rs high i j rise.1 at).0, same, ap (λ (m : JobRow). m.job) (same_Some r l there)))
 one_of low (r ∷ rs) high (suc i) (suc k) j l rise at there same = one_of (r.job + 1) rs high i k j l rise.1 at there same
 
-keys_apart : (x y a b : ℕ) → a < JOB_NUMBERS → b < JOB_NUMBERS → (a ≡ b → ⊥) → x * JOB_NUMBERS + a ≡ y * JOB_NUMBERS + b → ⊥
+pub keys_apart : (x y a b : ℕ) → a < JOB_NUMBERS → b < JOB_NUMBERS → (a ≡ b → ⊥) → x * JOB_NUMBERS + a ≡ y * JOB_NUMBERS + b → ⊥
 keys_apart x y a b ha hb apart e = apart (omega (arith, e))
 
 same_filter_step : (b : Bool) (p q : JobRow → Bool) (j : JobRow) (js : List JobRow) → p j ≡ b → q j ≡ p j → filter q js ≡ filter p js → filter q (j ∷ js) ≡ filter p (j ∷ js)
 same_filter_step true p q j js is same later = rw (same ∙ is, is) (ap (λ ks. j ∷ ks) later)
 same_filter_step false p q j js is same later = rw (same ∙ is, is) later
 
-same_filter : (p q : JobRow → Bool) (js : List JobRow) → ((k : ℕ) (j : JobRow) → slice_get js k ≡ Some j → q j ≡ p j) → filter q js ≡ filter p js
+pub same_filter : (p q : JobRow → Bool) (js : List JobRow) → ((k : ℕ) (j : JobRow) → slice_get js k ≡ Some j → q j ≡ p j) → filter q js ≡ filter p js
 same_filter p q [] same = refl
 same_filter p q (j ∷ js) same = same_filter_step (p j) p q j js refl (same 0 j refl) (same_filter p q js (λ k l at. same (suc k) l at))
 

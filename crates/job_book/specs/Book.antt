@@ -1,5 +1,5 @@
 -- What the calls of the job book answer and change.
-use Rattle.std.specs.Prelude.{◌≡◌, ◌<◌, ◌≤◌, All, IsSome, ℕ, ◌==◌, ◌&&◌, Bool, not, is_some, List, [], option_map, option_and_then, sum_by, Option, None, Some, find, slice_get, nat_lt, bytes_eq, Result, Ok, Err, if◌then◌else◌}
+use Rattle.std.specs.Prelude.{◌≡◌, ◌<◌, ◌≤◌, All, IsSome, ℕ, ◌==◌, ◌&&◌, ◌+◌, Bool, not, is_some, List, [], ◌∷◌, ◌++◌, option_map, option_and_then, sum_by, Option, None, Some, find, slice_get, nat_lt, bytes_eq, Result, Ok, Err, if◌then◌else◌}
 use Rattle.std.specs.List.{prefix_len}
 use Rattle.farm_types.specs.declared.job.JobSpec.{JobSpec}
 use Rattle.farm_types.specs.declared.rows.JobRow.{JobRow}
@@ -8,7 +8,7 @@ use Rattle.farm_types.specs.declared.slot_row.SlotRow.{SlotRow}
 use Rattle.farm_types.specs.declared.states.FrameState.{FrameState}
 use Rattle.farm_types.specs.declared.states.FrameState.TheVariants as frame_state
 use Rattle.farm_types.specs.Farm.{for_some}
-use Rattle.farm_types.specs.Jobs.{JobLists, frames_in, is_free, job_refusal}
+use Rattle.farm_types.specs.Jobs.{JobLists, frames_in, frames_of, is_free, job_refusal, job_row, layer_rows, place_frames}
 use Rattle.job_book.specs.declared.counts.Counts.{Counts}
 use Rattle.job_book.specs.declared.frame_view.FrameView.{FrameView}
 use Rattle.job_book.specs.declared.placing.JobFault.{JobFault}
@@ -17,7 +17,7 @@ use Rattle.job_book.specs.declared.placing.Placing.{Placing}
 
 -- no jobs, no slot used, and 1 the next job's number
 abbrev pub no_jobs : JobLists
-no_jobs = record { jobs = []; layers = []; slots = []; next_job = 1 }
+no_jobs = record { jobs = []; layers = []; slots = []; next_job = 1; next_finish = 1 }
 
 -- ---- placing
 
@@ -34,6 +34,17 @@ abbrev pub Checks : JobLists → ℕ → JobSpec → Result Placing JobFault →
 Checks b show spec (Ok placing) = (job_refusal b spec ≡ None) × (placing ≡ placing_of b show spec)
 Checks b show spec (Err (fault.Refused why)) = job_refusal b spec ≡ Some why
 Checks b show spec (Err fault.NoMemory) = Unit {0}
+
+-- the lists with the job of a spec, whose name no job has
+abbrev pub with_new_job : JobLists → ℕ → JobSpec → JobLists
+with_new_job b show spec =
+    record {
+      jobs = b.jobs ++ job_row b.next_job show spec ∷ [];
+      layers = b.layers ++ layer_rows b.next_job 0 spec.layers;
+      slots = place_frames b.slots (frames_of b.next_job 0 spec.layers);
+      next_job = b.next_job + 1;
+      next_finish = b.next_finish;
+    }
 
 -- ---- changes of one slot
 

@@ -1,9 +1,14 @@
 pub mod Book
 pub mod Counting
+pub mod Entries
+pub mod Finished
+pub mod Freed
 pub mod Index
 pub mod Inside
 pub mod Layers
 pub mod Lowest
+pub mod Names
+pub mod OneJob
 pub mod Puts
 pub mod Ready
 pub mod Refused

@@ -5,9 +5,7 @@ ghost use Rattle.std.specs.Vec.{vec_capacity};
 ghost use Rattle.farm_types.specs.Booking.{is_waiting};
 ghost use Rattle.job_book.specs.Book.{KeepsFrame};
 
-use crate::counting::recount;
 use crate::jobs::Jobs;
-use crate::layer_index::mark_in;
 use crate::ready::{change_ready, has_waiting};
 use farm_types::{FrameState, Slot, SlotRow};
 
@@ -26,18 +24,13 @@ impl Jobs {
         let Some(frame) = &row.frame else {
             unreachable!()
         };
-        let place = self.place_of(was.job);
-        let layer = self.layer_place_of(was.job, was.layer);
-        let had = has_waiting(self.counts.as_slice(), place);
-        recount(&mut self.counts, place, was.state, frame.state);
-        let has = has_waiting(self.counts.as_slice(), place);
-        change_ready(&mut self.ready, self.jobs.as_slice(), place, had, has);
-        mark_in(
-            &mut self.index,
-            layer,
-            was.position,
-            is_waiting(frame.state),
-        );
+        let job = was.job;
+        let had = has_waiting(&self.entries, job);
+        self.entries.recount(job, was.state, frame.state);
+        let has = has_waiting(&self.entries, job);
+        change_ready(&mut self.ready, &self.entries, job, had, has);
+        self.entries
+            .mark(job, was.layer, was.position, is_waiting(frame.state));
         set_row(&mut self.slots, slot, *row);
     }
 }
@@ -49,8 +42,8 @@ fn is_waiting(state: FrameState) -> bool
     matches!(state, FrameState::Waiting)
 }
 
-// What stands in the slot is set.
-fn set_row(slots: &mut Vec<SlotRow>, slot: Slot, row: SlotRow)
+/// What stands in the slot is set.
+pub(crate) fn set_row(slots: &mut Vec<SlotRow>, slot: Slot, row: SlotRow)
     requires { slot < length slots.old.items }
     ensures items { slots.new.items ≡ slice_set slots.old.items slot row }
     ensures capacity { vec_capacity slots.new ≡ vec_capacity slots.old }

@@ -1,20 +1,22 @@
 //! Whether a job can be placed.
 
-ghost use Rattle.std.specs.Prelude.{◌≡◌, ◌≤◌, option_map, bytes_eq, if◌then◌else◌, IfOk, Some, None, []};
+ghost use Rattle.std.specs.Prelude.{◌≡◌, option_map, bytes_eq, if◌then◌else◌, IfOk, Some, None, []};
 ghost use Rattle.std.specs.List.{list_any};
 ghost use Rattle.farm_types.specs.Jobs.{frames_in, is_pending_named, repeated_name, room_refusal};
+ghost use Rattle.farm_types.specs.Kept.{is_of_pending};
 ghost use Rattle.farm_types.specs.SpecLimits.{JobKeepsLimits};
-ghost use Rattle.farm_types.specs.declared.limits.TheConstants.{MOST_FRAMES};
 ghost use Rattle.farm_types.specs.declared.refusal.Refusal.TheVariants as refusal;
 ghost use Rattle.job_book.specs.Book.{Checks, first_free};
 ghost use Rattle.job_book.specs.Refused.{Refuses};
 ghost use Rattle.job_book.specs.declared.placing.JobFault.TheVariants as fault;
 
-use crate::job_names::place_named;
+use crate::entries::Entries;
 use crate::jobs::Jobs;
 use crate::placing::{JobFault, Placing};
 use crate::put::next_free;
-use farm_types::{Counted, JobNo, JobSpec, LAST_JOB, LayerSpec, Refusal, ShowNo, Slot, Text};
+use farm_types::{
+    Counted, JobNo, JobSpec, JobState, LAST_JOB, LayerSpec, Refusal, ShowNo, Slot, Text,
+};
 use std::alloc::{AllocError, Global};
 
 impl Jobs {
@@ -29,7 +31,7 @@ impl Jobs {
         let frames = spec.layers.count_frames() as u32;
         self.check_left(spec, frames)?;
         Ok(Placing {
-            job: JobNo(self.next_job as u32),
+            job: JobNo(self.entries.next() as u32),
             show,
             first: self.first_free(),
             frames,
@@ -57,7 +59,10 @@ impl Jobs {
     fn is_pending_named(&self, name: &Text) -> bool
         ensures { result ≡ list_any (is_pending_named name.now) self.now.jobs }
     {
-        place_named(&self.names, name.as_str()) < self.jobs.len()
+        match self.names.get(name.as_str()) {
+            None => false,
+            Some(job) => is_pending_in(&self.entries, job),
+        }
     }
 
     // Refuses a job that has more frames than there are free slots, and one for which no number is left.
@@ -70,7 +75,7 @@ impl Jobs {
                 why: Refusal::FarmFull { free: self.free },
             });
         }
-        if self.next_job > u64::from(LAST_JOB) {
+        if self.entries.next() > u64::from(LAST_JOB) {
             return Err(JobFault::Refused {
                 why: Refusal::Full {
                     limit: u64::from(LAST_JOB),
@@ -79,6 +84,16 @@ impl Jobs {
             });
         }
         Ok(())
+    }
+}
+
+/// Whether the job of that number is there and pending.
+pub(crate) fn is_pending_in(entries: &Entries, job: JobNo) -> bool
+    ensures { result ≡ is_of_pending entries.now.rows job }
+{
+    match entries.row(job) {
+        None => false,
+        Some(row) => matches!(row.state, JobState::Pending),
     }
 }
 

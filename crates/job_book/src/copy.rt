@@ -3,8 +3,9 @@
 ghost use Rattle.std.specs.Prelude.{◌≡◌, ◌≤◌, IfOk};
 ghost use Rattle.std.specs.Vec.{vec_capacity};
 
-use crate::job_names::copy_names;
-use crate::jobs::{Jobs, MOST_JOBS};
+use crate::entries::{Entries, MOST_PLACES, Place};
+use crate::entry::Entry;
+use crate::jobs::Jobs;
 use crate::layer_frames::LayerFrames;
 use crate::ready::copy_ready;
 use farm_types::{JobRow, LayerRow, SLOT_LIMIT};
@@ -16,22 +17,32 @@ impl Jobs {
         ensures { IfOk result (λ b. b ≡ self.now) }
     {
         Ok(Jobs {
-            jobs: copies(alloc, self.jobs.as_slice(), MOST_JOBS)?,
-            names: copy_names(&self.names)?,
-            counts: plain_copies(alloc, self.counts.as_slice(), MOST_JOBS)?,
-            layers: copies(alloc, self.layers.as_slice(), SLOT_LIMIT)?,
-            index: copies(alloc, self.index.as_slice(), SLOT_LIMIT)?,
+            entries: self.entries.copy(alloc)?,
+            names: self.names.copy(alloc)?,
+            finished: self.finished.copy(alloc)?,
             slots: plain_copies(alloc, self.slots.as_slice(), SLOT_LIMIT)?,
             ready: copy_ready(alloc, self.ready.as_slice())?,
             free: self.free,
             lowest: self.lowest,
-            next_job: self.next_job,
+            next_finish: self.next_finish,
         })
     }
 }
 
-// A row of the book whose texts are copied with it.
-trait Row: Drop {
+impl Entries {
+    /// Equal jobs, with the same capacity.
+    pub(crate) fn copy(&self, alloc: Global) -> Result<Entries, AllocError>
+        ensures { IfOk result (λ copy. copy ≡ self.now) }
+    {
+        Ok(Entries {
+            places: copies(alloc, self.places.as_slice(), MOST_PLACES)?,
+            next: self.next,
+        })
+    }
+}
+
+/// A row of the book whose texts are copied with it.
+pub(crate) trait Row: Drop {
     // An equal row.
     fn copy(&self, alloc: Global) -> Result<Self, AllocError>
         ensures { IfOk result (λ copy. copy ≡ self.now) };
@@ -80,8 +91,32 @@ impl Row for LayerFrames {
     }
 }
 
-// Equal rows, with a capacity.
-fn copies<R: Row>(alloc: Global, rows: &[R], capacity: u32) -> Result<Vec<R>, AllocError>
+impl Row for Entry {
+    fn copy(&self, alloc: Global) -> Result<Entry, AllocError> {
+        Ok(Entry {
+            row: Row::copy(&self.row, alloc)?,
+            counts: self.counts,
+            layers: copies(alloc, self.layers.as_slice(), 0)?,
+            index: copies(alloc, self.index.as_slice(), 0)?,
+        })
+    }
+}
+
+impl Row for Place {
+    fn copy(&self, alloc: Global) -> Result<Place, AllocError> {
+        let held = match &self.held {
+            None => None,
+            Some(entry) => Some(Row::copy(entry, alloc)?),
+        };
+        Ok(Place {
+            job: self.job,
+            held,
+        })
+    }
+}
+
+/// Equal rows, with a capacity.
+pub(crate) fn copies<R: Row>(alloc: Global, rows: &[R], capacity: u32) -> Result<Vec<R>, AllocError>
     ensures items { IfOk result (λ copies. copies.items ≡ rows.now) }
     ensures capacity { IfOk result (λ copies. capacity ≤ vec_capacity copies) }
 {

@@ -1,28 +1,14 @@
 //! How a frame's change of state changes the counts of its job.
 
-ghost use Rattle.std.specs.Prelude.{◌≡◌, ◌<◌, ◌≤◌, slice_get, IfSome};
-ghost use Rattle.std.specs.Vec.{vec_capacity};
-ghost use Rattle.farm_types.specs.Farm.{changed_at};
+ghost use Rattle.std.specs.Prelude.{◌≡◌, ◌<◌, ◌≤◌};
 ghost use Rattle.farm_types.specs.declared.limits.TheConstants.{SLOT_LIMIT};
 ghost use Rattle.job_book.specs.Counting.{part, lowered, raised, CanMove, moved};
 
 use crate::counts::Counts;
 use farm_types::FrameState;
 
-/// One frame more is counted in the state `new` and one fewer in `old`, at that place; nothing where there is none.
-pub(crate) fn recount(counts: &mut Vec<Counts>, place: usize, old: FrameState, new: FrameState)
-    requires { IfSome (slice_get counts.old.items place) (CanMove old new) }
-    ensures items { counts.new.items ≡ changed_at counts.old.items place (moved old new) }
-    ensures capacity { vec_capacity counts.new ≡ vec_capacity counts.old }
-{
-    let Some(had) = counts.get(place).copied() else {
-        return;
-    };
-    counts[place] = moved(had, old, new);
-}
-
-// The counts with a frame gone from one state into another.
-fn moved(counts: Counts, old: FrameState, new: FrameState) -> Counts
+/// The counts with a frame gone from one state into another.
+pub(crate) fn moved(counts: Counts, old: FrameState, new: FrameState) -> Counts
     requires { CanMove old new counts }
     ensures { result ≡ moved old new counts }
 {

@@ -3,34 +3,33 @@
 ghost use Rattle.std.specs.Prelude.{◌≡◌, IfOk};
 ghost use Rattle.job_book.specs.Book.{no_jobs};
 
-use crate::counts::Counts;
-use crate::layer_frames::LayerFrames;
+use crate::entries::Entries;
+use crate::job_names::JobNames;
 use crate::ready::no_ready;
 use crate::ready_jobs::ReadyJobs;
-use farm_types::{JobRow, LayerRow, SLOT_LIMIT, SlotRow};
-use indexmap::IndexSet;
+use farm_types::{MOST_FINISHED, SLOT_LIMIT, SlotRow};
 use std::alloc::{AllocError, Global};
 use std::marker::Model;
 
-/// How many jobs the book has memory for: one for each slot, and 1,000 more.
-pub(crate) const MOST_JOBS: u32 = SLOT_LIMIT + 1_000;
+/// How many jobs the book has memory for: one for each slot, the finished ones that are kept, and two more.
+pub(crate) const MOST_JOBS: u32 = SLOT_LIMIT + MOST_FINISHED + 2;
+
+/// A layer's place in its job is below this, so that a job's number and a place make one key.
+pub(crate) const PLACE_LIMIT: u64 = 4_294_967_296;
 
 /// The jobs with their layers, in the order of their numbers, and the frame slots, up to the last that was ever used.
-/// Beside them are kept the jobs' names and counts, each at its job's place in `jobs`, where the frames of each layer
-/// stand and which of them wait, at its place in `layers`, how many slots are free, those that were never used too, a slot
-/// below which none is free, and each show's ready jobs.
+/// Beside them are kept the jobs' names, the finished jobs in the order of their finish, each show's ready jobs, how many slots
+/// are free, those that were never used too, a slot below which none is free, and the number of the next finish.
 #[derive(Debug, Drop)]
 pub struct Jobs {
-    pub(crate) jobs: Vec<JobRow>,
-    pub(crate) names: IndexSet<String>,
-    pub(crate) counts: Vec<Counts>,
-    pub(crate) layers: Vec<LayerRow>,
-    pub(crate) index: Vec<LayerFrames>,
+    pub(crate) entries: Entries,
+    pub(crate) names: JobNames,
+    pub(crate) finished: ReadyJobs,
     pub(crate) slots: Vec<SlotRow>,
     pub(crate) ready: Vec<ReadyJobs>,
     pub(crate) free: u32,
     pub(crate) lowest: u32,
-    pub(crate) next_job: u64,
+    pub(crate) next_finish: u64,
 }
 
 impl Model for Jobs {
@@ -46,22 +45,19 @@ impl Model for Jobs {
 }
 
 impl Jobs {
-    /// The book of no jobs. It takes the memory of all slots, jobs and layers at once: each job and each layer takes a slot at
-    /// least.
+    /// The book of no jobs. It takes the memory of all slots and jobs at once: each pending job takes a slot at least.
     pub fn make(alloc: Global) -> Result<Jobs, AllocError>
         ensures { IfOk result (λ b. b ≡ no_jobs) }
     {
         Ok(Jobs {
-            jobs: Vec::with_capacity(alloc, MOST_JOBS as usize)?,
-            names: IndexSet::with_capacity(alloc, MOST_JOBS as usize)?,
-            counts: Vec::with_capacity(alloc, MOST_JOBS as usize)?,
-            layers: Vec::with_capacity(alloc, SLOT_LIMIT as usize)?,
-            index: Vec::with_capacity(alloc, SLOT_LIMIT as usize)?,
+            entries: Entries::make(alloc)?,
+            names: JobNames::make(alloc)?,
+            finished: ReadyJobs::make(alloc)?,
             slots: Vec::with_capacity(alloc, SLOT_LIMIT as usize)?,
             ready: no_ready(alloc)?,
             free: SLOT_LIMIT,
             lowest: 0,
-            next_job: 1,
+            next_finish: 1,
         })
     }
 }

@@ -1,6 +1,6 @@
 //! The index of layers: where the frames of each stand.
 
-ghost use Rattle.std.specs.Prelude.{◌≡◌, ◌≤◌, ◌+◌, ◌++◌, ℕ, length, map, slice_get, option_and_then, IfOk};
+ghost use Rattle.std.specs.Prelude.{◌≡◌, ℕ, map, slice_get, option_and_then, IfOk};
 ghost use Rattle.std.specs.Vec.{vec_capacity};
 ghost use Rattle.farm_types.specs.Farm.{changed_at};
 ghost use Rattle.job_book.specs.Layers.{first_marked, fresh_places, marked, place_in, slots_of};
@@ -61,15 +61,4 @@ pub(crate) fn fresh_layers(
         index.push(LayerFrames::make(alloc, layer.numbers.len())?)?;
     }
     Ok(index)
-}
-
-/// The layers of one more job, behind the others.
-pub(crate) fn add_index(index: &mut Vec<LayerFrames>, more: Vec<LayerFrames>)
-    requires { length index.old.items + length more.items ≤ vec_capacity index.old }
-    ensures items { index.new.items ≡ index.old.items ++ more.items }
-    ensures capacity { vec_capacity index.new ≡ vec_capacity index.old }
-{
-    for layer in more {
-        index.push_reserved(layer);
-    }
 }

@@ -1,18 +1,19 @@
 //! Placing a job.
 
-ghost use Rattle.std.specs.Prelude.{◌≡◌, ◌≤◌, ◌+◌, ◌++◌, length, None};
+ghost use Rattle.std.specs.Prelude.{◌≡◌, ◌≤◌, ◌+◌, ◌++◌, length, None, false};
+ghost use Rattle.std.specs.List.{list_any};
 ghost use Rattle.std.specs.Vec.{vec_capacity};
 ghost use Rattle.farm_types.specs.Jobs.{frames_in, job_refusal, job_row, layer_row, layer_rows, with_job};
 ghost use Rattle.farm_types.specs.SpecLimits.{JobKeepsLimits};
 ghost use Rattle.farm_types.specs.declared.limits.TheConstants.{MOST_LAYERS};
-ghost use Rattle.job_book.specs.Book.{placing_of};
+ghost use Rattle.job_book.specs.Book.{placing_of, with_new_job};
 ghost use Rattle.job_book.specs.Layers.{spare_of};
 ghost use Rattle.job_book.specs.Counting.{new_counts};
+ghost use Rattle.job_book.specs.Names.{is_named};
 
 use crate::counts::Counts;
-use crate::job_names::add_name;
+use crate::entry::Entry;
 use crate::jobs::Jobs;
-use crate::layer_index::add_index;
 use crate::placing::{JobSpare, Placing};
 use crate::put::put_layers;
 use crate::ready::put_ready;
@@ -29,7 +30,25 @@ impl Jobs {
         ensures book { self.new ≡ with_job self.old placing.show spec }
         ensures job { result ≡ self.old.next_job }
     {
-        let JobSpare { name, mut index } = reserved;
+        self.leave_named(&spec.name);
+        self.place_new(spec, reserved, placing)
+    }
+
+    // Places a job of a name that no job has.
+    fn place_new(&mut self, spec: JobSpec, reserved: JobSpare, placing: Placing) -> JobNo
+        requires limits { JobKeepsLimits spec }
+        requires accepted { job_refusal self.old spec ≡ None }
+        requires placing { placing ≡ placing_of self.old placing.show spec }
+        requires reserved { reserved ≡ spare_of spec }
+        requires unnamed { list_any (is_named spec.name) self.old.jobs ≡ false }
+        ensures book { self.new ≡ with_new_job self.old placing.show spec }
+        ensures job { result ≡ self.old.next_job }
+    {
+        let JobSpare {
+            name,
+            mut index,
+            mut rows,
+        } = reserved;
         let job = placing.job;
         let (row, layers) = taken_apart(spec, &placing);
         self.lowest = put_layers(
@@ -39,14 +58,16 @@ impl Jobs {
             layers.as_slice(),
             &mut index,
         ) as u32;
-        add_layers(&mut self.layers, job, layers);
-        add_index(&mut self.index, index);
-        add_name(&mut self.names, name);
+        add_layers(&mut rows, job, layers);
+        self.names.add(name, job);
         put_ready(&mut self.ready, &row);
-        self.jobs.push_reserved(row);
-        self.counts.push_reserved(all_waiting(placing.frames));
+        self.entries.add(Entry {
+            row,
+            counts: all_waiting(placing.frames),
+            layers: rows,
+            index,
+        });
         self.free -= placing.frames;
-        self.next_job += 1;
         job
     }
 }
@@ -107,8 +128,8 @@ fn layer_row(job: JobNo, place: u32, layer: LayerSpec) -> LayerRow
     }
 }
 
-// The counts of a job of so many frames, all of which wait.
-fn all_waiting(frames: u32) -> Counts
+/// The counts of a job of so many frames, all of which wait.
+pub(crate) fn all_waiting(frames: u32) -> Counts
     ensures { result ≡ new_counts frames }
 {
     Counts {

@@ -1,7 +1,7 @@
 //! Where a job is to be placed, and the memory for it.
 
 use crate::layer_frames::LayerFrames;
-use farm_types::{JobNo, Refusal, ShowNo, Slot};
+use farm_types::{JobNo, LayerRow, Refusal, ShowNo, Slot};
 use std::alloc::AllocError;
 use std::fmt;
 use std::marker::Model;
@@ -16,21 +16,25 @@ pub struct Placing {
     pub frames: u32,
 }
 
-/// The memory that a job needs beside its spec, reserved before the job is placed: once more its name, for the index of names, and
-/// the lists of its layers' slots.
+/// The memory that a job needs beside its spec, reserved before the job is placed: once more its name, for the index of names,
+/// the lists of its layers' slots, and room for the layers' rows.
 #[derive(Debug, Drop)]
 pub struct JobSpare {
     pub(crate) name: String,
     pub(crate) index: Vec<LayerFrames>,
+    pub(crate) rows: Vec<LayerRow>,
 }
 
 impl Model for JobSpare {
-    ghost use Rattle.std.specs.Prelude.{string_bytes};
+    ghost use Rattle.std.specs.Prelude.{◌≡◌, ◌≤◌, [], length, string_bytes};
+    ghost use Rattle.std.specs.Vec.{vec_capacity};
     ghost use Rattle.job_book.specs.Layers as types;
 
     ghost Value = { types.Spare };
 
     ghost view = { λ a. record { name = string_bytes a.name; layers = a.index.items } };
+
+    ghost invariant = { λ a. (a.rows.items ≡ []) × (length a.index.items ≤ vec_capacity a.rows) };
 }
 
 /// Why a job can't be placed.

@@ -96,8 +96,8 @@ fn put(slots: &mut Vec<SlotRow>, from: usize, frame: Frame) -> usize
     place
 }
 
-// What stands at a place.
-fn row_at(slots: &[SlotRow], place: usize) -> Option<SlotRow>
+/// What stands at a place.
+pub(crate) fn row_at(slots: &[SlotRow], place: usize) -> Option<SlotRow>
     ensures { result ≡ slice_get slots.now place }
 {
     slots.get(place).copied()

@@ -1,14 +1,13 @@
 //! What is read of the book.
 
-ghost use Rattle.std.specs.Prelude.{◌≡◌, ◌==◌, ◌&&◌, ◌≤◌, ◌<◌, length, slice_get, find, option_copied, option_map, true, All, IfNone, IfSome, Some};
-ghost use Rattle.farm_types.specs.Farm.{for_some, is_placed, slot_from};
+ghost use Rattle.std.specs.Prelude.{◌≡◌, ◌==◌, ◌&&◌, ◌≤◌, ◌<◌, length, slice_get, find, option_copied, true, All, IfNone, IfSome, Some};
+ghost use Rattle.farm_types.specs.Farm.{is_placed, slot_from};
 ghost use Rattle.farm_types.specs.declared.limits.TheConstants.{MOST_SHOWS, SLOT_LIMIT};
 ghost use Rattle.job_book.specs.Book.{job_named, job_after, IsLeastAbove, frame_at, frame_view, state_at, has_frame, has_job, counts_of};
 ghost use Rattle.job_book.specs.Index.{WaitsFirst, ready_of};
 
 use crate::counts::Counts;
 use crate::frame_view::FrameView;
-use crate::job_names::place_named;
 use crate::jobs::Jobs;
 use crate::layer_index::{slot_in, waiting_in};
 use crate::ready::jobs_in;
@@ -34,7 +33,7 @@ impl Jobs {
     pub fn job(&self, job: JobNo) -> Option<&JobRow>
         ensures { option_copied result ≡ find (λ j. j.job == job) self.now.jobs }
     {
-        job_at(self.jobs.as_slice(), self.place_of(job))
+        self.entries.row(job)
     }
 
     /// The number of the job with the least number above `after`.
@@ -43,21 +42,21 @@ impl Jobs {
         ensures least { IfSome result (IsLeastAbove self.now.jobs after) }
         ensures none { IfNone result (All (λ j. j.job ≤ after) self.now.jobs) }
     {
-        number_at(self.jobs.as_slice(), self.place_after(after))
+        self.entries.after(after)
     }
 
     /// The layer at that place (from 0) of a job.
     pub fn layer(&self, job: JobNo, place: u32) -> Option<&LayerRow>
         ensures { option_copied result ≡ find (λ l. l.job == job && l.place == place) self.now.layers }
     {
-        layer_at(self.layers.as_slice(), self.layer_place_of(job, place))
+        self.entries.layer(job, place)
     }
 
     /// The number of the first job of that name, finished ones too.
     pub fn find(&self, name: &str) -> Option<JobNo>
         ensures { result ≡ job_named self.now name.now }
     {
-        number_at(self.jobs.as_slice(), place_named(&self.names, name))
+        self.names.get(name)
     }
 
     /// The frame in a slot that has one.
@@ -91,18 +90,14 @@ impl Jobs {
     pub fn slot(&self, job: JobNo, layer: u32, position: u32) -> Option<Slot>
         ensures { result ≡ slot_from 0 (is_placed job layer position) self.now.slots }
     {
-        slot_in(
-            self.index.as_slice(),
-            self.layer_place_of(job, layer),
-            position,
-        )
+        slot_in(self.entries.index(job), layer as usize, position)
     }
 
     /// The slot of the first waiting frame of a job's layer at a position (from 0) or later, none where there is none.
     pub fn waiting(&self, job: JobNo, layer: u32, from: u32) -> Option<Slot>
         ensures { WaitsFirst self.now job layer from result }
     {
-        waiting_in(self.index.as_slice(), self.layer_place_of(job, layer), from)
+        waiting_in(self.entries.index(job), layer as usize, from)
     }
 
     /// The pending jobs of a show with a waiting frame, by priority, the highest first, then by number. A show past the last
@@ -118,32 +113,11 @@ impl Jobs {
         requires { has_job self.now job ≡ true }
         ensures { result ≡ counts_of job self.now.slots }
     {
-        self.counts[self.place_of(job)]
+        let Some(counts) = self.entries.counts(job) else {
+            unreachable!()
+        };
+        counts
     }
-}
-
-// The job at a place of the list.
-fn job_at(jobs: &[JobRow], place: usize) -> Option<&JobRow>
-    ensures { option_copied result ≡ slice_get jobs.now place }
-{
-    jobs.get(place)
-}
-
-// The number of the job at a place of the list.
-fn number_at(jobs: &[JobRow], place: usize) -> Option<JobNo>
-    ensures { result ≡ option_map (λ j. j.job) (slice_get jobs.now place) }
-{
-    match jobs.get(place) {
-        None => None,
-        Some(job) => Some(job.job),
-    }
-}
-
-// The layer at a place of the list.
-fn layer_at(layers: &[LayerRow], place: usize) -> Option<&LayerRow>
-    ensures { option_copied result ≡ slice_get layers.now place }
-{
-    layers.get(place)
 }
 
 // The frame, with its slot's version.

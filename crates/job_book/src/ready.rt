@@ -1,13 +1,13 @@
 //! Which jobs are ready: those that have a waiting frame.
 
-ghost use Rattle.std.specs.Prelude.{ℕ, List, ◌≡◌, ◌≤◌, ◌+◌, ◌*◌, [], length, nat_lt, slice_get, map, true, IfOk, Some, Option, option_map};
+ghost use Rattle.std.specs.Prelude.{ℕ, List, ◌≡◌, ◌==◌, find, ◌≤◌, ◌+◌, ◌*◌, [], length, nat_lt, slice_get, true, IfOk, Some};
 ghost use Rattle.farm_types.specs.Farm.{changed_at, for_some};
 ghost use Rattle.farm_types.specs.declared.limits.TheConstants.{MOST_PRIORITY, MOST_SHOWS};
-ghost use Rattle.std.specs.Vec.{vec_capacity};
+ghost use Rattle.std.specs.List.{position_or_len};
 ghost use Rattle.job_book.specs.declared.ready_jobs.TheConstants.{JOB_NUMBERS};
 ghost use Rattle.job_book.specs.Ready.{CanBeReady, CanChange, changed_ready, drop_key, has_priority, jobs_in, put_key, ready_key};
 
-use crate::counts::Counts;
+use crate::entries::Entries;
 use crate::ready_jobs::{JOB_NUMBERS, ReadyJobs};
 use farm_types::{JobNo, JobRow, MOST_PRIORITY, MOST_SHOWS};
 use std::alloc::{AllocError, Global};
@@ -45,31 +45,31 @@ pub(crate) fn jobs_in(ready: &[ReadyJobs], show: usize) -> &[JobNo]
     }
 }
 
-/// Whether the counts at a place say that a frame waits.
-pub(crate) fn has_waiting(counts: &[Counts], place: usize) -> bool
-    ensures { result ≡ for_some (slice_get counts.now place) (λ c. nat_lt 0 c.waiting) }
+/// Whether a frame of the job waits, as its counts say.
+pub(crate) fn has_waiting(entries: &Entries, job: JobNo) -> bool
+    ensures { result ≡ for_some (slice_get entries.now.counts (position_or_len (λ j. j.job == job) entries.now.rows)) (λ c. nat_lt 0 c.waiting) }
 {
-    match counts.get(place) {
+    match entries.counts(job) {
         None => false,
         Some(counts) => counts.waiting > 0,
     }
 }
 
-/// The job at a place had a waiting frame or none, and has one now or none.
+/// The job of that number had a waiting frame or none, and has one now or none.
 pub(crate) fn change_ready(
     ready: &mut Vec<ReadyJobs>,
-    jobs: &[JobRow],
-    place: usize,
+    entries: &Entries,
+    job: JobNo,
     had: bool,
     has: bool,
 )
-    requires { CanChange had has ready.old.items (slice_get jobs.now place) }
-    ensures { ready.new.items ≡ changed_ready had has ready.old.items (slice_get jobs.now place) }
+    requires { CanChange had has ready.old.items (find (λ j. j.job == job) entries.now.rows) }
+    ensures { ready.new.items ≡ changed_ready had has ready.old.items (find (λ j. j.job == job) entries.now.rows) }
 {
-    let Some(job) = jobs.get(place) else {
+    let Some(row) = entries.row(job) else {
         return;
     };
-    change_job(ready, job, had, has);
+    change_job(ready, row, had, has);
 }
 
 // The job had a waiting frame or none, and has one now or none.

@@ -1,6 +1,6 @@
 //! The ready jobs of one show, in order.
 
-ghost use Rattle.std.specs.Prelude.{◌≡◌, ◌≤◌, ◌<◌, ◌+◌, ◌*◌, [], length, map, nat_lt, ◌==◌, IfOk};
+ghost use Rattle.std.specs.Prelude.{◌≡◌, ◌≤◌, ◌<◌, ◌*◌, [], length, map, nat_lt, ◌==◌, IfOk};
 ghost use Rattle.std.specs.List.{insert, position_or_len};
 ghost use Rattle.std.specs.Vec.{vec_capacity};
 ghost use Rattle.farm_types.specs.Rising.{IsRising};

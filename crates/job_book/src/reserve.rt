@@ -15,9 +15,11 @@ impl Jobs {
         ensures book { self.new ≡ self.old }
         ensures reserved { IfOk result (λ reserved. reserved ≡ spare_of spec.now) }
     {
+        self.names.reserve()?;
         Ok(JobSpare {
             name: String::from_str(alloc, spec.name.as_str())?,
             index: fresh_layers(alloc, spec.layers.as_slice())?,
+            rows: Vec::with_capacity(alloc, spec.layers.len())?,
         })
     }
 }

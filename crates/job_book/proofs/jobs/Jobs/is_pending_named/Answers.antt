@@ -1,16 +1,21 @@
-use Rattle.std.proofs.Common.{◌∙◌, ℕ, List, ltb, ◌≡◌, length, map, string_bytes, ap, arith}
-use Rattle.std.specs.List.{position_or_len, list_any}
-use Rattle.std.specs.Str.{bytes_eq}
+use Rattle.std.proofs.Common.{◌∙◌, ℕ, List, Option, is_some, ap}
+use Rattle.std.specs.List.{list_any}
 use Rattle.farm_types.specs.Jobs.{JobLists, is_pending_named}
-use Rattle.job_book.proofs.NamedJobs.{pending_place}
+use Rattle.farm_types.specs.Kept.{is_of_pending}
+use Rattle.job_book.specs.Names.{number_of}
+use Rattle.job_book.proofs.NamedJobs.{if_pending, pending_any, some_if}
 use Rattle.job_book.proofs.jobs.Jobs.is_pending_named.Goals as goal
 
-pub returns : goal.returns
-returns c =
-    let jobs = c.self.inside.jobs.items in
-    let count : c.len.result ≡ length jobs = omega (arith, c.self.inside.jobs.ok.0) in
-    let names = map string_bytes c.self.inside.names.keys in
+pub returns-in-None : goal.returns-in-None
+returns-in-None c =
+    let inside = c.self.inside in
     let name = c.args.name.now in
-    ap (λ (n : ℕ). ltb n c.len.result) c.place_named.ensures ∙ ap (λ (s : List ℕ). ltb (position_or_len (λ (n : List ℕ). bytes_eq s n) names) c.len.result) c.as_str.ensures
-    ∙ ap (ltb _) count ∙ pending_place name names jobs c.self.invariant.names.names_are c.self.invariant.names.pending
-    ∙ ap (λ (b : JobLists). list_any (is_pending_named name) b.jobs) c.self.view_is
+    ap (λ (o : Option ℕ). is_some (if_pending inside.entries.rows o)) (c.in-None.ensures ∙ ap (λ (n : List ℕ). number_of n inside.names) c.as_str.ensures)
+    ∙ pending_any inside.names 0 inside.entries.next inside.entries.rows c.self.invariant.lists.jobs_rise c.self.invariant.names name ∙ ap (λ (b : JobLists). list_any (is_pending_named name) b.jobs) c.self.view_is
+
+pub returns-in-Some : goal.returns-in-Some
+returns-in-Some c =
+    let inside = c.self.inside in
+    let name = c.args.name.now in
+    c.is_pending_in.ensures ∙ some_if (is_of_pending inside.entries.rows c.in-Some.job) c.in-Some.job ∙ ap (λ (o : Option ℕ). is_some (if_pending inside.entries.rows o)) (c.in-Some.ensures ∙ ap (λ (n : List ℕ). number_of n inside.names) c.as_str.ensures)
+    ∙ pending_any inside.names 0 inside.entries.next inside.entries.rows c.self.invariant.lists.jobs_rise c.self.invariant.names name ∙ ap (λ (b : JobLists). list_any (is_pending_named name) b.jobs) c.self.view_is

@@ -1,14 +1,12 @@
-use Rattle.std.proofs.Common.{◌∙◌, ℕ, List, map, sym, ap}
-use Rattle.farm_types.specs.Jobs.{JobLists}
+use Rattle.std.proofs.Common.{◌∙◌, sym, ap}
 use Rattle.farm_types.specs.Farm.{is_placed, slot_from}
-use Rattle.job_book.specs.Layers.{LayerPlaces, layer_position, place_in, slots_of}
+use Rattle.farm_types.specs.Jobs.{JobLists}
+use Rattle.job_book.proofs.HeldLists.{place_read}
 use Rattle.job_book.proofs.jobs.Jobs.layer_slots.Goals as goal
 
 pub returns : goal.returns
 returns c position =
-    let index = c.self.inside.index.items in
-    let layer = c.layer_place_of.ensures ∙ ap (λ (b : JobLists). layer_position c.args.job c.args.layer b.layers) (sym c.self.view_is) in
-    sym (c.slots_in.ensures position ∙ ap (λ (xs : List LayerPlaces). place_in (map slots_of xs) c.layer_place_of.result position) c.as_slice.ensures.value
-    ∙ ap (λ (n : ℕ). place_in (map slots_of index) n position) layer
+    let entries = c.self.inside.entries in
+    sym (c.slots_in.ensures position ∙ place_read c.index.result.now entries.index c.args.layer _ position (c.index.ensures c.args.layer)
     ∙ sym (c.self.invariant.layers.found c.args.job c.args.layer position)
     ∙ ap (λ (b : JobLists). slot_from 0 (is_placed c.args.job c.args.layer position) b.slots) c.self.view_is)

@@ -1,0 +1,21 @@
+-- A job as the book holds it, and all of them as lists.
+use Rattle.std.specs.Prelude.{ℕ, List}
+use Rattle.farm_types.specs.declared.rows.JobRow.{JobRow}
+use Rattle.farm_types.specs.declared.rows.LayerRow.{LayerRow}
+use Rattle.job_book.specs.declared.counts.Counts.{Counts}
+use Rattle.job_book.specs.Layers.{LayerPlaces}
+
+-- a job's row, how many of its frames are in which state, its layers, and where the frames of each stand
+pub record OneJob : Type 0 where
+  pub row : JobRow
+  pub counts : Counts
+  pub layers : List LayerRow
+  pub index : List LayerPlaces
+
+-- the same of all jobs, one job after another, and the next job's number
+pub record AllJobs : Type 0 where
+  pub rows : List JobRow
+  pub counts : List Counts
+  pub layers : List LayerRow
+  pub index : List LayerPlaces
+  pub next : ℕ

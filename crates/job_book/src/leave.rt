@@ -1,0 +1,70 @@
+//! Finished jobs leave the book.
+
+ghost use Rattle.std.specs.Prelude.{◌≡◌, ◌==◌, ◌<◌, ◌+◌, ◌*◌, ◌&&◌, IfSome, filter, find, not, true};
+ghost use Rattle.farm_types.specs.Farm.{for_some};
+ghost use Rattle.farm_types.specs.Finish.{is_finished};
+ghost use Rattle.farm_types.specs.Jobs.{without_finished};
+ghost use Rattle.job_book.specs.Finished.{can_put, finish_key, has_finish};
+ghost use Rattle.job_book.specs.Ready.{put_key};
+ghost use Rattle.job_book.specs.declared.ready_jobs.TheConstants.{JOB_NUMBERS};
+
+use crate::check::is_pending_in;
+use crate::entries::Entries;
+use crate::jobs::Jobs;
+use crate::ready_jobs::{JOB_NUMBERS, ReadyJobs};
+use farm_types::{JobNo, JobRow, Text};
+
+impl Jobs {
+    /// A finished job of that name leaves, where there is one.
+    pub(crate) fn leave_named(&mut self, name: &Text)
+        ensures { self.new ≡ record self.old { jobs = without_finished name.now self.old.jobs } }
+    {
+        let Some(job) = self.names.get(name.as_str()) else {
+            return;
+        };
+        if is_pending_in(&self.entries, job) {
+            return;
+        }
+        self.leave(job);
+    }
+
+    /// A finished job leaves.
+    pub(crate) fn leave(&mut self, job: JobNo)
+        requires { for_some (find (λ j. j.job == job) self.old.jobs) is_finished ≡ true }
+        ensures { self.new ≡ record self.old { jobs = filter (λ j. not (j.job == job)) self.old.jobs } }
+    {
+        let Some(row) = self.entries.row(job) else {
+            unreachable!()
+        };
+        self.finished.take(finish_key(row));
+        self.names.remove(row.name.as_str());
+        self.entries.leave(job);
+    }
+}
+
+/// The job of that number goes to its place among the finished ones.
+pub(crate) fn put_finished(finished: &mut ReadyJobs, entries: &Entries, job: JobNo)
+    requires there { for_some (find (λ j. j.job == job) entries.now.rows) (λ j. has_finish j && can_put (finish_key j) finished.old) ≡ true }
+    ensures { IfSome (find (λ j. j.job == job) entries.now.rows) (λ j. finished.new ≡ put_key (finish_key j) finished.old) }
+{
+    let Some(row) = entries.row(job) else {
+        unreachable!()
+    };
+    finished.put(finish_key(row));
+}
+
+// The key by which finished jobs are in order.
+fn finish_key(row: &JobRow) -> u64
+    requires { has_finish row.now ≡ true }
+    ensures { result ≡ finish_key row.now }
+{
+    key_of(row.finish, row.job.0)
+}
+
+// The key of a job that finished by that number.
+fn key_of(finish: u64, job: u32) -> u64
+    requires { finish < JOB_NUMBERS }
+    ensures { result ≡ finish * JOB_NUMBERS + job }
+{
+    finish * JOB_NUMBERS + u64::from(job)
+}
