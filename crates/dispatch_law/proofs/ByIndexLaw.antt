@@ -186,8 +186,8 @@ module _ (f : Farm) (kept : KeepsRows f) where
 
     subs_apart_less : (s t : SubRow) (a b : Rank) → Has subs_here s → Has subs_here t → sub_cmp f s t ≡ Less → Has (ranks_in_show f host (show_of s)) a → Has (ranks_in_show f host (show_of t)) b → rank_cmp f a b ≡ Less
     subs_apart_less s t a b sh th less ah bh =
-        let x = in_show f host (length f.shows) f.next_finish kept.jobs (show_of s) a ah in
-        let y = in_show f host (length f.shows) f.next_finish kept.jobs (show_of t) b bh in
+        let x = in_show f host (length f.shows) kept.jobs (show_of s) a ah in
+        let y = in_show f host (length f.shows) kept.jobs (show_of t) b bh in
         let k = x.of_it.keys in
         let m = y.of_it.keys in
         let ks : k.sub ≡ s = of_sub s a sh x.job x.ready.show_is k x.of_it.job_is in
@@ -209,7 +209,7 @@ module _ (f : Farm) (kept : KeepsRows f) where
     index_strict : IsStrict (rank_cmp f) (ranks_by_index f host row.alloc)
     index_strict =
         flat_strict (rank_cmp f) (sub_cmp f) (λ (s : SubRow). ranks_in_show f host (show_of s)) subs_here (subs_strict f kept.shows (length f.allocs) kept.subs row.alloc)
-        (λ s h. show_strict f host (length f.shows) f.next_finish kept.jobs (show_of s))
+        (λ s h. show_strict f host (length f.shows) kept.jobs (show_of s))
         (λ s t sh th less a b ah bh. subs_apart_less s t a b sh th less ah bh)
 
     -- ---- each is of a slot
@@ -217,7 +217,7 @@ module _ (f : Farm) (kept : KeepsRows f) where
     index_ranks : (r : Rank) → Has (ranks_by_index f host row.alloc) r → Has (ranks_from f host 0 f.slots) r
     index_ranks r h =
         let from = flat_from (λ (s : SubRow). ranks_in_show f host (show_of s)) subs_here r h in
-        let x = in_show f host (length f.shows) f.next_finish kept.jobs (show_of from.from) r from.within in
+        let x = in_show f host (length f.shows) kept.jobs (show_of from.from) r from.within in
         let it = x.within.within.found in
         have_rank f host 0 f.slots it.slot it.row r it.at (ap (λ n. rank_of f host n it.row) (let e : 0 + it.slot ≡ it.slot = omega arith in e) ∙ it.rank_is)
 
@@ -264,7 +264,7 @@ module _ (f : Farm) (kept : KeepsRows f) where
         let waits = counts i has.job.job s x got.at has.frame_is (sym job_found) has.waits in
         let ready : is_ready (lists_of f) (show_of has.sub) has.job ≡ true =
         both_true (eq-eqb has.job.show (show_of has.sub) show_is) (both_true has.pending (lt-ltb 0 (count_in has.job.job frame_state.Waiting f.slots) waits)) in
-        let in_show : Has (ranks_in_show f host (show_of has.sub)) r = show_has f host (length f.shows) f.next_finish kept.jobs (show_of has.sub) has.job r job_there ready in_job in
+        let in_show : Has (ranks_in_show f host (show_of has.sub)) r = show_has f host (length f.shows) kept.jobs (show_of has.sub) has.job r job_there ready in_job in
         flat_has (λ (z : SubRow). ranks_in_show f host (show_of z)) subs_here has.sub r
         (to_sub f kept.shows (length f.allocs) kept.subs row.alloc has.sub sub_there (eq-eqb (has.sub.sub % MOST_ALLOCS) row.alloc alloc_is)) in_show
 

@@ -137,7 +137,7 @@ has_priority js s j h = subst (λ ks. Has ks j) (sym (sorted_same js s)) (has_so
 abbrev pub ready_jobs : Farm → ℕ → List JobRow
 ready_jobs f show = by_priority (filter (is_ready (lists_of f) show) f.jobs)
 
-module _ (f : Farm) (host show finish : ℕ) (kept : KeepsJobs (lists_of f) show finish) where
+module _ (f : Farm) (host show : ℕ) (kept : KeepsJobs (lists_of f) show) where
   pub jobs_strict : IsStrict number_cmp f.jobs
   jobs_strict = rising_strict job_key 1 f.next_job f.jobs kept.jobs_rise
 

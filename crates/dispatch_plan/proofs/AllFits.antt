@@ -75,7 +75,7 @@ fits f host sub l kept it job_taken layer_taken billed =
     let parts = and_both (has_capacity f host row l && within_burst f sub l) (rows_share_tag f l row) a.2 in
     let amounts = and_both (has_capacity f host row l) (within_burst f sub l) parts.0 in
     let found : job_at f l.job ≡ Some it.job =
-    ap (job_at f) (sym it.number_is) ∙ job_found f host (length f.shows) f.next_finish kept.jobs it.job (record { place = it.place; at = it.at }) in
+    ap (job_at f) (sym it.number_is) ∙ job_found f host (length f.shows) kept.jobs it.job (record { place = it.place; at = it.at }) in
     let same : j.0 ≡ it.job = same_Some j.0 it.job (sym j.1 ∙ found) in
     record {
       job = j.0;

@@ -49,11 +49,11 @@ pub record IsOffered (f : Farm) (host show sub job : ℕ) : Type 0 where
 pub ready_offered : (f : Farm) (host show sub n job : ℕ) → KeepsRows f → IsShowBilled f host show sub → slice_get (ready_of (lists_of f) show) n ≡ Some job → IsOffered f host show sub job
 ready_offered f host show sub n job kept billed at =
     let row = mapped_at (λ (j : JobRow). j.job) (ready_jobs f show) n job at in
-    let ready = ready_job f host (length f.shows) f.next_finish kept.jobs show row.0 (record { place = n; at = row.1 }) in
+    let ready = ready_job f host (length f.shows) kept.jobs show row.0 (record { place = n; at = row.1 }) in
     record {
       pending = record { job = row.0; place = ready.there.place; at = ready.there.at; number_is = row.2; pending = ready.pending };
       billed = λ j h found hosted.
-          let number : job_at f job ≡ Some row.0 = ap (job_at f) (sym row.2) ∙ job_found f host (length f.shows) f.next_finish kept.jobs row.0 ready.there in
+          let number : job_at f job ≡ Some row.0 = ap (job_at f) (sym row.2) ∙ job_found f host (length f.shows) kept.jobs row.0 ready.there in
           let same : j ≡ row.0 = same_Some j row.0 (sym found ∙ number) in
           ap (λ (i : JobRow). sub_of i.show h.alloc) same ∙ (ap (λ s. sub_of s h.alloc) ready.show_is ∙ billed h hosted);
     }

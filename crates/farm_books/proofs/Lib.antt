@@ -1,3 +1,4 @@
 pub mod BookedRow
+pub mod FreedProcs
 pub mod NumberedSubs
 pub mod SlotAttempts

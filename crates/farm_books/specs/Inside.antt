@@ -19,7 +19,7 @@ farm_of a =
       met = [];
       next_job = a.jobs.next_job;
       next_depend = 1;
-      next_finish = a.next_finish;
+      next_finish = a.jobs.next_finish;
       moment = a.moment;
       recorded = a.recorded;
     }

@@ -1,4 +1,5 @@
 pub mod Bookings
+pub mod Finish
 pub mod Inside
 pub mod Install
 pub mod Reads

@@ -34,7 +34,6 @@ pub struct Books {
     pub(crate) attempts: Attempts,
     pub(crate) hosts: Hosts,
     pub(crate) jobs: Jobs,
-    pub(crate) next_finish: u64,
     pub(crate) moment: u64,
     pub(crate) recorded: bool,
 }
@@ -62,7 +61,6 @@ impl Books {
             attempts: Attempts::make(alloc)?,
             hosts: Hosts::make(alloc)?,
             jobs: Jobs::make(alloc)?,
-            next_finish: 1,
             moment: 0,
             recorded: false,
         })

@@ -5,6 +5,7 @@ mod begin;
 mod booking;
 mod books;
 mod check;
+mod finish;
 mod install;
 mod install_job;
 mod look;

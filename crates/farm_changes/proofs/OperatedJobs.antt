@@ -7,11 +7,10 @@ use Rattle.std.proofs.lemmas.Option.{none-some, same_Some}
 use Rattle.farm_types.specs.declared.answer.Answer.TheVariants as answer
 use Rattle.farm_types.specs.declared.entry.Act.{Act}
 use Rattle.farm_types.specs.declared.entry.Act.TheVariants as act
-use Rattle.farm_types.specs.declared.refusal.Refusal.TheVariants.{Unknown}
 use Rattle.farm_types.specs.declared.rows.JobRow.{JobRow}
 use Rattle.farm_types.specs.declared.slot_row.SlotRow.{SlotRow}
 use Rattle.farm_types.specs.declared.states.FrameState.TheVariants as frame_state
-use Rattle.farm_types.specs.DependActs.{pending_named}
+use Rattle.farm_types.specs.DependActs.{job_missing, pending_named}
 use Rattle.farm_types.specs.Farm.{Farm}
 use Rattle.farm_types.specs.Jobs.{JobLists, is_pending_named}
 use Rattle.farm_types.specs.Kept.{KeepsRows}
@@ -79,9 +78,9 @@ named_there f name b job lists is =
 
 -- ---- refusals
 
-pub job_refuses : (f : Farm) (moment : ℕ) (a : Act) (name : List ℕ) (fault : PrepareFault) → act_refusal f a ≡ job_there_refusal name (pending_named f name) → job_named f name ≡ None → IsRefusal (Unknown name) fault
+pub job_refuses : (f : Farm) (moment : ℕ) (a : Act) (name : List ℕ) (fault : PrepareFault) → act_refusal f a ≡ job_there_refusal f name (pending_named f name) → job_named f name ≡ None → IsRefusal (job_missing f name) fault
     → Prepares f (record { moment = moment; act = a }) (Err fault)
-job_refuses f moment a name (Refused why) refusal none is = refusal ∙ (ap (job_there_refusal name) (none_of (pending_named f name) none) ∙ ap Some (sym is))
+job_refuses f moment a name (Refused why) refusal none is = refusal ∙ (ap (job_there_refusal f name) (none_of (pending_named f name) none) ∙ ap Some (sym is))
 job_refuses f moment a name NoMemory refusal none is = tt
 
 -- ---- a job that is paused
@@ -97,7 +96,7 @@ pause_makes f name paused moment job rows change ahead named bare is =
     ∙ (ap (λ (n : ℕ). with_more g moment (more.Paused n paused)) (sym row.2) ∙ sym (ap (with_paused g paused) row.1)) in
     subst (Makes f (record { moment = moment; act = act.Pause name paused })) (sym is)
     (makes f moment (act.Pause name paused) (record { moment = moment; answer = answer.Paused; heard = None; rows = rows; more = more.Paused job paused; reserved = false; memory = taken.None })
-    ahead (ap (job_there_refusal name) row.1) tt (bare_ready f rows bare) tt refl farm refl)
+    ahead (ap (job_there_refusal f name) row.1) tt (bare_ready f rows bare) tt refl farm refl)
 
 -- ---- a job that is killed
 
@@ -117,4 +116,4 @@ kill_makes f name moment job ended rows change kept ahead named count installs r
     count ∙ (killed_count f job kept.sound
     ∙ (ap (λ (n : ℕ). length (filter (λ (s : SlotRow). is_left_of n s && has_attempt s) f.slots)) (sym row.2) ∙ sym (ap (count_of f) row.1))) in
     subst (Makes f (record { moment = moment; act = act.KillJob name })) (sym is)
-    (makes f moment (act.KillJob name) (kill_change moment ended rows) ahead (ap (job_there_refusal name) row.1) tt ready tt refl farm (ap (λ (n : ℕ). answer.Ended n) counted))
+    (makes f moment (act.KillJob name) (kill_change moment ended rows) ahead (ap (job_there_refusal f name) row.1) tt ready tt refl farm (ap (λ (n : ℕ). answer.Ended n) counted))

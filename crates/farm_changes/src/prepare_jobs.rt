@@ -12,7 +12,7 @@ use crate::change::{Change, More};
 use crate::preparing::change_of;
 use farm_books::Books;
 use farm_draft::{Draft, Rows};
-use farm_places::{PrepareFault, unknown};
+use farm_places::{PrepareFault, missing};
 use farm_types::{Answer, JobNo, Text};
 use std::alloc::{AllocError, Global};
 
@@ -28,7 +28,7 @@ pub(crate) fn prepare_pause(
     ensures { Prepares books.now (record { moment = moment; act = act.Pause job.now paused }) result }
 {
     let Some(job) = books.jobs().pending(job.as_str()) else {
-        return Err(unknown(alloc, job));
+        return Err(missing(alloc, books, job));
     };
     let more = More::Paused { job, paused };
     Ok(change_of(moment, Answer::Paused, Rows::none(alloc), more))
@@ -46,7 +46,7 @@ pub(crate) fn prepare_kill_job(
     ensures { Prepares books.now (record { moment = moment; act = act.KillJob job.now }) result }
 {
     let Some(job) = books.jobs().pending(job.as_str()) else {
-        return Err(unknown(alloc, job));
+        return Err(missing(alloc, books, job));
     };
     // Exactly the running frames have an attempt.
     let ended = books.jobs().counts(job).running;

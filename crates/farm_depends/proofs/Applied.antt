@@ -1,13 +1,13 @@
 -- A change is applied: the books can take what follows, and with the book of depends they are the farm after it.
-use Rattle.std.proofs.Common.{◌≡◌, ℕ, Bool, true, false, eqb, ◌||◌, ◌&&◌, not, List, [], ◌∷◌, Option, Some, None, refl, ap, sym, subst, ◌∙◌, inl, inr, arith}
+use Rattle.std.proofs.Common.{◌≡◌, ◌≤◌, ℕ, length, Bool, true, false, eqb, ◌||◌, ◌&&◌, not, List, [], ◌∷◌, Option, Some, None, refl, ap, sym, subst, ◌∙◌, inl, inr, arith}
 use Rattle.std.specs.List.{list_any, slice_get}
 use Rattle.std.proofs.lemmas.Bool.{and_parts, or_left}
 use Rattle.std.proofs.lemmas.List.Folds.{list_any-append}
 use Rattle.farm_types.specs.declared.depend.DependRow.{DependRow}
 use Rattle.farm_types.specs.Depends.{groups_of, is_done}
 use Rattle.farm_types.specs.Farm.{Farm}
-use Rattle.farm_types.specs.Kept.{IsKeptFarm}
 use Rattle.farm_types.specs.Settle.{with_met}
+use Rattle.farm_types.specs.declared.limits.TheConstants.{SLOT_LIMIT}
 use Rattle.farm_types.proofs.Changed.{places}
 use Rattle.depend_law.proofs.MetAgain.{met_again}
 use Rattle.depend_law.proofs.Retried.{met_less}
@@ -55,7 +55,7 @@ record Applies (f : Farm) (b : DependLists) (w : Follow) : Type 0 where
   book : IsBook (depends_after b w)
 
 module _ (f0 f : Farm) (b : DependLists) (w : Follow) (whole : IsWhole f0 b) (book : IsBook b) (alone : f.depends ≡ [])
-    (follows : FollowFits (joined f0 b) (joined f b) w) (kept : IsKeptFarm (after_follow (joined f b) w)) where
+    (follows : FollowFits (joined f0 b) (joined f b) w) (count : length (slots_after f.slots w) ≤ SLOT_LIMIT) where
   abbrev beside : Farm
   beside = joined f b
 
@@ -70,7 +70,7 @@ module _ (f0 f : Farm) (b : DependLists) (w : Follow) (whole : IsWhole f0 b) (bo
         record {
           book = book;
           fits = whole.fits;
-          slots = omega (arith, zip_length SamePlace f.slots (slots_after f.slots w) (follow_stand f.slots w), kept.rows.jobs.slot_count);
+          slots = omega (arith, zip_length SamePlace f.slots (slots_after f.slots w) (follow_stand f.slots w), count);
           met = whole.kept.depends.met;
           groups_stay = groups_here;
           done_are = λ slot. follows.done_are slot ∙ sym (done_listed (is_done f0.slots slot) w.done w slot refl none_back);
@@ -242,15 +242,10 @@ module _ (f0 f : Farm) (b : DependLists) (w : Follow) (whole : IsWhole f0 b) (bo
   groups_then : (d : DependRow) → groups_of books_then d ≡ groups_of f d
   groups_then d = groups_stay f books_then d refl (follow_stand f.slots w)
 
-  -- and keep what every farm keeps
-  pub whole_then : IsWhole books_then (depends_after b w)
-  whole_then =
+  -- and fit it
+  pub fits_then : Fits books_then (depends_after b w)
+  fits_then =
       record {
-        alone = alone;
-        kept = subst IsKeptFarm (sym joined_then) kept;
-        fits =
-            record {
-              done = λ slot. applies.fits.done slot ∙ sym (follow_done f.slots w follows.opened_movable follows.blocked_movable slot);
-              groups = λ i d v row watch unmet. applies.fits.groups i d v row watch unmet ∙ sym (groups_then d);
-            };
+        done = λ slot. applies.fits.done slot ∙ sym (follow_done f.slots w follows.opened_movable follows.blocked_movable slot);
+        groups = λ i d v row watch unmet. applies.fits.groups i d v row watch unmet ∙ sym (groups_then d);
       }

@@ -18,6 +18,7 @@ pub mod JobComes
 pub mod Joined
 pub mod Later
 pub mod LeftBlocked
+pub mod LeftNames
 pub mod Listed
 pub mod Marked
 pub mod MetDropped

@@ -14,7 +14,7 @@ use Rattle.farm_types.specs.declared.limits.TheConstants.{LAST_VERSION}
 use Rattle.farm_types.specs.Booking.{is_waiting}
 use Rattle.farm_types.specs.DependActs.{number_of, pending_named}
 use Rattle.farm_types.specs.Farm.{Farm, has_facility}
-use Rattle.farm_types.specs.Jobs.{frames_of, is_pending_named, job_refusal, job_row, layers_refusal, repeated_name}
+use Rattle.farm_types.specs.Jobs.{frames_of, is_pending_named, job_refusal, job_row, layers_refusal, repeated_name, without_finished}
 use Rattle.farm_types.specs.Kept.{KeepsDepends, KeepsRows, for_any, is_kept_frame, is_kept_slot, is_of_pending, layer_in}
 use Rattle.farm_types.specs.Step.{after_submit, lists_of, submit_refusal}
 use Rattle.farm_types.proofs.Lists.{and_both, find_passes, for_some_true, found_is, list_all-at}
@@ -25,6 +25,7 @@ use Rattle.depend_law.proofs.Filled.{Fills, placed_fills}
 use Rattle.depend_law.proofs.NewJob.{pending_before}
 use Rattle.depend_law.proofs.Placed.{Holds}
 use Rattle.depend_law.proofs.Turns.{on_frame, on_slot}
+use Rattle.farm_depends.proofs.LeftNames.{pending_left}
 
 refused_first : (b : Bool) (x : Refusal) (rest : Option Refusal) → cond b (Some x) rest ≡ None → b ≡ false
 refused_first true x rest none = absurd (none-some x (sym none))
@@ -44,7 +45,7 @@ module _ (f : Farm) (rows : KeepsRows f) (spec : JobSpec) where
       let taken = accepted_by (has_facility f spec.facility) (job_refusal (lists_of f) spec) (Unknown spec.facility) none in
       let new = refused_first (list_any (is_pending_named spec.name) f.jobs) (Exists spec.name) (layers_refusal (lists_of f) spec (repeated_name [] spec.layers)) taken in
       ap number_of
-      (found_later (is_pending_named spec.name) f.jobs (job_row f.next_job show spec ∷ []) (none_found (is_pending_named spec.name) f.jobs new)
+      (found_later (is_pending_named spec.name) (without_finished spec.name f.jobs) (job_row f.next_job show spec ∷ []) (pending_left spec.name spec.name f.jobs ∙ none_found (is_pending_named spec.name) f.jobs new)
       ∙ ap (λ (b : Bool). cond b (Some (job_row f.next_job show spec)) None) (nat_list_eq_equiv.refl spec.name))
 
   module _ (k : KeepsDepends f) where

@@ -55,7 +55,7 @@ module _ (p : Farm) (rows : KeepsRows p) where
   named_here : (l : LayerRow) (place : ℕ) → slice_get p.layers place ≡ Some l → (slot k : ℕ) (n : ℤ) → slice_get (slots_placed p.slots l.job l.place 0 (range_numbers l.range)) k ≡ Some slot → slice_get (range_numbers l.range) k ≡ Some n
       → frame_name n l.name ≡ frame_name_at p slot
   named_here l place at slot k n here number =
-      let r = named_at (lists_of p) (length p.shows) p.next_finish rows.jobs place l at k slot n here number in
+      let r = named_at (lists_of p) (length p.shows) rows.jobs place l at k slot n here number in
       sym (ap (name_of_slot p) r.at_slot ∙ (ap (name_of_frame p) r.is ∙ (ap (λ (o : Option LayerRow). frame_name r.frame.number (layer_name_of o)) r.layer_is ∙ ap (λ (m : ℤ). frame_name m l.name) r.number_is)))
 
   named_by : (ls : List LayerRow) → AreLayers (lists_of p) ls → (slot k : ℕ) → slice_get (all_slots (map (layer_shape p.slots) ls)) k ≡ Some slot → name_in (map (layer_shape p.slots) ls) slot ≡ frame_name_at p slot

@@ -19,9 +19,11 @@ use Rattle.farm_types.specs.DependActs.{new_groups, place_refusal}
 use Rattle.farm_types.specs.Depends.{is_done, is_done_state, shape_of}
 use Rattle.farm_types.specs.Farm.{Farm, for_some}
 use Rattle.farm_types.specs.Groups.{all_slots}
-use Rattle.farm_types.specs.Jobs.{frames_of, is_free, place_frames, slot_with}
+use Rattle.farm_types.specs.Jobs.{frames_of, is_finished_named, is_free, place_frames, slot_with, without_finished}
 use Rattle.farm_types.specs.Kept.{is_of_pending}
+use Rattle.farm_types.specs.Rising.{job_key}
 use Rattle.farm_types.proofs.Lists.{and_both, list_all-from_at}
+use Rattle.farm_law.proofs.Filtered.{rising-filter}
 use Rattle.farm_law.proofs.KeptJobsAdded.{new_pending}
 use Rattle.depend_book.specs.declared.new_depend.NewDepend.{NewDepend}
 use Rattle.depend_graph.specs.Graph.{is_below, is_flagged}
@@ -149,7 +151,8 @@ module _ (f : Farm) (spec : JobSpec) (can : CanPlace f spec) (own : OwnJob) (min
   shape : ShapeHolds farm.layers farm.slots f.next_job
   shape =
       job_shape farm can.rows_then f.next_job
-      (ap (λ (js : List JobRow). is_of_pending js f.next_job) is.jobs ∙ new_pending f.jobs f.next_job is.show spec can.rows.jobs.jobs_rise)
+      (ap (λ (js : List JobRow). is_of_pending js f.next_job) is.jobs ∙ new_pending (without_finished spec.name f.jobs) f.next_job is.show spec
+      (rising-filter job_key (λ (j : JobRow). not (is_finished_named spec.name j)) 1 f.jobs f.next_job can.rows.jobs.jobs_rise))
 
   slots_are : slots ≡ all_slots (shape_of farm f.next_job).layers
   slots_are = ap (λ (s : Shape). all_slots s.layers) mine.shape_is
@@ -167,7 +170,7 @@ module _ (f : Farm) (spec : JobSpec) (can : CanPlace f spec) (own : OwnJob) (min
   slots_movable : All (IsMovable farm.slots) slots
   slots_movable k d within =
       waiting_movable farm can.rows_then.sound (get_or slots k d)
-      (own_waits f spec farm is (length f.shows) f.next_finish can.rows.jobs (get_or slots k d) (slot_holds k (get_or slots k d) (slice_get-get_or slots k d within)))
+      (own_waits f spec farm is (length f.shows) can.rows.jobs (get_or slots k d) (slot_holds k (get_or slots k d) (slice_get-get_or slots k d within)))
 
   module _ (done : List Bool) (ns : List NewDepend) where
     pub blocked_movable : All (IsMovable farm.slots) (blocked_own done own ns)

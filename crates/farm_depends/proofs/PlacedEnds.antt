@@ -5,7 +5,7 @@ use Rattle.std.specs.Str.{bytes_eq}
 use Rattle.std.specs.Cmp.Lexicographic.{nat_list_eq_equiv}
 use Rattle.std.proofs.lemmas.Slice.Eq.{bytes_eq-Decides}
 use Rattle.std.proofs.lemmas.Bool.{ne_eqb, false≢true}
-use Rattle.std.proofs.lemmas.List.Folds.{find_at}
+use Rattle.std.proofs.lemmas.List.Folds.{find_at, list_any-append}
 use Rattle.std.proofs.lemmas.Option.{none-some}
 use Rattle.farm_types.specs.declared.depend.DependEnd.{DependEnd}
 use Rattle.farm_types.specs.declared.depend.DependSpec.{DependSpec}
@@ -14,17 +14,17 @@ use Rattle.farm_types.specs.declared.depend.Place.{Place}
 use Rattle.farm_types.specs.declared.depend.Shape.{Shape}
 use Rattle.farm_types.specs.declared.job.JobSpec.{JobSpec}
 use Rattle.farm_types.specs.declared.refusal.Refusal.{Refusal}
-use Rattle.farm_types.specs.declared.refusal.Refusal.TheVariants.{SelfDepend, Started, Unknown}
+use Rattle.farm_types.specs.declared.refusal.Refusal.TheVariants.{Finished, SelfDepend, Started, Unknown}
 use Rattle.farm_types.specs.declared.rows.JobRow.{JobRow}
 use Rattle.farm_types.specs.declared.slot_row.Frame.{Frame}
 use Rattle.farm_types.specs.declared.slot_row.SlotRow.{SlotRow}
 use Rattle.farm_types.specs.declared.states.FrameState.{FrameState}
 use Rattle.farm_types.specs.declared.states.FrameState.TheVariants as frame_state
 use Rattle.farm_types.specs.Booking.{is_waiting}
-use Rattle.farm_types.specs.DependActs.{end_of, end_refusal, frame_name_at, is_running, new_groups, number_of, or_else, pending_named, place_refusal, runs_already, runs_at, waits_for_itself}
+use Rattle.farm_types.specs.DependActs.{end_of, end_refusal, frame_name_at, is_running, job_missing, new_groups, number_of, or_else, pending_named, place_refusal, runs_already, runs_at, waits_for_itself}
 use Rattle.farm_types.specs.Depends.{shape_of}
 use Rattle.farm_types.specs.Farm.{Farm, for_some}
-use Rattle.farm_types.specs.Jobs.{is_pending_named, job_row}
+use Rattle.farm_types.specs.Jobs.{is_finished_named, is_pending_named, job_row, without_finished}
 use Rattle.farm_types.specs.Rising.{job_key}
 use Rattle.farm_types.proofs.Lists.{for_some_true}
 use Rattle.farm_law.proofs.KeptJobsLists.{find_none, found_later, found_more, rising_below}
@@ -40,8 +40,10 @@ use Rattle.farm_depends.specs.Coming.{Comes, counts_full, groups_refusal_with, r
 use Rattle.farm_places.specs.Ends.{FindsEnd, IsEnd, ShowsPart, shape_refusal}
 use Rattle.farm_depends.specs.Placed.{CanPlace, EndsIn, GroupsBetween, IsOwn, name_in, own_groups, own_refusal, placed}
 use Rattle.farm_depends.proofs.ComingGroups.{found_groups, new_are_groups, refusal_is, waiter_among, waiter_holds}
+use Rattle.farm_depends.proofs.LeftNames.{finished_left, pending_left}
 use Rattle.farm_depends.proofs.OwnNames.{name_is}
 use Rattle.farm_depends.proofs.PlacedFarm.{IsPlaced, job_accepted, other_shape, own_waits, placed_is}
+use Rattle.farm_depends.proofs.Zips.{or_none}
 use Rattle.farm_places.proofs.ShownParts.{IsPending, all_shown, part_is, pending_is, refusal_shown}
 
 -- equal bytes are one name
@@ -120,14 +122,17 @@ module _ (f : Farm) (spec : JobSpec) (can : CanPlace f spec) where
   is : IsPlaced f spec farm
   is = placed_is f spec can.accepted
 
+  abbrev olds : List JobRow
+  olds = without_finished spec.name f.jobs
+
   -- the job itself is the pending one of its name
   own_named : (name : List ℕ) → name ≡ spec.name → pending_named farm name ≡ Some (job_row f.next_job is.show spec)
   own_named name same =
       let row = job_row f.next_job is.show spec in
       let test = is_pending_named name in
-      let new : find test f.jobs ≡ None = subst (λ (n : List ℕ). find (is_pending_named n) f.jobs ≡ None) (sym same) (any_none (is_pending_named spec.name) f.jobs (job_accepted f spec can.accepted).name_new) in
+      let new : find test olds ≡ None = pending_left name spec.name f.jobs ∙ subst (λ (n : List ℕ). find (is_pending_named n) f.jobs ≡ None) (sym same) (any_none (is_pending_named spec.name) f.jobs (job_accepted f spec can.accepted).name_new) in
       let named : bytes_eq spec.name name ≡ true = ap (bytes_eq spec.name) same ∙ nat_list_eq_equiv.refl spec.name in
-      ap (find test) is.jobs ∙ (found_later test f.jobs (row ∷ []) new ∙ ap (λ (b : Bool). cond b (Some row) None) named)
+      ap (find test) is.jobs ∙ (found_later test olds (row ∷ []) new ∙ ap (λ (b : Bool). cond b (Some row) None) named)
 
   own_pending : (q : Place) → q.job ≡ spec.name → IsPending farm q f.next_job
   own_pending q same = pending_is farm q f.next_job (sym (ap (option_map (λ (j : JobRow). j.job)) (own_named q.job same)))
@@ -137,13 +142,13 @@ module _ (f : Farm) (spec : JobSpec) (can : CanPlace f spec) where
 
   -- another job is the pending one of its name as it was
   other_named : (name : List ℕ) → bytes_eq name spec.name ≡ false → pending_named farm name ≡ pending_named f name
-  other_named name apart = ap (find (is_pending_named name)) is.jobs ∙ by (find (is_pending_named name) f.jobs) refl
+  other_named name apart = ap (find (is_pending_named name)) is.jobs ∙ (by (find (is_pending_named name) olds) refl ∙ pending_left name spec.name f.jobs)
     where
-      by : (o : Option JobRow) → find (is_pending_named name) f.jobs ≡ o → find (is_pending_named name) (f.jobs ++ job_row f.next_job is.show spec ∷ []) ≡ find (is_pending_named name) f.jobs
+      by : (o : Option JobRow) → find (is_pending_named name) olds ≡ o → find (is_pending_named name) (olds ++ job_row f.next_job is.show spec ∷ []) ≡ find (is_pending_named name) olds
       by None none =
-          found_later (is_pending_named name) f.jobs (job_row f.next_job is.show spec ∷ []) none
+          found_later (is_pending_named name) olds (job_row f.next_job is.show spec ∷ []) none
           ∙ (ap (λ (b : Bool). cond b (Some (job_row f.next_job is.show spec)) None) (nat_list_eq_equiv.symm spec.name name ∙ apart) ∙ sym none)
-      by (Some j) found = found_more (is_pending_named name) f.jobs (job_row f.next_job is.show spec ∷ []) j found ∙ sym found
+      by (Some j) found = found_more (is_pending_named name) olds (job_row f.next_job is.show spec ∷ []) j found ∙ sym found
 
   earlier : (name : List ℕ) (j : JobRow) → pending_named f name ≡ Some j → shape_of farm j.job ≡ shape_of f j.job
   earlier name j found =
@@ -151,19 +156,26 @@ module _ (f : Farm) (spec : JobSpec) (can : CanPlace f spec) where
       let before = rising_below job_key 1 f.jobs f.next_job (position_or_len (is_pending_named name) f.jobs) j can.rows.jobs.jobs_rise at in
       other_shape f spec farm is j.job (ne_eqb f.next_job j.job (λ e. absurd (omega (arith, before, e))))
 
-  refusal_by : (q : Place) (o : Option JobRow) → pending_named f q.job ≡ o → end_refusal farm q o ≡ end_refusal f q o
-  refusal_by q None none = refl
-  refusal_by q (Some j) found =
+  -- and so is a finished one
+  missing_same : (name : List ℕ) → bytes_eq name spec.name ≡ false → job_missing farm name ≡ job_missing f name
+  missing_same name apart =
+      ap (λ (b : Bool). cond b (Finished name) (Unknown name))
+      (ap (list_any (is_finished_named name)) is.jobs ∙ (list_any-append (is_finished_named name) olds (job_row f.next_job is.show spec ∷ [])
+      ∙ (or_none (list_any (is_finished_named name) olds) ∙ finished_left name spec.name apart f.jobs)))
+
+  refusal_by : (q : Place) → bytes_eq q.job spec.name ≡ false → (o : Option JobRow) → pending_named f q.job ≡ o → end_refusal farm q o ≡ end_refusal f q o
+  refusal_by q apart None none = ap (λ (why : Refusal). Some why) (missing_same q.job apart)
+  refusal_by q apart (Some j) found =
       part_is farm j.job q.layer q.frame ∙ (ap (λ (s : Shape). shape_refusal s q.layer q.frame) (earlier q.job j found) ∙ sym (part_is f j.job q.layer q.frame))
 
   other_refusal : (q : Place) → bytes_eq q.job spec.name ≡ false → place_refusal farm q ≡ place_refusal f q
-  other_refusal q apart = ap (end_refusal farm q) (other_named q.job apart) ∙ refusal_by q (pending_named f q.job) refl
+  other_refusal q apart = ap (end_refusal farm q) (other_named q.job apart) ∙ refusal_by q apart (pending_named f q.job) refl
 
   other_end : (q : Place) → bytes_eq q.job spec.name ≡ false → end_of farm q ≡ end_of f q
   other_end q apart = ap (λ (o : Option JobRow). record { job = number_of o; layer = q.layer; frame = q.frame }) (other_named q.job apart)
 
   shape_by : (q : Place) (o : Option JobRow) → pending_named f q.job ≡ o → end_refusal f q o ≡ None → shape_of farm (number_of o) ≡ shape_of f (number_of o)
-  shape_by q None found none = absurd (none-some (Unknown q.job) (sym none))
+  shape_by q None found none = absurd (none-some (job_missing f q.job) (sym none))
   shape_by q (Some j) found none = earlier q.job j found
 
   -- an end in another job is found as it was
@@ -222,7 +234,7 @@ module _ (f : Farm) (spec : JobSpec) (can : CanPlace f spec) where
       none_started =
           ap (option_map (λ (slot : ℕ). Started (frame_name_at farm slot)))
           (none_run farm.slots (new_groups farm d)
-          (λ n g at k slot there. own_waits f spec farm is (length f.shows) f.next_finish can.rows.jobs slot
+          (λ n g at k slot there. own_waits f spec farm is (length f.shows) can.rows.jobs slot
           (subst (λ (job : ℕ). HoldsOf farm.slots job slot) own_number (waiter_holds farm can.rows_then d w.accepted t.accepted n g at k slot there))))
 
       -- what is refused of the groups

@@ -16,7 +16,7 @@ use Rattle.farm_types.specs.Booking.{is_waiting}
 use Rattle.farm_types.specs.Depends.{layer_shape, or_first, shape_of, slots_placed}
 use Rattle.farm_types.specs.Farm.{Farm, for_some, has_facility, is_placed, layers_of, show_named, slot_from}
 use Rattle.farm_types.specs.Formed.{IsFormedLayer}
-use Rattle.farm_types.specs.Jobs.{frames_of, job_refusal, job_row, layer_row, layer_rows, place_frames}
+use Rattle.farm_types.specs.Jobs.{frames_of, job_refusal, job_row, layer_row, layer_rows, place_frames, without_finished}
 use Rattle.farm_types.specs.Kept.{KeepsJobs, for_any, is_kept_frame, is_kept_slot, layer_in}
 use Rattle.farm_types.specs.Ranges.{range_numbers}
 use Rattle.farm_types.specs.Step.{after_submit, lists_of, submit_refusal}
@@ -39,7 +39,7 @@ use Rattle.farm_depends.specs.Placed.{own_shapes, placed}
 -- the farm has the job's row, its layers and its frames more
 pub record IsPlaced (f : Farm) (spec : JobSpec) (p : Farm) : Type 0 where
   pub show : ℕ
-  pub jobs : p.jobs ≡ f.jobs ++ job_row f.next_job show spec ∷ []
+  pub jobs : p.jobs ≡ without_finished spec.name f.jobs ++ job_row f.next_job show spec ∷ []
   pub layers : p.layers ≡ f.layers ++ layer_rows f.next_job 0 spec.layers
   pub slots : p.slots ≡ place_frames f.slots (frames_of f.next_job 0 spec.layers)
 
@@ -103,7 +103,7 @@ own_layers_are slots job p (l ∷ ls) (ns ∷ lists) formed found counts =
     (own_layers_are slots job (p + 1) ls lists (λ k d within. formed (suc k) d (omega arith))
     (λ layer position. let e : p + 1 + layer ≡ p + suc layer = omega arith in ap (λ (q : ℕ). slot_from 0 (is_placed job q position) slots) e ∙ found (suc layer) position) others)
 
-module _ (f : Farm) (spec : JobSpec) (p : Farm) (is : IsPlaced f spec p) (shows finish : ℕ) (keeps : KeepsJobs (lists_of f) shows finish) where
+module _ (f : Farm) (spec : JobSpec) (p : Farm) (is : IsPlaced f spec p) (shows : ℕ) (keeps : KeepsJobs (lists_of f) shows) where
   own_rows : layers_of p.layers f.next_job ≡ layer_rows f.next_job 0 spec.layers
   own_rows =
       ap (λ (ls : List LayerRow). layers_of ls f.next_job) is.layers ∙ (filter-append (λ (l : LayerRow). eqb l.job f.next_job) f.layers (layer_rows f.next_job 0 spec.layers)

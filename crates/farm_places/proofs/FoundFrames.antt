@@ -105,7 +105,7 @@ layer_holds f job name number slot kept (Some l) found is =
     let numbers = range_numbers l.range in
     let s = numbered_at number numbers (slots_placed f.slots l.job l.place 0 numbers) slot is in
     let there = found_there (lists_of f) job name l found in
-    let n = named_at (lists_of f) (length f.shows) f.next_finish kept.jobs there.0 l there.1 s.place slot number s.slot_there s.number_there in
+    let n = named_at (lists_of f) (length f.shows) kept.jobs there.0 l there.1 s.place slot number s.slot_there s.number_there in
     ap (λ (o : Option SlotRow). for_some o (λ (s : SlotRow). is_some s.frame)) n.at_slot ∙ ap is_some n.is
 
 job_holds : (f : Farm) (p : FramePlace) (slot : ℕ) → KeepsRows f → (o : Option JobRow) → slot_in_job f p o ≡ Some slot → has_frame (lists_of f) slot ≡ true

@@ -56,7 +56,7 @@ pub length-placed : (slots : List SlotRow) (job layer p : ℕ) (ns : List ℤ) �
 length-placed slots job layer p [] = refl
 length-placed slots job layer p (n ∷ ns) = ap suc (length-placed slots job layer (p + 1) ns)
 
-module _ (b : JobLists) (shows finish : ℕ) (keeps : KeepsJobs b shows finish) (place : ℕ) (l : LayerRow) (at : slice_get b.layers place ≡ Some l) where
+module _ (b : JobLists) (shows : ℕ) (keeps : KeepsJobs b shows) (place : ℕ) (l : LayerRow) (at : slice_get b.layers place ≡ Some l) where
   abbrev numbers : List ℤ
   numbers = range_numbers l.range
 

@@ -12,11 +12,10 @@ use Rattle.farm_types.specs.declared.depend.LayerShape.{LayerShape}
 use Rattle.farm_types.specs.declared.depend.Place.{Place}
 use Rattle.farm_types.specs.declared.depend.Shape.{Shape}
 use Rattle.farm_types.specs.declared.refusal.Refusal.{Refusal}
-use Rattle.farm_types.specs.declared.refusal.Refusal.TheVariants.{Unknown}
 use Rattle.farm_types.specs.declared.rows.JobRow.{JobRow}
 use Rattle.farm_types.specs.declared.rows.LayerRow.{LayerRow}
 use Rattle.farm_types.specs.declared.slot_row.SlotRow.{SlotRow}
-use Rattle.farm_types.specs.DependActs.{end_of, end_refusal, layer_refusal, new_groups, number_of, part_refusal, pending_named, place_refusal}
+use Rattle.farm_types.specs.DependActs.{end_of, end_refusal, job_missing, layer_refusal, new_groups, number_of, part_refusal, pending_named, place_refusal}
 use Rattle.farm_types.specs.Depends.{groups_of, layer_shape, shape_in, shape_of}
 use Rattle.farm_types.specs.Farm.{Farm, layers_of}
 use Rattle.farm_types.specs.Groups.{Part, all_slots, groups_by, groups_by_number, groups_of_previous, layer_named_by, layer_of_part, or_no_layer, part_of, slots_at, slots_of_layer, slots_of_part}
@@ -125,12 +124,12 @@ pending_by f p job (Some j) is = let same = sym (same_Some job j.job is) in (sam
 pub pending_is : (f : Farm) (p : Place) (job : ℕ) → Some job ≡ option_map (λ (j : JobRow). j.job) (pending_named f p.job) → IsPending f p job
 pending_is f p job is = let both = pending_by f p job (pending_named f p.job) is in record { number = both.0; refusal = both.1 }
 
-none_by : (f : Farm) (p : Place) (o : Option JobRow) → None ≡ option_map (λ (j : JobRow). j.job) o → end_refusal f p o ≡ Some (Unknown p.job)
+none_by : (f : Farm) (p : Place) (o : Option JobRow) → None ≡ option_map (λ (j : JobRow). j.job) o → end_refusal f p o ≡ Some (job_missing f p.job)
 none_by f p None is = refl
 none_by f p (Some j) is = absurd (none-some j.job is)
 
--- where no job is found, it is unknown
-pub pending_none : (f : Farm) (p : Place) → None ≡ option_map (λ (j : JobRow). j.job) (pending_named f p.job) → place_refusal f p ≡ Some (Unknown p.job)
+-- where no pending job is found, it is missing
+pub pending_none : (f : Farm) (p : Place) → None ≡ option_map (λ (j : JobRow). j.job) (pending_named f p.job) → place_refusal f p ≡ Some (job_missing f p.job)
 pending_none f p is = none_by f p (pending_named f p.job) is
 
 -- the refusal of an end from a shape that shows it
@@ -139,11 +138,11 @@ refusal_shown f p job shape pending shows = pending.refusal ∙ (part_is f job p
 
 -- ---- faults
 
--- a refusal that names something
-pub refused_by : (X : Type 0) (refusal : Option Refusal) (why : Refusal) (fault : PrepareFault) → refusal ≡ Some why → IsRefusal why fault → Refuses {X = X} refusal (Err fault)
-refused_by X refusal why (Refused said) is same = is ∙ ap Some (sym same)
-refused_by X refusal why NoMemory is same = tt
-
 pub fault_finds : (X : Type 0) (f : Farm) (p : Place) (refusal : Option Refusal) (fault : PrepareFault) → place_refusal f p ≡ refusal → Refuses {X = X} refusal (Err fault) → FindsEnd f p (Err fault)
 fault_finds X f p refusal (Refused why) is refused = is ∙ refused
 fault_finds X f p refusal NoMemory is refused = tt
+
+-- where no pending job is found, the refusal is exactly that it is missing
+pub missing_finds : (f : Farm) (p : Place) (fault : PrepareFault) → None ≡ option_map (λ (j : JobRow). j.job) (pending_named f p.job) → IsRefusal (job_missing f p.job) fault → FindsEnd f p (Err fault)
+missing_finds f p (Refused why) none is = pending_none f p none ∙ ap Some (sym is)
+missing_finds f p NoMemory none is = tt

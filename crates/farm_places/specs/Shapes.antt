@@ -7,8 +7,7 @@ use Rattle.farm_types.specs.Kept.{KeepsJobs}
 -- the book is that of a farm that keeps its jobs
 pub record IsKeptBook (b : JobLists) : Type 0 where
   pub shows : ℕ
-  pub finish : ℕ
-  pub keeps : KeepsJobs b shows finish
+  pub keeps : KeepsJobs b shows
 
 -- the layers are among those of the book
 abbrev pub AreLayers : JobLists → List LayerRow → Type 0

@@ -7,7 +7,7 @@ ghost use Rattle.farm_types.specs.Kept.{KeepsRows};
 ghost use Rattle.farm_places.specs.Ends.{FindsEnd, Refuses, frame_refusal_in, is_called, shape_refusal};
 
 use crate::fault::PrepareFault;
-use crate::refused::{unknown, unknown_frame};
+use crate::refused::{missing, unknown, unknown_frame};
 use crate::shapes::part_shape;
 use farm_books::Books;
 use farm_types::{DependEnd, JobNo, LayerShape, Place, Shape, Text};
@@ -26,7 +26,7 @@ pub fn find_end(alloc: Global, books: &Books, place: &Place) -> Result<FoundEnd,
     ensures { FindsEnd books.now place.now result }
 {
     let Some(job) = books.jobs().pending(place.job.as_str()) else {
-        return Err(unknown(alloc, &place.job));
+        return Err(missing(alloc, books, &place.job));
     };
     let shape = part_shape(alloc, books.jobs(), job, &place.layer)?;
     check_part(alloc, &shape, place)?;

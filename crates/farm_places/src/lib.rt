@@ -11,5 +11,5 @@ mod states;
 pub use ends::{FoundEnd, check_part, end_in, find_end};
 pub use fault::PrepareFault;
 pub use frames::find_frame;
-pub use refused::{unknown, unknown_frame};
+pub use refused::{missing, unknown, unknown_frame};
 pub use states::{check_eat, check_kill, check_retry};

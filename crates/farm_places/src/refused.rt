@@ -1,12 +1,14 @@
 //! Refusals of what isn't there.
 
 ghost use Rattle.std.specs.Prelude.{◌≡◌};
+ghost use Rattle.farm_types.specs.DependActs.{job_missing};
 ghost use Rattle.farm_types.specs.Names.{frame_name};
-ghost use Rattle.farm_types.specs.declared.refusal.Refusal.TheVariants.{Unknown};
+ghost use Rattle.farm_types.specs.declared.refusal.Refusal.TheVariants.{Finished, Unknown};
 ghost use Rattle.farm_places.specs.Ends.{IsRefusal};
 
 use crate::fault::PrepareFault;
 use command_text::frame_name;
+use farm_books::Books;
 use farm_types::{Refusal, Text};
 use std::alloc::Global;
 
@@ -17,6 +19,28 @@ pub fn unknown(alloc: Global, name: &Text) -> PrepareFault
     match name.copy(alloc) {
         Ok(name) => PrepareFault::Refused {
             why: Refusal::Unknown { name },
+        },
+        Err(_) => PrepareFault::NoMemory,
+    }
+}
+
+/// That no pending job has the name: it is finished, or there is none.
+pub fn missing(alloc: Global, books: &Books, name: &Text) -> PrepareFault
+    ensures { IsRefusal (job_missing books.now name.now) result }
+{
+    if books.jobs().has_finished(name.as_str()) {
+        return finished(alloc, name);
+    }
+    unknown(alloc, name)
+}
+
+// That the job of that name is finished.
+fn finished(alloc: Global, name: &Text) -> PrepareFault
+    ensures { IsRefusal (Finished name.now) result }
+{
+    match name.copy(alloc) {
+        Ok(name) => PrepareFault::Refused {
+            why: Refusal::Finished { name },
         },
         Err(_) => PrepareFault::NoMemory,
     }

@@ -16,4 +16,4 @@ returns-in_default c =
     let f = c.args.books.now in
     let name = c.args.job.now in
     let is = named_is f name c.as_str.result.now c.jobs.result.now c.pending.result c.as_str.ensures c.jobs.ensures c.pending.ensures in
-    job_refuses f c.args.moment (act.Pause name c.args.paused) name c.unknown.result refl (sym is ∙ c.in_default.is) c.unknown.ensures
+    job_refuses f c.args.moment (act.Pause name c.args.paused) name c.missing.result refl (sym is ∙ c.in_default.is) c.missing.ensures

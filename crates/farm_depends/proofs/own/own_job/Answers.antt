@@ -25,5 +25,5 @@ returns c =
     record {
       number = c.next_number-number.ensures ∙ ap (λ (b : JobLists). b.next_job) c.jobs.ensures;
       shape_is = ap as_shape layers
-          ∙ own_shape_is f spec (placed f spec) (placed_is f spec c.requires.accepted) (length f.shows) f.next_finish c.requires.rows.jobs c.requires.formed.each_layer lists found c.in_ok-places.ensures.counts;
+          ∙ own_shape_is f spec (placed f spec) (placed_is f spec c.requires.accepted) (length f.shows) c.requires.rows.jobs c.requires.formed.each_layer lists found c.in_ok-places.ensures.counts;
     }

@@ -1,4 +1,4 @@
-use Rattle.std.proofs.Common.{◌≡◌, ◌∙◌, Err, Some, List, Option, ℕ, option_map, sym, ap, subst}
+use Rattle.std.proofs.Common.{◌≡◌, ◌∙◌, Err, None, Some, List, Option, ℕ, option_map, sym, ap, subst}
 use Rattle.std.specs.List.{find}
 use Rattle.std.specs.Prelude.{Result}
 use Rattle.std.proofs.lemmas.Result.{err_from_is_err_and}
@@ -9,11 +9,19 @@ use Rattle.farm_types.specs.Jobs.{JobLists, is_pending_named}
 use Rattle.farm_places.specs.declared.fault.PrepareFault.{PrepareFault}
 use Rattle.farm_places.specs.declared.ends.FoundEnd.{FoundEnd}
 use Rattle.farm_places.specs.Ends.{FindsEnd, Refuses, ShowsPart, shape_refusal}
-use Rattle.farm_places.proofs.ShownParts.{fault_finds, pending_is, refusal_shown}
+use Rattle.farm_places.proofs.ShownParts.{fault_finds, missing_finds, pending_is, refusal_shown}
 use Rattle.farm_places.proofs.ends.find_end.Goals as goal
 
 abbrev number : Option JobRow → Option ℕ
 number o = option_map (λ (j : JobRow). j.job) o
+
+pub returns-in_default : goal.returns-in_default
+returns-in_default c =
+    let f = c.args.books.now in
+    let place = c.args.place.now in
+    let none : None ≡ number (pending_named f place.job) =
+    c.in_default.ensures ∙ (ap (λ (b : JobLists). number (find (is_pending_named c.as_str.result.now) b.jobs)) c.jobs.ensures ∙ ap (λ (name : List ℕ). number (find (is_pending_named name) f.jobs)) c.as_str.ensures) in
+    missing_finds f place c.missing.result none c.missing.ensures
 
 pub returns-in_err-check_part : goal.returns-in_err-check_part
 returns-in_err-check_part c =
