@@ -18,7 +18,7 @@ use Rattle.depend_graph.specs.Graph.{is_flagged}
 use Rattle.depend_book.specs.Book.{DependLists, IsBook, joined, no_depends}
 use Rattle.farm_depends.specs.Fits.{IsWhole}
 use Rattle.farm_depends.specs.Follow.{FollowFits, nothing_follows}
-use Rattle.farm_depends.proofs.Applied.{whole_then}
+use Rattle.farm_depends.proofs.Applied.{fits_then}
 use Rattle.farm_depends.proofs.Beside.{rows_apart}
 use Rattle.farm_depends.proofs.Joined.{joined_acted}
 use Rattle.farm_depends.proofs.Quiet.{nothing_fits, quiet_carries}
@@ -71,7 +71,7 @@ module _ (f : Farm) (b : DependLists) (whole : IsWhole f b) (book : IsBook b) (s
       let same : joined after_booking b ≡ acted beside booking = joined_acted b f booking in
       let kept = subst IsKeptFarm (sym same) (kept_step beside booking (record { formed = record { moment_within = within; act_formed = tt }; accepted = refl; condition = allowed }) whole.kept) in
       let fits = subst (λ (g : Farm). FollowFits beside g nothing_follows) (sym same) (nothing_fits beside (acted beside booking) (quiet_carries beside booking tt refl allowed whole.kept.rows.sound)) in
-      whole_then f after_booking b nothing_follows whole book booked_alone fits (subst IsKeptFarm (sym kept.depends.met) kept)
+      record { alone = booked_alone; kept = kept; fits = fits_then f after_booking b nothing_follows whole book booked_alone fits kept.rows.jobs.slot_count }
 
   booked_by : (may : Bool) → may_book f slot host ≡ may → IsWhole (if may then after f booking else f) b
   booked_by true is = whole_booked is

@@ -1,5 +1,5 @@
 -- A change that was prepared makes the farm of the entry, which keeps what every farm keeps.
-use Rattle.std.proofs.Common.{◌≡◌, ℕ, Option, Some, None, Result, Err, sym, ◌∙◌, ap, subst}
+use Rattle.std.proofs.Common.{◌≡◌, ℕ, List, Option, Some, None, Result, Err, sym, ◌∙◌, ap, subst}
 use Rattle.std.specs.Prelude.{IsErrAnd}
 use Rattle.std.proofs.lemmas.Result.{err_from_is_err_and}
 use Rattle.farm_types.specs.declared.answer.Answer.{Answer}
@@ -14,8 +14,10 @@ use Rattle.farm_types.specs.Farm.{Farm}
 use Rattle.farm_types.specs.Formed.{IsFormed}
 use Rattle.farm_types.specs.Kept.{IsKeptFarm}
 use Rattle.farm_types.specs.Operators.{slot_named}
-use Rattle.farm_types.specs.Step.{HasCondition, after, follow_refusal, followed, moment_of, refusal_of}
-use Rattle.depend_law.proofs.KeptRuns.{kept_step}
+use Rattle.farm_types.specs.Run.{IsLegalStep}
+use Rattle.farm_types.specs.Step.{HasCondition, acted, after, closed, finish_each, follow_refusal, followed, moment_of, refusal_of}
+use Rattle.depend_law.specs.Ending.{CanEnd, IsSettled}
+use Rattle.depend_law.proofs.KeptRuns.{followed_step, kept_step}
 use Rattle.farm_changes.specs.Change as books
 use Rattle.farm_changes.specs.Change.{AnswersAct, HasHeard}
 use Rattle.farm_changes.specs.declared.change.Change as act_change
@@ -27,6 +29,8 @@ use Rattle.farm_depends.specs.Fits.{IsWhole}
 use Rattle.farm_depends.specs.Follow.{Counts, FollowFits, Follows, after_follow}
 use Rattle.farm_depends.proofs.Beside.{joined_change, ready_joined, refusal_joined}
 use Rattle.farm_depends.proofs.Joined.{joined_acted}
+use Rattle.farm_finish.specs.Closing.{closing}
+use Rattle.farm_finish.proofs.Closes.{closed_is, closing_ends}
 use Rattle.farm_core.specs.Answers.{told}
 use Rattle.farm_core.specs.declared.change.Change.{Change}
 use Rattle.farm_core.specs.Change.{Makes, Prepares}
@@ -71,26 +75,44 @@ module _ (f : Farm) (b : DependLists) (e : Entry) (done : act_change.Change) (m 
   refused why is = judged (Some why) is
 
   module _ (whole : IsWhole f b) (formed : IsFormed e) (condition : HasCondition beside e.act) (w : Follow) (follows : Follows beside (joined (books.after_change f done) b) e.act w) where
-    makes_farm : after_follow (books.after_change beside done) w ≡ after beside e
-    makes_farm =
+    abbrev settled_farm : Farm
+    settled_farm = after_follow (books.after_change beside done) w
+
+    followed_is : settled_farm ≡ followed e.act (acted beside e)
+    followed_is =
         ap (λ (g : Farm). after_follow g w) (sym (joined_change f b done)) ∙ (follows.farm ∙ ap (followed e.act) (ap (λ (g : Farm). joined g b) m.farm ∙ joined_acted b f e))
 
     legal : refusal_of beside e ≡ None
     legal = judged None follows.accepted
 
-    -- the change with its answer
-    pub made : Makes beside e (record { act = record done { answer = told b.next w.count e.act done.answer }; follow = w })
-    made =
-        record {
-          accepted = legal;
-          heard = heard_joined f b e.act done.heard m.heard;
-          ready =
-              record {
-                fits = record { rows = (ready_joined f b done m.ready).rows; more = (ready_joined f b done m.ready).more };
-                follows = subst (λ (g : Farm). FollowFits beside g w) (joined_change f b done) follows.fits;
-                kept = subst IsKeptFarm (sym makes_farm) (kept_step beside e (record { formed = formed; accepted = legal; condition = condition }) whole.kept);
-              };
-          unreserved = record { act = m.unreserved; follow = follows.unreserved };
-          farm = makes_farm;
-          answer = told_by f b (moment_of f e.moment) w.count e.act done.answer m.answer follows.counts;
-        }
+    step : IsLegalStep beside e
+    step = record { formed = formed; accepted = legal; condition = condition }
+
+    module _ (jobs : List ℕ) (closes : jobs ≡ closing e.act (after_follow (joined (books.after_change f done) b) w)) where
+      closes_here : jobs ≡ closing e.act settled_farm
+      closes_here = closes ∙ ap (λ (g : Farm). closing e.act (after_follow g w)) (joined_change f b done)
+
+      ends : CanEnd settled_farm jobs
+      ends = subst (CanEnd settled_farm) (sym closes_here) (closing_ends e.act settled_farm (subst IsSettled (sym followed_is) (followed_step beside e step whole.kept)))
+
+      makes_farm : finish_each jobs settled_farm ≡ after beside e
+      makes_farm =
+          ap (λ (js : List ℕ). finish_each js settled_farm) closes_here ∙ (sym (closed_is e.act settled_farm) ∙ ap (closed e.act) followed_is)
+
+      -- the change with its answer
+      pub made : Makes beside e (record { act = record done { answer = told b.next w.count e.act done.answer }; follow = w; finish = jobs })
+      made =
+          record {
+            accepted = legal;
+            heard = heard_joined f b e.act done.heard m.heard;
+            ready =
+                record {
+                  fits = record { rows = (ready_joined f b done m.ready).rows; more = (ready_joined f b done m.ready).more };
+                  follows = subst (λ (g : Farm). FollowFits beside g w) (joined_change f b done) follows.fits;
+                  ends = ends;
+                  kept = subst IsKeptFarm (sym makes_farm) (kept_step beside e step whole.kept);
+                };
+            unreserved = record { act = m.unreserved; follow = follows.unreserved };
+            farm = makes_farm;
+            answer = told_by f b (moment_of f e.moment) w.count e.act done.answer m.answer follows.counts;
+          }

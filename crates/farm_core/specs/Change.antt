@@ -4,7 +4,8 @@ use Rattle.farm_types.specs.declared.entry.Entry.{Entry}
 use Rattle.farm_types.specs.EntryAnswers.{answer_of as entry_answer}
 use Rattle.farm_types.specs.Farm.{Farm}
 use Rattle.farm_types.specs.Kept.{IsKeptFarm}
-use Rattle.farm_types.specs.Step.{refusal_of, after}
+use Rattle.farm_types.specs.Step.{refusal_of, after, finish_each}
+use Rattle.depend_law.specs.Ending.{CanEnd}
 use Rattle.farm_changes.specs.Change as books
 use Rattle.farm_changes.specs.Change.{HasHeard}
 use Rattle.farm_places.specs.declared.fault.PrepareFault.{PrepareFault}
@@ -18,15 +19,20 @@ use Rattle.farm_core.specs.declared.change.Change.{Change}
 abbrev pub after_act : Farm → Change → Farm
 after_act f change = books.after_change f change.act
 
+-- and with what follows, before jobs finish
+abbrev pub followed_by : Farm → Change → Farm
+followed_by f change = after_follow (after_act f change) change.follow
+
 abbrev pub after_change : Farm → Change → Farm
-after_change f change = after_follow (after_act f change) change.follow
+after_change f change = finish_each change.finish (followed_by f change)
 
 -- ---- what it needs
 
--- the change and what follows fit the farm, and the farm that it makes keeps what every farm keeps
+-- the change and what follows fit the farm, the jobs that finish may, and the farm that it makes keeps what every farm keeps
 pub record IsReady (f : Farm) (change : Change) : Type 0 where
   pub fits : books.IsReady f change.act
   pub follows : FollowFits f (after_act f change) change.follow
+  pub ends : CanEnd (followed_by f change) change.finish
   pub kept : IsKeptFarm (after_change f change)
 
 -- no memory was taken yet
@@ -41,7 +47,7 @@ pub record IsReserved (change : Change) : Type 0 where
 
 -- the same change, with its memory taken
 abbrev pub reserved_of : Change → Change
-reserved_of change = record { act = books.reserved_of change.act; follow = follow_reserved change.follow }
+reserved_of change = record { act = books.reserved_of change.act; follow = follow_reserved change.follow; finish = change.finish }
 
 -- The farm doesn't refuse the entry. The change fits the farm, makes the farm that the entry makes, and has the entry's answer.
 -- Its memory isn't taken yet.

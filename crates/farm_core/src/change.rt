@@ -3,13 +3,15 @@
 ghost use Rattle.std.specs.Prelude.{◌≡◌};
 
 use farm_depends::Follow;
-use farm_types::{Answer, HostNo};
+use farm_types::{Answer, HostNo, Items, JobNo};
 
-/// A change that was prepared for an entry: what its act does, and what follows of depends. It is applied once its memory is reserved.
+/// A change that was prepared for an entry: what its act does, what follows of depends, and which jobs finish. It is applied once its memory is
+/// reserved.
 #[derive(Debug, Drop)]
 pub struct Change {
     pub(crate) act: farm_changes::Change,
     pub(crate) follow: Follow,
+    pub(crate) finish: Items<JobNo>,
 }
 
 impl Change {
@@ -19,6 +21,7 @@ impl Change {
     {
         self.act.answer()
     }
+
     /// The host that a report is of, and none for another act.
     pub fn heard(&self) -> Option<HostNo>
         ensures { result ≡ self.now.act.heard }

@@ -1,4 +1,4 @@
-//! The change of an entry: what its act does, with what follows of depends.
+//! The change of an entry: what its act does, with what follows of depends and the jobs that finish.
 
 ghost use Rattle.std.specs.Prelude.{◌≡◌};
 ghost use Rattle.depend_book.specs.Book.{joined};
@@ -13,11 +13,12 @@ use crate::change::Change;
 use depend_book::Depends;
 use farm_books::Books;
 use farm_depends::prepare_follow;
+use farm_finish::prepare_finish;
 use farm_places::PrepareFault;
 use farm_types::{Act, Answer, DependNo, Entry};
 use std::alloc::Global;
 
-/// The change of an entry for whose act a change was prepared, with what follows.
+/// The change of an entry for whose act a change was prepared, with what follows and which jobs finish.
 pub(crate) fn with_follow(
     alloc: Global,
     books: &Books,
@@ -32,8 +33,13 @@ pub(crate) fn with_follow(
     ensures { Prepares (joined books.now depends.now) entry.now result }
 {
     let follow = prepare_follow(alloc, books, depends, entry, &act)?;
+    let finish = prepare_finish(alloc, books, depends, entry, &act, &follow)?;
     let act = answered(act, &entry.act, depends, follow.count);
-    Ok(Change { act, follow })
+    Ok(Change {
+        act,
+        follow,
+        finish,
+    })
 }
 
 // The change with the answer to the entry: of a depend it is known by what follows.

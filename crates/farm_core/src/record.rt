@@ -12,6 +12,7 @@ use crate::farm::Farm;
 use crate::following::with_follow;
 use farm_changes::{apply, prepare, reserve};
 use farm_depends::{apply_follow, reserve_follow};
+use farm_finish::apply_finish;
 use farm_places::PrepareFault;
 use farm_types::{Answer, Entry, HostNo, Slot};
 use std::alloc::{AllocError, Global};
@@ -49,9 +50,14 @@ impl Farm {
         ensures hosts { length self.old.hosts ≤ length self.new.hosts }
     {
         self.depends.kept();
-        let Change { act, follow } = change;
+        let Change {
+            act,
+            follow,
+            finish,
+        } = change;
         let answer = apply(&mut self.books, act);
         apply_follow(&mut self.books, &mut self.depends, follow);
+        apply_finish(&mut self.books, &mut self.depends, finish);
         answer
     }
 

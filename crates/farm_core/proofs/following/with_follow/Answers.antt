@@ -15,5 +15,5 @@ returns c =
     let b = c.args.depends.now in
     let e = c.args.entry.now in
     let w = c.in_ok-follow.follow in
-    subst (λ (a : act_change.Change). Makes (joined f b) e (record { act = a; follow = w })) (sym c.answered-act.ensures)
-    (made f b e c.args.act c.requires.made c.requires.whole c.requires.formed c.requires.condition w c.in_ok-follow.ensures)
+    subst (λ (a : act_change.Change). Makes (joined f b) e (record { act = a; follow = w; finish = c.in_ok-finish.finish })) (sym c.answered-act.ensures)
+    (made f b e c.args.act c.requires.made c.requires.whole c.requires.formed c.requires.condition w c.in_ok-follow.ensures c.in_ok-finish.finish c.in_ok-finish.ensures)

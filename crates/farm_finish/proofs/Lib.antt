@@ -1,0 +1,15 @@
+pub mod ClearedFlags
+pub mod ClearedLayer
+pub mod Clears
+pub mod Closes
+pub mod CompletedJobs
+pub mod CountedDown
+pub mod EndsLaw
+pub mod Finished
+pub mod FinishedFits
+pub mod FinishingLaw
+pub mod InOrder
+pub mod LeftAfter
+pub mod LeftFrames
+pub mod MayLaw
+pub mod Stands

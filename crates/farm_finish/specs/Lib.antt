@@ -1,0 +1,3 @@
+pub mod Cleared
+pub mod Closing
+pub mod Finishing

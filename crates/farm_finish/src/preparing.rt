@@ -1,0 +1,77 @@
+//! Prepares which jobs finish with an entry.
+
+ghost use Rattle.std.specs.Prelude.{◌≡◌, All, IfOk};
+ghost use Rattle.farm_types.specs.Rising.{IsRising, job_key};
+ghost use Rattle.farm_changes.specs.Change.{Makes, after_change};
+ghost use Rattle.depend_book.specs.Book.{joined};
+ghost use Rattle.farm_types.specs.Step.{finishing};
+ghost use Rattle.farm_depends.specs.Completing.{IsCompleting};
+ghost use Rattle.farm_depends.specs.Fits.{IsWhole};
+ghost use Rattle.farm_depends.specs.Follow.{Follows, after_follow};
+ghost use Rattle.farm_finish.specs.Closing.{HasItsJob, closing, finished_by};
+
+use crate::counting::count_down;
+use depend_book::Depends;
+use farm_books::Books;
+use farm_changes::Change;
+use farm_depends::Follow;
+use farm_types::{Act, Entry, Items, JobNo, Slot};
+use indexmap::IndexMap;
+use job_book::Jobs;
+use std::alloc::{AllocError, Global};
+
+/// The jobs that finish with the entry, in the order of their numbers. `change` was prepared for its act, and `follow` is what follows of depends. Only
+/// jobs with a frame that is done now can finish.
+pub fn prepare_finish(
+    alloc: Global,
+    books: &Books,
+    depends: &Depends,
+    entry: &Entry,
+    change: &Change,
+    follow: &Follow,
+) -> Result<Items<JobNo>, AllocError>
+    requires whole { IsWhole books.now depends.now }
+    requires made { Makes books.now entry.now change.now }
+    requires follows { Follows (joined books.now depends.now) (joined (after_change books.now change.now) depends.now) entry.now.act follow.now }
+    ensures { IfOk result (λ jobs. jobs ≡ closing entry.now.act (after_follow (joined (after_change books.now change.now) depends.now) follow.now)) }
+{
+    match &entry.act {
+        Act::Heard(_) => completed(alloc, books, depends, entry, change, follow),
+        Act::KillJob { .. } => completed(alloc, books, depends, entry, change, follow),
+        Act::EatFrame(_) => completed(alloc, books, depends, entry, change, follow),
+        _ => Ok(Items::new(alloc)),
+    }
+}
+
+// The jobs that finish with an entry that may complete frames.
+fn completed(
+    alloc: Global,
+    books: &Books,
+    depends: &Depends,
+    entry: &Entry,
+    change: &Change,
+    follow: &Follow,
+) -> Result<Items<JobNo>, AllocError>
+    requires whole { IsWhole books.now depends.now }
+    requires made { Makes books.now entry.now change.now }
+    requires follows { Follows (joined books.now depends.now) (joined (after_change books.now change.now) depends.now) entry.now.act follow.now }
+    requires completing { IsCompleting entry.now.act }
+    ensures { IfOk result (λ jobs. jobs ≡ finishing (after_follow (joined (after_change books.now change.now) depends.now) follow.now)) }
+{
+    finished_by(alloc, books.jobs(), follow.done.as_slice())
+}
+
+// The jobs of which no frame is left once these are done that weren't, in the order of their numbers.
+fn finished_by(alloc: Global, jobs: &Jobs, done: &[Slot]) -> Result<Items<JobNo>, AllocError>
+    requires rise { IsRising job_key 1 jobs.now.jobs jobs.now.next_job }
+    requires there { All (HasItsJob jobs.now) done.now }
+    ensures { IfOk result (λ finished. finished ≡ finished_by jobs.now done.now) }
+{
+    let mut left = IndexMap::new(alloc);
+    let mut finished = Vec::new(alloc);
+    for slot in done {
+        count_down(jobs, &mut left, &mut finished, *slot)?;
+    }
+    finished.sort_unstable();
+    Ok(Items::from_vec(finished))
+}
