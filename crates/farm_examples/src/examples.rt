@@ -1,5 +1,5 @@
 //! Worked examples of the rules over the farm of the demonstration, proved by computing them. The public functions here do nothing.
-#![tactic(auto, unfolding(farm_types::specs::Settle::settle))]
+#![tactic(auto, unfolding(farm_types::specs::Settle::settle, farm_types::specs::Step::finish_all))]
 
 ghost use Rattle.std.specs.Prelude.{◌≡◌, ◌∷◌, [], pos, codes, drop, take, None, Some};
 ghost use Rattle.farm_types.specs.declared.answer.Answer.TheVariants as answer;

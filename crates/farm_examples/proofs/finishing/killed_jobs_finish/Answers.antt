@@ -1,6 +1,5 @@
 -- The farms compute.
 use Rattle.std.proofs.Common.{refl}
-use Rattle.std.specs.Fmt.{digits}
 use Rattle.frame_range.specs.Sections.{section_at}
 use Rattle.frame_range.specs.Sets.{add_section, fault_of, numbers_of, set_of}
 use Rattle.frame_range.specs.Steps.{section_numbers}

@@ -9,6 +9,7 @@ use Rattle.farm_types.specs.DependActs.{unmet_of}
 use Rattle.farm_types.specs.Depends.{groups_of}
 use Rattle.farm_types.specs.Ranges.{range_numbers}
 use Rattle.farm_types.specs.Settle.{opened_by, settle, with_blocked}
+use Rattle.farm_types.specs.Step.{finish_all}
 use Rattle.farm_lines.specs.DependLines.{depend_at, target_at, waiter_at}
 use Rattle.farm_lines.specs.Reply.{depend_data}
 use Rattle.farm_examples.proofs.waiting.jobs_wait_for_jobs.Goals as goal
@@ -34,7 +35,7 @@ unfolding settle with_blocked groups_of range_numbers numbers_of set_of add_sect
 returns-clause-versions c = refl
 
 pub returns-clause-offered : goal.returns-clause-offered
-unfolding settle with_blocked groups_of range_numbers numbers_of set_of add_section section_at fault_of section_numbers
+unfolding finish_all settle with_blocked groups_of range_numbers numbers_of set_of add_section section_at fault_of section_numbers
 returns-clause-offered c = refl
 
 pub returns-clause-dropped : goal.returns-clause-dropped
