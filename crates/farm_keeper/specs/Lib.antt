@@ -1,0 +1,6 @@
+pub mod Faults
+pub mod Rows
+pub mod Keeping
+pub mod Memory
+pub mod Codes
+pub mod Places

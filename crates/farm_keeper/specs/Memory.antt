@@ -1,0 +1,71 @@
+-- A keeper in memory: its rows, the batches that a stop may leave, and the calls that are to fail.
+use Rattle.std.specs.Prelude.{◌≡◌, ℕ, Bool, true, false, ◌==◌, List, [], ◌∷◌, ◌++◌, Result, Ok, Err}
+use Rattle.std.specs.List.{list_any}
+use Rattle.std.specs.FinMap.{empty}
+use Rattle.farm_keeper.specs.declared.row.Row.{Row}
+use Rattle.farm_keeper.specs.declared.row.Batch.{Batch}
+use Rattle.farm_keeper.specs.declared.fault.KeeperFault.{KeeperFault}
+use Rattle.farm_keeper.specs.declared.fault.KeeperFault.TheVariants.{Failed, NoMemory}
+use Rattle.farm_keeper.specs.Faults.{counted}
+use Rattle.farm_keeper.specs.Rows.{Rows, Lists, after}
+
+-- the calls that are to fail, by their number from 1, and the calls and the faults so far
+pub record Plan : Type 0 where
+  pub fails : List ℕ
+  pub calls : ℕ
+  pub faults : ℕ
+
+-- no call so far
+abbrev pub new_plan : List ℕ → Plan
+new_plan fails = record { fails = fails; calls = 0; faults = 0 }
+
+-- whether the next call is to fail
+abbrev pub is_to_fail : Plan → Bool
+is_to_fail plan = list_any (λ call. call == counted plan.calls) plan.fails
+
+-- one more call
+abbrev pub after_call : Plan → Plan
+after_call plan = record plan { calls = counted plan.calls }
+
+-- one more fault
+abbrev pub with_fault : Plan → Plan
+with_fault plan = record plan { faults = counted plan.faults }
+
+-- a keeper: its rows, the batches refused since the last Ok of a commit, and its calls
+pub record Kept : Type 0 where
+  pub rows : Rows
+  pub refused : List Batch
+  pub plan : Plan
+
+-- a keeper of no rows
+abbrev pub new_keeper : List ℕ → Kept
+new_keeper fails = record { rows = empty; refused = []; plan = new_plan fails }
+
+-- one more call
+abbrev pub called : Kept → Kept
+called kept = record kept { plan = after_call kept.plan }
+
+-- one more fault
+abbrev pub failed : Kept → Kept
+failed kept = record kept { plan = with_fault kept.plan }
+
+-- one more fault, which refused the batch
+abbrev pub refused_with : Batch → Kept → Kept
+refused_with batch kept = record kept { refused = kept.refused ++ batch ∷ []; plan = with_fault kept.plan }
+
+-- with the batch, and none refused since
+abbrev pub committed : Batch → Kept → Kept
+committed batch kept = record kept { rows = after batch kept.rows; refused = [] }
+
+-- what a load answers and leaves: it fails where it is to, and only there
+abbrev pub Loads : Kept → Result (List Row) KeeperFault → Kept → Type 0
+Loads old (Ok list) new = (is_to_fail old.plan ≡ false) × Lists list old.rows × (new ≡ called old)
+Loads old (Err Failed) new = (is_to_fail old.plan ≡ true) × (new ≡ failed (called old))
+Loads old (Err NoMemory) new = (is_to_fail old.plan ≡ false) × (new ≡ called old)
+
+-- what a commit answers and leaves: all of the batch or none of it; it fails where it is to and there is memory for the
+-- batch that is refused, and only there
+abbrev pub Commits : {T : Type 0} → Batch → Kept → Result T KeeperFault → Kept → Type 0
+Commits batch old (Ok _) new = (is_to_fail old.plan ≡ false) × (new ≡ committed batch (called old))
+Commits batch old (Err Failed) new = (is_to_fail old.plan ≡ true) × (new ≡ refused_with batch (called old))
+Commits batch old (Err NoMemory) new = new ≡ called old

@@ -1,0 +1,146 @@
+//! A keeper in memory.
+ghost use Rattle.std.specs.Prelude.{◌≡◌, ◌≤◌, ⊤, IfOk, OnOk, OnErr};
+ghost use Rattle.std.specs.Result.{IsErrOf};
+ghost use Rattle.farm_keeper.specs.declared.fault.KeeperFault.TheVariants.{Failed};
+ghost use Rattle.farm_keeper.specs.Faults.{HasRisen};
+ghost use Rattle.farm_keeper.specs.Rows.{Rows, Lists};
+ghost use Rattle.farm_keeper.specs.Keeping.{Keeps, Takes, LeavesTaken, MayLeave, MayRemain};
+ghost use Rattle.farm_keeper.specs.Memory.{Commits, Loads, committed, new_keeper, refused_with};
+
+use crate::call_plan::CallPlan;
+use crate::fault::KeeperFault;
+use crate::keeper::Keeper;
+use crate::places::{Places, delete_rows, list_rows, put_rows, take_places};
+use crate::row::{Batch, Row, copies_of};
+use farm_types::Items;
+use std::alloc::{AllocError, Global};
+use std::collections::BTreeMap;
+use std::marker::Model;
+
+/// A keeper that has its rows in memory, and fails at the listed calls. Beside its rows it keeps the batches that it
+/// refused by such a failure since the last Ok of a commit: a stop may leave the rows with one of them. What a commit
+/// takes and costs goes by its batch, and not by the number of rows.
+#[derive(Drop)]
+pub struct MemoryKeeper {
+    places: Places,
+    refused: Vec<Batch>,
+    plan: CallPlan,
+}
+
+impl Model for MemoryKeeper {
+    ghost use Rattle.farm_keeper.specs.Codes.{kept_code};
+    ghost use Rattle.farm_keeper.specs.Memory.{Kept};
+    ghost use Rattle.farm_keeper.specs.Places.{rows_in};
+
+    ghost Value = { Kept };
+
+    ghost coded = { kept_code };
+
+    ghost view = { λ k. record { rows = rows_in k.places.entries; refused = k.refused.items; plan = k.plan } };
+}
+
+impl MemoryKeeper {
+    /// A keeper of no rows. The calls in `fails` fail, by their number from 1, loads and commits together.
+    pub fn make(alloc: Global, fails: &[u64]) -> Result<MemoryKeeper, AllocError>
+        ensures { IfOk result (λ keeper. keeper ≡ new_keeper fails.now) }
+    {
+        Ok(MemoryKeeper {
+            places: BTreeMap::new(alloc),
+            refused: Vec::new(alloc),
+            plan: CallPlan::make(alloc, fails)?,
+        })
+    }
+
+    /// The batches that were refused since the last Ok of a commit, the first one first.
+    pub fn refused(&self) -> &[Batch]
+        ensures { result.now ≡ self.now.refused }
+    {
+        &self.refused
+    }
+
+    /// How many calls there were.
+    pub fn calls(&self) -> u64
+        ensures { result ≡ self.now.plan.calls }
+    {
+        self.plan.calls()
+    }
+
+    /// How many calls failed.
+    pub fn faults(&self) -> u64
+        ensures { result ≡ self.now.plan.faults }
+    {
+        self.plan.faults()
+    }
+
+    // Counts a fault, and keeps the batch that it refuses.
+    fn refuse(&mut self, alloc: Global, batch: &Batch) -> Result<(), AllocError>
+        ensures ok { OnOk result (self.new ≡ refused_with batch.now self.old) }
+        ensures err { OnErr result (self.new ≡ self.old) }
+        ensures rises { self.old.plan.faults ≤ self.new.plan.faults }
+    {
+        self.refused.push(batch.copy(alloc)?)?;
+        self.plan.fault();
+        Ok(())
+    }
+
+    // Takes all memory first, then makes the puts and the deletes.
+    fn take(&mut self, alloc: Global, batch: &Batch) -> Result<(), AllocError>
+        ensures ok { OnOk result (self.new ≡ committed batch.now self.old) }
+        ensures err { OnErr result (self.new ≡ self.old) }
+    {
+        let rows = copies_of(alloc, batch.puts.as_slice())?;
+        take_places(&mut self.places, batch.puts.as_slice())?;
+        put_rows(&mut self.places, rows);
+        delete_rows(&mut self.places, batch.deletes.as_slice());
+        self.refused.clear();
+        Ok(())
+    }
+}
+
+impl Keeper for MemoryKeeper {
+    ghost tells = { λ _. ⊤ };
+
+    ghost holds = { λ k rows. rows ≡ k.rows };
+
+    ghost left = { λ k. MayRemain k.rows k.refused };
+
+    ghost faults = { λ k. k.plan.faults };
+
+    fn load(&mut self, alloc: Global) -> Result<Items<Row>, KeeperFault>
+        ensures told { ⊤ → ⊤ }
+        ensures listed { IfOk result (λ list. ⊤ → (rows : Rows) → rows ≡ self.old.rows → Lists list rows) }
+        ensures kept { Keeps (λ rows. rows ≡ self.old.rows) (λ rows. rows ≡ self.new.rows) }
+        ensures left { Keeps (MayRemain self.new.rows self.new.refused) (MayRemain self.old.rows self.old.refused) }
+        ensures cause { IsErrOf result Failed → HasRisen self.old.plan.faults self.new.plan.faults }
+        ensures rises { self.old.plan.faults ≤ self.new.plan.faults }
+
+        // exactly what a call answers and leaves
+        ensures exact { Loads self.old result self.new }
+    {
+        if self.plan.call() {
+            self.plan.fault();
+            return Err(KeeperFault::Failed);
+        }
+        Ok(list_rows(alloc, &self.places)?)
+    }
+
+    fn commit(&mut self, alloc: Global, batch: &Batch) -> Result<(), KeeperFault>
+        ensures told { ⊤ → ⊤ }
+        ensures taken { OnOk result (Takes batch.now (λ rows. rows ≡ self.old.rows) (λ rows. rows ≡ self.new.rows)) }
+        ensures kept { OnErr result (Keeps (λ rows. rows ≡ self.old.rows) (λ rows. rows ≡ self.new.rows)) }
+        ensures left_ok { OnOk result (LeavesTaken batch.now (λ rows. rows ≡ self.old.rows) (MayRemain self.new.rows self.new.refused)) }
+        ensures left_err { OnErr result (MayLeave batch.now (λ rows. rows ≡ self.old.rows) (MayRemain self.old.rows self.old.refused) (MayRemain self.new.rows self.new.refused)) }
+        ensures cause { IsErrOf result Failed → HasRisen self.old.plan.faults self.new.plan.faults }
+        ensures rises { self.old.plan.faults ≤ self.new.plan.faults }
+
+        // exactly what a call answers and leaves
+        ensures exact { Commits batch.now self.old result self.new }
+    {
+        if self.plan.call() {
+            self.refuse(alloc, batch)?;
+            return Err(KeeperFault::Failed);
+        }
+        self.take(alloc, batch)?;
+        Ok(())
+    }
+}
