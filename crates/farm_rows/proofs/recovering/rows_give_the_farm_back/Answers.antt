@@ -1,0 +1,15 @@
+-- The farms compute.
+use Rattle.std.proofs.Common.{refl}
+use Rattle.std.specs.Fmt.{digits}
+use Rattle.frame_range.specs.Printed.{printed_section}
+use Rattle.frame_range.specs.Sections.{section_at}
+use Rattle.frame_range.specs.Sets.{add_section, fault_of, numbers_of, set_of}
+use Rattle.frame_range.specs.Steps.{section_numbers}
+use Rattle.farm_types.specs.Depends.{groups_of}
+use Rattle.farm_types.specs.Ranges.{is_range_text, range_numbers}
+use Rattle.farm_rows.specs.Recovery.{groups_so_far}
+use Rattle.farm_rows.proofs.recovering.rows_give_the_farm_back.Goals as goal
+
+pub returns-clause-whole : goal.returns-clause-whole
+unfolding groups_so_far groups_of is_range_text range_numbers numbers_of set_of add_section section_at fault_of section_numbers printed_section digits
+returns-clause-whole c = refl

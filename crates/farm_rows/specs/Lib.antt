@@ -1,0 +1,4 @@
+pub mod Examples
+pub mod Recovery
+pub mod RecoveryExamples
+pub mod Rows

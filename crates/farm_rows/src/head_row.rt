@@ -1,0 +1,11 @@
+//! The farm's own row.
+
+/// The format of the rows, which is 1, the farm's moment (seconds), and the next number of a job, of a job that finishes and of a depend.
+#[derive(Clone, Copy, Debug, PartialEq, Eq)]
+pub struct HeadRow {
+    pub format: u64,
+    pub moment: u64,
+    pub jobs: u64,
+    pub finishes: u64,
+    pub depends: u64,
+}

@@ -1,0 +1,11 @@
+pub mod DependsRead
+pub mod FieldsRead
+pub mod FramesRead
+pub mod Numbers
+pub mod Objects
+pub mod Prepended
+pub mod Printed
+pub mod ReadBack
+pub mod RowsFit
+pub mod RowsRead
+pub mod Spellings

@@ -1,0 +1,103 @@
+-- Each row's fields are read as that row.
+use Rattle.std.proofs.Common.{◌≡◌, Some, Ok, refl}
+use Rattle.std.specs.Prelude.{codes}
+use Rattle.farm_types.specs.declared.rows.AllocRow.{AllocRow}
+use Rattle.farm_types.specs.declared.rows.HostRow.{HostRow}
+use Rattle.farm_types.specs.declared.rows.JobRow.{JobRow}
+use Rattle.farm_types.specs.declared.rows.LayerRow.{LayerRow}
+use Rattle.farm_types.specs.declared.rows.ShowRow.{ShowRow}
+use Rattle.farm_types.specs.declared.rows.SubRow.{SubRow}
+use Rattle.farm_types.specs.declared.states.HostState.{HostState}
+use Rattle.farm_types.specs.declared.states.HostState.TheVariants as host_state
+use Rattle.farm_types.specs.declared.states.JobState.{JobState}
+use Rattle.farm_types.specs.declared.states.JobState.TheVariants as job_state
+use Rattle.farm_types.specs.declared.states.LockState.{LockState}
+use Rattle.farm_types.specs.declared.states.LockState.TheVariants as lock_state
+use Rattle.farm_rows.specs.declared.head_row.HeadRow.{HeadRow}
+use Rattle.row_codec.specs.RowFields.{alloc_fields, head_fields, host_fields, host_word, job_fields, job_word, layer_fields, lock_word, show_fields, sub_fields}
+use Rattle.row_codec.specs.RowLaws.{HeadFits, HostFits, JobFits, LayerFits, SubFits}
+use Rattle.row_codec.specs.RowReading.{alloc_at, head_at, host_at, host_state_of, job_at, job_state_of, layer_at, lock_of, show_at, sub_at}
+use Rattle.row_codec.proofs.FieldsRead.{texts_read, u16_read, u32_read, u64_read, word_read}
+
+-- ---- words
+
+lock_back : (l : LockState) → lock_of (lock_word l) ≡ Some l
+lock_back lock_state.Unlocked = refl
+lock_back lock_state.Locked = refl
+lock_back lock_state.NimbyLocked = refl
+
+host_back : (s : HostState) → host_state_of (host_word s) ≡ Some s
+host_back host_state.Up = refl
+host_back host_state.Down = refl
+
+job_back : (s : JobState) → job_state_of (job_word s) ≡ Some s
+job_back job_state.Pending = refl
+job_back job_state.Finished = refl
+
+-- ---- rows
+
+pub head_read : (r : HeadRow) → HeadFits r → head_at (head_fields r) ≡ Ok r
+unfolding head_at head_fields
+head_read r h =
+    rw (
+      u64_read (codes "depends") (head_fields r) r.depends refl h.depends,
+      u64_read (codes "finishes") (head_fields r) r.finishes refl h.finishes,
+      u64_read (codes "format") (head_fields r) r.format refl h.format,
+      u64_read (codes "jobs") (head_fields r) r.jobs refl h.jobs,
+      u64_read (codes "moment") (head_fields r) r.moment refl h.moment,
+    ) refl
+
+pub show_read : (r : ShowRow) → show_at (show_fields r) ≡ Ok r
+unfolding show_at show_fields
+show_read r = refl
+
+pub alloc_read : (r : AllocRow) → alloc_at (alloc_fields r) ≡ Ok r
+unfolding alloc_at alloc_fields
+alloc_read r = refl
+
+pub sub_read : (r : SubRow) → SubFits r → sub_at r.sub (sub_fields r) ≡ Ok r
+unfolding sub_at sub_fields
+sub_read r h =
+    rw (
+      u32_read (codes "burst") (sub_fields r) r.burst refl h.burst,
+      u32_read (codes "size") (sub_fields r) r.size refl h.size,
+    ) refl
+
+pub host_read : (r : HostRow) → HostFits r → host_at (host_fields r) ≡ Ok r
+unfolding host_at host_fields
+host_read r h =
+    rw (
+      u16_read (codes "alloc") (host_fields r) r.alloc refl h.alloc,
+      u32_read (codes "boot") (host_fields r) r.boot refl h.boot,
+      u32_read (codes "cores") (host_fields r) r.cores refl h.cores,
+      u64_read (codes "heard") (host_fields r) r.heard refl h.heard,
+      word_read (codes "lock") (host_fields r) lock_of (lock_word r.lock) r.lock refl (lock_back r.lock),
+      u64_read (codes "memory") (host_fields r) r.memory refl h.memory,
+      u64_read (codes "nonce") (host_fields r) r.nonce refl h.nonce,
+      u64_read (codes "seq") (host_fields r) r.seq refl h.seq,
+      word_read (codes "state") (host_fields r) host_state_of (host_word r.state) r.state refl (host_back r.state),
+      texts_read (codes "tags") (host_fields r) r.tags refl,
+    ) refl
+
+pub job_read : (r : JobRow) → JobFits r → job_at r.job (job_fields r) ≡ Ok r
+unfolding job_at job_fields
+job_read r h =
+    rw (
+      u32_read (codes "eaten") (job_fields r) r.eaten refl h.eaten,
+      u64_read (codes "finish") (job_fields r) r.finish refl h.finish,
+      u32_read (codes "frames") (job_fields r) r.frames refl h.frames,
+      u32_read (codes "max_retries") (job_fields r) r.max_retries refl h.max_retries,
+      u32_read (codes "priority") (job_fields r) r.priority refl h.priority,
+      u16_read (codes "show") (job_fields r) r.show refl h.show,
+      word_read (codes "state") (job_fields r) job_state_of (job_word r.state) r.state refl (job_back r.state),
+      u32_read (codes "succeeded") (job_fields r) r.succeeded refl h.succeeded,
+    ) refl
+
+pub layer_read : (r : LayerRow) → LayerFits r → layer_at r.job r.place (layer_fields r) ≡ Ok r
+unfolding layer_at layer_fields
+layer_read r h =
+    rw (
+      u32_read (codes "cores") (layer_fields r) r.cores refl h.cores,
+      u64_read (codes "memory") (layer_fields r) r.memory refl h.memory,
+      texts_read (codes "tags") (layer_fields r) r.tags refl,
+    ) refl

@@ -1,0 +1,6 @@
+pub mod Faults
+pub mod RowExamples
+pub mod RowFields
+pub mod RowLaws
+pub mod RowReading
+pub mod Tokens

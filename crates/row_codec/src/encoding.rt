@@ -1,0 +1,44 @@
+//! The bytes of a row.
+
+ghost use Rattle.std.specs.Prelude.{◌≡◌, IfOk, OnOk};
+ghost use Rattle.row_codec.specs.RowFields.{row_fields, row_text};
+ghost use Rattle.row_codec.specs.Tokens.{added, object_tokens};
+
+use crate::depend_fields::{write_depend, write_met};
+use crate::farm_fields::{write_alloc, write_head, write_show, write_sub};
+use crate::frame_fields::write_frame;
+use crate::host_fields::write_host;
+use crate::job_fields::write_job;
+use crate::layer_fields::write_layer;
+use crate::row_writer::RowWriter;
+use farm_rows::FarmRow;
+use farm_types::Items;
+use std::alloc::{AllocError, Global};
+
+/// The row as compact JSON, its keys in byte order.
+#[tactic(auto, using(crate::proofs::Printed::row_printed))]
+pub fn encode(alloc: Global, row: &FarmRow) -> Result<Items<u8>, AllocError>
+    ensures { IfOk result (λ bytes. bytes ≡ row_text row.now) }
+{
+    let mut out = RowWriter::new(alloc)?;
+    write_row(&mut out, row)?;
+    Ok(out.into_bytes())
+}
+
+// The row as an object. Amounts of cores are in hundredths of a core.
+fn write_row(out: &mut RowWriter, row: &FarmRow) -> Result<(), AllocError>
+    ensures { OnOk result (out.new ≡ added out.old (object_tokens (row_fields row.now))) }
+{
+    match row {
+        FarmRow::Head(row) => write_head(out, row),
+        FarmRow::Show { row, .. } => write_show(out, row),
+        FarmRow::Alloc { row, .. } => write_alloc(out, row),
+        FarmRow::Sub(row) => write_sub(out, row),
+        FarmRow::Host { row, .. } => write_host(out, row),
+        FarmRow::Job(row) => write_job(out, row),
+        FarmRow::Layer(row) => write_layer(out, row),
+        FarmRow::Frame(row) => write_frame(out, row),
+        FarmRow::Depend(row) => write_depend(out, row),
+        FarmRow::Met(_) => write_met(out),
+    }
+}

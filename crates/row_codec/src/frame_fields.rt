@@ -1,0 +1,201 @@
+//! The fields of frame slots.
+
+ghost use Rattle.std.specs.Prelude.{◌≡◌, codes, OnOk};
+ghost use Rattle.serde_json.specs.View.{members_view};
+ghost use Rattle.cue_json.specs.Fields.{Gives, of_kind};
+ghost use Rattle.row_codec.specs.RowFields.{fields_in_state, frame_fields, frame_word, free_fields, resting_fields, running_fields, slot_fields};
+ghost use Rattle.row_codec.specs.RowReading.{frame_at, resting_of, running_at, state_at, stored_at, stored_if};
+ghost use Rattle.row_codec.specs.Tokens.{added, object_tokens};
+
+use crate::read_fields::{read_i32, read_u16, read_u32, read_u64};
+use crate::row_writer::RowWriter;
+use cue_json::{FieldFault, Map};
+use farm_rows::{FrameRow, StoredFrame, StoredState};
+use farm_types::{HostNo, JobNo, Slot, Version};
+use std::alloc::{AllocError, Global};
+
+/// A slot, as an object.
+pub fn write_frame(out: &mut RowWriter, row: &FrameRow) -> Result<(), AllocError>
+    ensures { OnOk result (out.new ≡ added out.old (object_tokens (frame_fields row.now))) }
+{
+    match &row.frame {
+        None => write_free(out, row.version),
+        Some(frame) => write_stored(out, row.version, frame),
+    }
+}
+
+// A free slot.
+#[tactic(auto, unfolding(crate::specs::RowFields::free_fields))]
+fn write_free(out: &mut RowWriter, version: Version) -> Result<(), AllocError>
+    ensures { OnOk result (out.new ≡ added out.old (object_tokens (free_fields version))) }
+{
+    out.begin_object()?;
+    out.word("state", "FREE")?;
+    out.version("version", version)?;
+    out.end_object()
+}
+
+// A slot with a frame.
+fn write_stored(
+    out: &mut RowWriter,
+    version: Version,
+    frame: &StoredFrame,
+) -> Result<(), AllocError>
+    ensures { OnOk result (out.new ≡ added out.old (object_tokens (fields_in_state version frame.now frame.now.state))) }
+{
+    match frame.state {
+        StoredState::Running { boot, host, since } => {
+            write_running(out, version, frame, boot, host, since)
+        }
+        _ => write_resting(out, version, frame),
+    }
+}
+
+// A frame without an attempt.
+#[tactic(auto, unfolding(crate::specs::RowFields::resting_fields))]
+fn write_resting(
+    out: &mut RowWriter,
+    version: Version,
+    frame: &StoredFrame,
+) -> Result<(), AllocError>
+    ensures { OnOk result (out.new ≡ added out.old (object_tokens (resting_fields version frame.now))) }
+{
+    out.begin_object()?;
+    out.job("job", frame.job)?;
+    out.number("layer", frame.layer)?;
+    out.signed("number", frame.number)?;
+    out.number("retries", frame.retries)?;
+    out.word("state", state_word(frame.state))?;
+    out.version("version", version)?;
+    out.end_object()
+}
+
+// A running frame, with its attempt.
+#[tactic(auto, unfolding(crate::specs::RowFields::running_fields))]
+fn write_running(
+    out: &mut RowWriter,
+    version: Version,
+    frame: &StoredFrame,
+    boot: u32,
+    host: HostNo,
+    since: u64,
+) -> Result<(), AllocError>
+    ensures { OnOk result (out.new ≡ added out.old (object_tokens (running_fields version frame.now boot host since))) }
+{
+    out.begin_object()?;
+    out.number("boot", boot)?;
+    out.host("host", host)?;
+    out.job("job", frame.job)?;
+    out.number("layer", frame.layer)?;
+    out.signed("number", frame.number)?;
+    out.number("retries", frame.retries)?;
+    out.whole("since", since)?;
+    out.word("state", "RUNNING")?;
+    out.version("version", version)?;
+    out.end_object()
+}
+
+/// The slot of that number that the object's fields say.
+#[tactic(auto, unfolding(crate::specs::RowReading::frame_at))]
+pub fn read_frame(alloc: Global, slot: Slot, object: &Map) -> Result<FrameRow, FieldFault>
+    ensures { Gives (λ row. row) result (frame_at slot (members_view object.now.entries)) }
+{
+    let version = read_u32(alloc, object, "version")?;
+    let word = cue_json::text(alloc, object, "state")?;
+    let frame = read_stored_if(alloc, object, word)?;
+    Ok(FrameRow {
+        slot,
+        version: Version(version),
+        frame,
+    })
+}
+
+// The frame, or none where the slot is free.
+#[tactic(auto, unfolding(crate::specs::RowReading::stored_if))]
+fn read_stored_if(
+    alloc: Global,
+    object: &Map,
+    word: &str,
+) -> Result<Option<StoredFrame>, FieldFault>
+    ensures { Gives (λ frame. frame) result (stored_if word.now (members_view object.now.entries)) }
+{
+    if word == "FREE" {
+        return Ok(None);
+    }
+    let frame = read_stored(alloc, object, word)?;
+    Ok(Some(frame))
+}
+
+#[tactic(auto, unfolding(crate::specs::RowReading::stored_at))]
+fn read_stored(alloc: Global, object: &Map, word: &str) -> Result<StoredFrame, FieldFault>
+    ensures { Gives (λ frame. frame) result (stored_at word.now (members_view object.now.entries)) }
+{
+    let job = read_u32(alloc, object, "job")?;
+    let layer = read_u32(alloc, object, "layer")?;
+    let number = read_i32(alloc, object, "number")?;
+    let retries = read_u32(alloc, object, "retries")?;
+    let state = read_state(alloc, object, word)?;
+    Ok(StoredFrame {
+        job: JobNo(job),
+        layer,
+        number,
+        retries,
+        state,
+    })
+}
+
+// The state that the word names, with the attempt of a running frame.
+fn read_state(alloc: Global, object: &Map, word: &str) -> Result<StoredState, FieldFault>
+    ensures { Gives (λ state. state) result (state_at word.now (members_view object.now.entries)) }
+{
+    if word == "RUNNING" {
+        read_running(alloc, object)
+    } else {
+        known_state(alloc, word)
+    }
+}
+
+#[tactic(auto, unfolding(crate::specs::RowReading::running_at))]
+fn read_running(alloc: Global, object: &Map) -> Result<StoredState, FieldFault>
+    ensures { Gives (λ state. state) result (running_at (members_view object.now.entries)) }
+{
+    let boot = read_u32(alloc, object, "boot")?;
+    let host = read_u16(alloc, object, "host")?;
+    let since = read_u64(alloc, object, "since")?;
+    Ok(StoredState::Running {
+        boot,
+        host: HostNo(host),
+        since,
+    })
+}
+
+// ---- words
+
+fn state_word(state: StoredState) -> &'static str
+    ensures { result.now ≡ frame_word state }
+{
+    match state {
+        StoredState::Waiting => "WAITING",
+        StoredState::Setup => "SETUP",
+        StoredState::Running { .. } => "RUNNING",
+        StoredState::Succeeded => "SUCCEEDED",
+        StoredState::Depend => "DEPEND",
+        StoredState::Dead => "DEAD",
+        StoredState::Eaten => "EATEN",
+    }
+}
+
+// The state that the word names, of a frame without an attempt.
+fn known_state(alloc: Global, word: &str) -> Result<StoredState, FieldFault>
+    ensures { Gives (λ state. state) result (of_kind (codes "state") (resting_of word.now)) }
+{
+    match word {
+        "WAITING" => Ok(StoredState::Waiting),
+        "SETUP" => Ok(StoredState::Setup),
+        "SUCCEEDED" => Ok(StoredState::Succeeded),
+        "DEPEND" => Ok(StoredState::Depend),
+        "DEAD" => Ok(StoredState::Dead),
+        "EATEN" => Ok(StoredState::Eaten),
+        _ => Err(FieldFault::wrong_kind(alloc, "state")),
+    }
+}
