@@ -1,6 +1,6 @@
 //! The calls that rows tell of.
 
-use crate::{fields, ranges, streams, texts};
+use crate::{fields, keeping, ranges, rows, streams, texts};
 use std::alloc::{AllocError, Global};
 
 /// A call that rows tell of, each in a file of its own.
@@ -21,11 +21,13 @@ pub enum Call {
     Lines,
     Writes,
     Clocks,
+    RowBytes,
+    Keeper,
 }
 
 impl Call {
     /// All calls, in the order in which their files are read.
-    pub const ALL: [Call; 15] = [
+    pub const ALL: [Call; 17] = [
         Call::Numbers,
         Call::Counts,
         Call::Places,
@@ -41,6 +43,8 @@ impl Call {
         Call::Lines,
         Call::Writes,
         Call::Clocks,
+        Call::RowBytes,
+        Call::Keeper,
     ];
 
     /// The file of its rows.
@@ -61,6 +65,8 @@ impl Call {
             Call::Lines => "line_reader.rows",
             Call::Writes => "writes.rows",
             Call::Clocks => "clocks.rows",
+            Call::RowBytes => "row_bytes.rows",
+            Call::Keeper => "keeper.rows",
         }
     }
 
@@ -82,6 +88,8 @@ impl Call {
             Call::Lines => streams::lines(alloc, given),
             Call::Writes => streams::written(alloc, given),
             Call::Clocks => streams::readings(alloc, given),
+            Call::RowBytes => rows::row_bytes(alloc, given),
+            Call::Keeper => keeping::answers(alloc, given),
         }
     }
 }

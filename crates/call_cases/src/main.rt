@@ -3,8 +3,10 @@
 
 mod call;
 mod fields;
+mod keeping;
 mod quotes;
 mod ranges;
+mod rows;
 mod streams;
 mod texts;
 

@@ -100,8 +100,8 @@ fn moves_of(alloc: Global, text: &str) -> Result<Option<Moves>, AllocError> {
     }))
 }
 
-// The numbers with blanks between them.
-fn numbers(alloc: Global, text: &str) -> Result<Option<Vec<u64>>, AllocError> {
+/// The numbers with blanks between them.
+pub fn numbers(alloc: Global, text: &str) -> Result<Option<Vec<u64>>, AllocError> {
     let mut numbers = Vec::new(alloc);
     for word in text.split_whitespace() {
         let Ok(number) = word.parse::<u64>() else {
