@@ -1,4 +1,4 @@
--- What it says that a depend isn't refused: its ends are there, no frame that is to wait runs, and there is room.
+-- What it says that a depend isn't refused: its ends are there, no frame is to wait for itself, none that is to wait runs, and there is room.
 use Rattle.std.proofs.Common.{◌≡◌, ◌≤◌, ◌<◌, ℕ, suc, zero, ◌+◌, ℤ, Bool, true, false, cond, eqb, leb, ltb, List, [], ◌∷◌, length, Option, Some, None, refl, ap, sym, subst, ◌∙◌, arith, option_map}
 use Rattle.std.specs.List.{find, list_any, slice_get}
 use Rattle.std.specs.Cmp.Derive.{both_true}
@@ -129,6 +129,7 @@ module _ (slots : List SlotRow) (slot : ℕ) (running : runs_at slots slot ≡ t
 pub record Accepted (f : Farm) (spec : DependSpec) : Type 0 where
   pub waiter : is_end_there f (end_of f spec.waiter) ≡ true
   pub target : is_end_there f (end_of f spec.target) ≡ true
+  pub apart : waits_for_itself (new_groups f spec) ≡ None
   pub still : runs_already f.slots (new_groups f spec) ≡ None
   pub room : HasRoom f (length (new_groups f spec))
 
@@ -148,6 +149,7 @@ accepted f spec rise none =
     record {
       waiter = end_accepted f rise spec.waiter parts.0;
       target = end_accepted f rise spec.target parts.1;
+      apart = none_mapped (λ slot. SelfDepend (frame_name_at f slot)) (waits_for_itself gs) others.0;
       still = none_mapped (λ slot. Started (frame_name_at f slot)) (runs_already f.slots gs) rest.0;
       room = has_room f (length gs) rest.1;
     }

@@ -11,7 +11,7 @@ use Rattle.farm_types.specs.Kept.{KeepsDepends, runs_unmet}
 use Rattle.farm_types.specs.Settle.{blocked_from, blocked_row, blocks, is_blocked, opens, settle, with_blocked}
 use Rattle.depend_law.proofs.Opened.{blocked_done, blocked_slot}
 use Rattle.depend_law.proofs.Shapes.{blocked_frames}
-use Rattle.depend_law.proofs.Stable.{SameGroups, left_same, met_stays, open_same, same_groups}
+use Rattle.depend_law.proofs.Stable.{SameGroups, left_same, met_stays, open_same, same_groups, self_same}
 use Rattle.depend_law.proofs.Turns.{on_frame}
 use Rattle.depend_law.specs.Unsettled.{Unsettled}
 use Rattle.farm_types.proofs.Lists.{and_both}
@@ -52,7 +52,9 @@ module _ (change : ℕ → ℕ) (f : Farm) where
         rise = k.rise;
         count = k.count;
         groups_within = omega (arith, left_same f stopped stopped_same, k.groups_within);
+        formed = k.formed;
         ends_there = k.ends_there;
+        no_self_depends = self_same f stopped stopped_same ∙ k.no_self_depends;
         met = met_stays f stopped stopped_same (blocked_done change f 0 f.slots) k.met;
         blocked = λ slot s at.
             let old = blocked_slot change f f.slots slot s at in

@@ -12,14 +12,14 @@ use Rattle.farm_types.specs.Booking.{is_waiting}
 use Rattle.farm_types.specs.DependActs.{is_running}
 use Rattle.farm_types.specs.Depends.{is_done_state, is_open}
 use Rattle.farm_types.specs.Farm.{Farm}
-use Rattle.farm_types.specs.Kept.{KeepsDepends, is_kept_depend}
+use Rattle.farm_types.specs.Kept.{KeepsDepends, has_no_self_depend, is_formed_depend, is_kept_depend}
 use Rattle.farm_types.specs.Rising.{IsRising, depend_key}
 use Rattle.farm_types.specs.Settle.{is_blocked}
 use Rattle.farm_types.specs.declared.limits.TheConstants.{LAST_DEPEND, MOST_DEPENDS}
 use Rattle.farm_types.proofs.Lists.{for_some_true, list_all-at, list_all-from_at}
 use Rattle.depend_law.specs.Unsettled.{Unsettled, WaitingOpen}
 use Rattle.depend_law.proofs.Shapes.{SameFrames, frames_same}
-use Rattle.depend_law.proofs.Stable.{SameGroups, left_same, met_stays, open_same, same_groups, same_groups_then}
+use Rattle.depend_law.proofs.Stable.{SameGroups, left_same, met_stays, open_same, same_groups, same_groups_then, self_same}
 use Rattle.depend_law.proofs.Turns.{Turns, is_active, on_frame, on_slot, turns_same}
 
 -- Depends stay with their groups and ends, and a frame is active only where one was, or where it is open.
@@ -163,6 +163,12 @@ module _ (f g : Farm) (k : KeepsDepends f) (c : Carries f g) where
       ap (list_all (is_kept_depend g)) c.same.depends
       ∙ list_all-from_at (is_kept_depend g) f.depends (λ n d at. c.ends n d at (list_all-at (is_kept_depend f) f.depends n d k.ends_there at))
 
+  carried_forms : list_all is_formed_depend g.depends ≡ true
+  carried_forms = ap (list_all is_formed_depend) c.same.depends ∙ k.formed
+
+  carried_selfs : list_all (has_no_self_depend g) g.depends ≡ true
+  carried_selfs = self_same f g c.same ∙ k.no_self_depends
+
   -- what stands before anything is settled
   pub unsettled_by : Unsettled g
   unsettled_by =
@@ -171,7 +177,9 @@ module _ (f g : Farm) (k : KeepsDepends f) (c : Carries f g) where
         rise = carried_rise;
         count = carried_count;
         groups_within = omega (arith, left_same f g c.same, k.groups_within);
+        formed = carried_forms;
         ends_there = carried_ends;
+        no_self_depends = carried_selfs;
         running_open = λ slot s at.
             and_false (on_frame is_running s.frame) (not (is_open g slot)) (λ h. not_true (is_open g slot) (active_open slot s at (running_is_active s.frame h)));
       }
@@ -189,7 +197,9 @@ module _ (f g : Farm) (k : KeepsDepends f) (c : CarriesAll f g) where
         rise = carried_rise f g k c.carries;
         count = carried_count f g k c.carries;
         groups_within = omega (arith, left_same f g c.carries.same, k.groups_within);
+        formed = carried_forms f g k c.carries;
         ends_there = carried_ends f g k c.carries;
+        no_self_depends = carried_selfs f g k c.carries;
         met = met_stays f g c.carries.same c.done k.met;
         blocked = blocked_shut f k g c.carries.same c.blocked;
         free_to_run = λ slot s at.

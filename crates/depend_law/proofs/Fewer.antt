@@ -1,5 +1,5 @@
 -- Depends of which more are satisfied: they keep their numbers and their ends, and have no more groups left. Groups of which more targets are done.
-use Rattle.std.proofs.Common.{◌≡◌, ◌≤◌, ℕ, Bool, true, false, cond, ◌||◌, List, [], ◌∷◌, map, refl, ◌⊎◌, inl, inr, arith}
+use Rattle.std.proofs.Common.{◌≡◌, ◌≤◌, ℕ, Bool, true, false, cond, ◌&&◌, ◌||◌, List, [], ◌∷◌, map, refl, ◌⊎◌, inl, inr, arith}
 use Rattle.std.specs.List.{list_all, list_any, sum_by}
 use Rattle.std.proofs.lemmas.Bool.{or_cases, or_left, or_right}
 use Rattle.std.proofs.lemmas.List.Sums.{sum_by-cons}
@@ -20,10 +20,15 @@ left_less true more new old same = omega arith
 left_less false true new old same = omega arith
 left_less false false new old same = omega (arith, same)
 
+-- what is satisfied or passes does so where more is satisfied
 pub kept_more : (before more there : Bool) → (before || there) ≡ true → ((before || more) || there) ≡ true
 kept_more true more there h = refl
 kept_more false true there h = refl
 kept_more false false there h = h
+
+pub there_more : (waiter before more target : Bool) → (waiter && (before || target)) ≡ true → (waiter && ((before || more) || target)) ≡ true
+there_more true before more target h = kept_more before more target h
+there_more false before more target h = h
 
 -- ---- targets
 

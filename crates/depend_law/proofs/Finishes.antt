@@ -2,6 +2,7 @@
 use Rattle.std.proofs.Common.{◌≡◌, ℕ, suc, ◌+◌, Bool, true, false, cond, ◌&&◌, ◌||◌, not, eqb, List, [], ◌∷◌, map, Option, Some, None, refl, sym, ap, subst, ◌∙◌, arith, option_map}
 use Rattle.std.specs.Cmp.Derive.{both_true}
 use Rattle.std.specs.List.{list_all, list_any, slice_get}
+use Rattle.std.specs.Option.{is_none}
 use Rattle.std.proofs.lemmas.Bool.{eq-eqb, eqb-true, false≢true, ne_eqb, not-false, not-true, not_from_false, or_left, or_right}
 use Rattle.std.proofs.lemmas.Option.{slice_get-map}
 use Rattle.farm_types.specs.declared.depend.DependEnd.{DependEnd}
@@ -13,24 +14,24 @@ use Rattle.farm_types.specs.declared.slot_row.SlotRow.{SlotRow}
 use Rattle.farm_types.specs.Depends.{groups_of, is_done, is_done_state, is_met, is_open, waits_in}
 use Rattle.farm_types.specs.Farm.{Farm, for_some, is_placed, layers_of, slot_from}
 use Rattle.farm_types.specs.Finish.{freed_row, is_frame_of, waits_by}
-use Rattle.farm_types.specs.Kept.{KeepsDepends, KeepsRows, has_part, is_end_there, is_kept_depend, is_of_pending}
+use Rattle.farm_types.specs.Kept.{KeepsDepends, KeepsRows, has_no_self_depend, has_part, is_end_there, is_formed_depend, is_kept_depend, is_of_pending}
 use Rattle.farm_types.specs.Operators.{is_left_of}
 use Rattle.farm_types.specs.Rising.{depend_key}
 use Rattle.farm_types.specs.Settle.{is_blocked, is_met_now}
 use Rattle.farm_types.specs.Booking.{is_waiting}
-use Rattle.farm_types.specs.DependActs.{is_running}
+use Rattle.farm_types.specs.DependActs.{is_running, waits_for_itself}
 use Rattle.farm_types.specs.Step.{finish_one}
 use Rattle.farm_types.proofs.Changed.{mapped_each}
 use Rattle.farm_types.proofs.Lists.{and_both, list_all-at, list_all-from_at}
-use Rattle.farm_law.proofs.Filtered.{at_kept, fewer_kept, rising-filter}
+use Rattle.farm_law.proofs.Filtered.{at_kept, fewer_kept, list_all-filter, rising-filter}
 use Rattle.farm_law.proofs.Finished.{free_row}
 use Rattle.farm_law.proofs.FinishedRows.{frame_other, layers_stay, not_placed, pending_still}
 use Rattle.depend_law.proofs.JobDone.{other_target}
 use Rattle.depend_law.proofs.NewJob.{ends_of, none_any, unmet_holds}
 use Rattle.depend_law.proofs.Placed.{HoldsOf, holds_one}
 use Rattle.depend_law.proofs.Shapes.{SameSlots, groups_by_shapes, shape_found}
-use Rattle.depend_law.proofs.Stable.{SameGroups, is_open_in, left_same, list_all-same, marks_stay, open_in_satisfied, open_same}
-use Rattle.depend_law.proofs.Without.{left, left_without, met_stays, open_without, without}
+use Rattle.depend_law.proofs.Stable.{SameGroups, is_open_in, left_same, list_all-same, marks_stay, open_in_satisfied, open_same, self_same}
+use Rattle.depend_law.proofs.Without.{groups_without, left, left_without, met_stays, open_without, without}
 
 -- ---- slots that are freed
 
@@ -159,11 +160,19 @@ module _ (f : Farm) (rows : KeepsRows f) (k : KeepsDepends f) (job : ℕ) (pendi
       (ap (λ (ls : List LayerRow). has_part ls e.layer e.frame) (layers_stay job f.layers e.job other) ∙ parts.1)
 
   depend_stays : (n : ℕ) (d : DependRow) → slice_get (left f stays) n ≡ Some d → (b : Bool) → d.met_all ≡ b → is_kept_depend f d ≡ true → is_kept_depend now d ≡ true
-  depend_stays n d at true is kept = or_left d.met_all (is_end_there now d.waiter && is_end_there now d.target) is
+  depend_stays n d at true is kept =
+      let was = at_kept stays f.depends n d at in
+      let waits = (and_both (is_end_there f d.waiter) (d.met_all || is_end_there f d.target) kept).0 in
+      both_true (end_stays d.waiter (not-true (waits_by job d) was.2) waits) (or_left d.met_all (is_end_there now d.target) is)
   depend_stays n d at false is kept =
       let ends = ends_of f d kept is in
       let other = others n d at is in
-      or_right d.met_all (is_end_there now d.waiter && is_end_there now d.target) (both_true (end_stays d.waiter other.0 ends.0) (end_stays d.target other.1 ends.1))
+      both_true (end_stays d.waiter other.0 ends.0) (or_right d.met_all (is_end_there now d.target) (end_stays d.target other.1 ends.1))
+
+  fewer_selfs : list_all (has_no_self_depend fewer) (left f stays) ≡ true
+  fewer_selfs =
+      ap (λ (groups : DependRow → List Group). list_all (λ (d : DependRow). d.met_all || is_none (waits_for_itself (groups d))) (left f stays)) (groups_without f stays)
+      ∙ list_all-filter (has_no_self_depend f) stays f.depends k.no_self_depends
 
   pub finish_keeps : KeepsDepends now
   finish_keeps =
@@ -172,9 +181,11 @@ module _ (f : Farm) (rows : KeepsRows f) (k : KeepsDepends f) (job : ℕ) (pendi
         rise = rising-filter depend_key stays 1 f.depends f.next_depend k.rise;
         count = omega (arith, fewer_kept stays f.depends, k.count);
         groups_within = omega (arith, left_same fewer now same, left_without f stays, k.groups_within);
+        formed = list_all-filter is_formed_depend stays f.depends k.formed;
         ends_there =
             list_all-from_at (is_kept_depend now) (left f stays)
             (λ n d at. let was = at_kept stays f.depends n d at in depend_stays n d at d.met_all refl (list_all-at (is_kept_depend f) f.depends was.0 d k.ends_there was.1));
+        no_self_depends = self_same fewer now same ∙ fewer_selfs;
         met = marks_stay fewer now same done_same (met_stays f stays f.next_depend k.rise k.met);
         blocked = each_slot (λ x. is_blocked x.state) (λ b. b) k.blocked;
         free_to_run = each_slot (λ x. is_waiting x.state || is_running x.state) not k.free_to_run;

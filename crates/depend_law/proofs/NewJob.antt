@@ -1,5 +1,5 @@
 -- A job that is submitted keeps the farm's depends: its frames wait in slots that had none, so that no depend that was there speaks of them.
-use Rattle.std.proofs.Common.{◌≡◌, ℕ, suc, ◌<◌, Bool, true, false, eqb, ◌&&◌, ◌||◌, not, List, [], ◌∷◌, ◌++◌, Option, Some, None, refl, sym, ap, subst, ◌∙◌, arith, append-nil, ◌⊎◌, inl, inr}
+use Rattle.std.proofs.Common.{◌≡◌, ℕ, suc, ◌<◌, Bool, true, false, eqb, ◌||◌, not, List, [], ◌∷◌, ◌++◌, Option, Some, None, refl, sym, ap, subst, ◌∙◌, arith, append-nil, ◌⊎◌, inl, inr}
 use Rattle.std.specs.Prelude.{is_some}
 use Rattle.std.specs.List.{find, list_any, position_or_len, slice_get}
 use Rattle.std.specs.Cmp.Derive.{both_true}
@@ -125,10 +125,12 @@ module _ (f : Farm) (rows : KeepsRows f) (k : KeepsDepends f) where
         (ap (λ (ls : List LayerRow). has_part ls e.layer e.frame) (own_layers e.job parts.0) ∙ parts.1)
 
     depend_stays : (d : DependRow) (b : Bool) → d.met_all ≡ b → is_kept_depend f d ≡ true → is_kept_depend with_it d ≡ true
-    depend_stays d true is kept = or_left d.met_all (is_end_there with_it d.waiter && is_end_there with_it d.target) is
+    depend_stays d true is kept =
+        let waits = (and_both (is_end_there f d.waiter) (d.met_all || is_end_there f d.target) kept).0 in
+        both_true (end_stays d.waiter waits) (or_left d.met_all (is_end_there with_it d.target) is)
     depend_stays d false is kept =
         let ends = ends_of f d kept is in
-        or_right d.met_all (is_end_there with_it d.waiter && is_end_there with_it d.target) (both_true (end_stays d.waiter ends.0) (end_stays d.target ends.1))
+        both_true (end_stays d.waiter ends.0) (or_right d.met_all (is_end_there with_it d.target) (end_stays d.target ends.1))
 
     fills : (slot : ℕ) → Fills (slice_get f.slots slot) (slice_get with_it.slots slot)
     fills slot = placed_fills f.slots (frames_of f.next_job 0 spec.layers) (job_waits f.next_job 0 spec.layers) slot

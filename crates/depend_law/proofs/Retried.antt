@@ -20,7 +20,7 @@ use Rattle.depend_law.proofs.Fewer.{are_done_more}
 use Rattle.depend_law.proofs.MetAgain.{met_is}
 use Rattle.depend_law.proofs.Settled.{Settled}
 use Rattle.depend_law.proofs.Shapes.{SameFrames, SamePlace, changed_frames, frame_stays, frames_same}
-use Rattle.depend_law.proofs.Stable.{SameGroups, left_same, marks_stay, met_same, same_groups}
+use Rattle.depend_law.proofs.Stable.{SameGroups, left_same, marks_stay, met_same, same_groups, self_same}
 use Rattle.depend_law.proofs.Stops.{changed_passed}
 use Rattle.depend_law.proofs.Turns.{on_frame, on_slot}
 
@@ -86,7 +86,9 @@ module _ (f : Farm) (k : KeepsDepends f) where
           rise = k.rise;
           count = k.count;
           groups_within = omega (arith, left_same f again again_same, k.groups_within);
+          formed = k.formed;
           ends_there = k.ends_there;
+          no_self_depends = self_same f again again_same ∙ k.no_self_depends;
           met = met_less f k again again_same (only is_done_state refl);
           blocked = blocked_shut f k again again_same (only is_blocked refl);
           running_open = running_free f k again again_same (only is_running refl);

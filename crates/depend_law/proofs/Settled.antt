@@ -1,27 +1,29 @@
 -- A farm that is settled: what is met is marked, and no blocked frame is open.
 use Rattle.std.proofs.Common.{◌≡◌, ◌≤◌, ℕ, suc, ◌+◌, Bool, true, false, cond, ◌&&◌, ◌||◌, not, List, [], ◌∷◌, map, length, Option, Some, None, refl, ap, sym, subst, ◌∙◌, arith, option_map}
 use Rattle.std.specs.List.{list_all, slice_get}
+use Rattle.std.specs.Option.{is_none}
 use Rattle.std.proofs.lemmas.Bool.{and_left, and_right, not_from_true, true≢false}
 use Rattle.std.proofs.lemmas.List.{length-map}
 use Rattle.std.proofs.lemmas.List.Folds.{list_all-map}
 use Rattle.farm_types.specs.declared.depend.DependRow.{DependRow}
+use Rattle.farm_types.specs.declared.depend.Group.{Group}
 use Rattle.farm_types.specs.declared.slot_row.Frame.{Frame}
 use Rattle.farm_types.specs.declared.slot_row.SlotRow.{SlotRow}
 use Rattle.farm_types.specs.declared.states.FrameState.{FrameState}
 use Rattle.farm_types.specs.declared.states.FrameState.TheVariants as frame_state
 use Rattle.farm_types.specs.declared.limits.TheConstants.{LAST_DEPEND, MOST_DEPENDS, MOST_GROUPS}
 use Rattle.farm_types.specs.Booking.{is_waiting}
-use Rattle.farm_types.specs.DependActs.{is_running}
+use Rattle.farm_types.specs.DependActs.{is_running, waits_for_itself}
 use Rattle.farm_types.specs.Depends.{groups_left, groups_of, is_open}
 use Rattle.farm_types.specs.Farm.{Farm, for_some}
-use Rattle.farm_types.specs.Kept.{KeepsDepends, is_end_there, is_kept_depend}
+use Rattle.farm_types.specs.Kept.{KeepsDepends, has_no_self_depend, is_end_there, is_formed_depend, is_kept_depend}
 use Rattle.farm_types.specs.Rising.{IsRising, depend_key}
 use Rattle.farm_types.specs.Settle.{in_state, is_blocked, is_met_now, opened_from, opens, settle, settled_row, with_met, with_opened}
-use Rattle.depend_law.proofs.Fewer.{kept_more, left_less, rising-map, sum_by-map-less}
+use Rattle.depend_law.proofs.Fewer.{kept_more, left_less, rising-map, sum_by-map-less, there_more}
 use Rattle.depend_law.proofs.MetAgain.{groups_met, met_again, open_met}
 use Rattle.depend_law.proofs.Opened.{opened_done, opened_slot}
 use Rattle.depend_law.proofs.Shapes.{opened_frames}
-use Rattle.depend_law.proofs.Stable.{SameGroups, left_same, met_stays, open_same, same_groups}
+use Rattle.depend_law.proofs.Stable.{SameGroups, left_same, met_stays, open_same, same_groups, self_same}
 use Rattle.depend_law.proofs.Turns.{on_frame}
 use Rattle.depend_law.specs.Unsettled.{Unsettled, WaitingOpen}
 use Rattle.farm_types.proofs.Lists.{and_both}
@@ -33,7 +35,9 @@ pub record Settled (f : Farm) : Type 0 where
   pub rise : IsRising depend_key 1 f.depends f.next_depend
   pub count : length f.depends ≤ MOST_DEPENDS
   pub groups_within : groups_left f ≤ MOST_GROUPS
+  pub formed : list_all is_formed_depend f.depends ≡ true
   pub ends_there : list_all (is_kept_depend f) f.depends ≡ true
+  pub no_self_depends : list_all (has_no_self_depend f) f.depends ≡ true
   pub met : with_met f ≡ f
   pub blocked : (slot : ℕ) (s : SlotRow) → slice_get f.slots slot ≡ Some s → opens f slot s ≡ false
   pub running_open : (slot : ℕ) (s : SlotRow) → slice_get f.slots slot ≡ Some s → (for_some s.frame (λ x. is_running x.state) && not (is_open f slot)) ≡ false
@@ -54,7 +58,9 @@ kept_settled f k waiting =
       rise = k.rise;
       count = k.count;
       groups_within = k.groups_within;
+      formed = k.formed;
       ends_there = k.ends_there;
+      no_self_depends = k.no_self_depends;
       met = k.met;
       blocked = k.blocked;
       free_to_run = λ slot s at. for_either s.frame (not (is_open f slot)) (waiting slot s at) (k.running_open slot s at);
@@ -72,7 +78,17 @@ module _ (f : Farm) (k : Unsettled f) where
   ends_met =
       list_all-map (is_kept_depend f) (settled_row f) f.depends
       ∙ list_all-weaker (is_kept_depend f) (λ d. is_kept_depend f (settled_row f d))
-      (λ d. kept_more d.met_all (list_all (is_met_now f d) (groups_of f d)) (is_end_there f d.waiter && is_end_there f d.target)) f.depends k.ends_there
+      (λ d. there_more (is_end_there f d.waiter) d.met_all (list_all (is_met_now f d) (groups_of f d)) (is_end_there f d.target)) f.depends k.ends_there
+
+  self_met : (d : DependRow) → has_no_self_depend f d ≡ true → has_no_self_depend (with_met f) (settled_row f d) ≡ true
+  self_met d has =
+      ap (λ (gs : List Group). (settled_row f d).met_all || is_none (waits_for_itself gs)) (groups_met f d)
+      ∙ kept_more d.met_all (list_all (is_met_now f d) (groups_of f d)) (is_none (waits_for_itself (groups_of f d))) has
+
+  selfs_met : list_all (has_no_self_depend (with_met f)) (map (settled_row f) f.depends) ≡ true
+  selfs_met =
+      list_all-map (has_no_self_depend (with_met f)) (settled_row f) f.depends
+      ∙ list_all-weaker (has_no_self_depend f) (λ d. has_no_self_depend (with_met f) (settled_row f d)) self_met f.depends k.no_self_depends
 
   -- what is open stays open
   opens_more : (state slot_open more_open : Bool) → (slot_open ≡ true → more_open ≡ true) → (state && not slot_open) ≡ false → (state && not more_open) ≡ false
@@ -148,7 +164,9 @@ module _ (f : Farm) where
           rise = rising-map depend_key (settled_row f) (λ d. refl) 1 f.depends f.next_depend k.rise;
           count = omega (arith, k.count, length-map f.depends (settled_row f));
           groups_within = omega (arith, left_same (with_met f) settled settled_same, left_met f k, k.groups_within);
+          formed = list_all-map is_formed_depend (settled_row f) f.depends ∙ k.formed;
           ends_there = ends_met f k;
+          no_self_depends = self_same (with_met f) settled settled_same ∙ selfs_met f k;
           met = met_stays (with_met f) settled settled_same (opened_done (with_met f) 0 f.slots) (met_again f f.next_depend k.rise);
           blocked = settled_blocked;
           running_open = settled_running;

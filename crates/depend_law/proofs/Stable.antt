@@ -1,12 +1,15 @@
 -- While depends keep their groups, and frames stay done or not done, what is open, met and left stays.
 use Rattle.std.proofs.Common.{◌≡◌, ℕ, suc, Bool, true, false, cond, ◌||◌, ◌&&◌, not, List, [], ◌∷◌, ◌++◌, map, length, Some, refl, sym, ap, ◌∙◌, arith}
 use Rattle.std.specs.List.{filter, list_all, slice_get, sum_by}
+use Rattle.std.specs.Option.{is_none}
 use Rattle.std.proofs.lemmas.List.Sums.{sum_by-cons}
 use Rattle.farm_types.specs.declared.depend.DependRow.{DependRow}
 use Rattle.farm_types.specs.declared.depend.Group.{Group}
 use Rattle.farm_types.specs.declared.depend.MetRow.{MetRow}
 use Rattle.farm_types.specs.Depends.{are_done, groups_left, groups_of, is_done, is_met, is_open, waits_in}
+use Rattle.farm_types.specs.DependActs.{waits_for_itself}
 use Rattle.farm_types.specs.Farm.{Farm}
+use Rattle.farm_types.specs.Kept.{has_no_self_depend}
 use Rattle.farm_types.specs.Settle.{is_met_now, met_row, met_rows, met_rows_of, settled_row, with_met}
 use Rattle.farm_types.proofs.Lists.{list_all-from_at}
 use Rattle.depend_law.proofs.Shapes.{SameFrames, groups_stay}
@@ -92,6 +95,16 @@ module _ (f g : Farm) (same : SameGroups f g) where
       ap (sum_by (λ (d : DependRow). cond d.met_all 0 (length (groups_of g d)))) same.depends
       ∙ sum_by-same (λ (d : DependRow). cond d.met_all 0 (length (groups_of g d))) (λ (d : DependRow). cond d.met_all 0 (length (groups_of f d))) f.depends
       (λ n d at. left_in_same n d at d.met_all refl)
+
+  self_in_same : (n : ℕ) (d : DependRow) → slice_get f.depends n ≡ Some d → (b : Bool) → d.met_all ≡ b → has_no_self_depend g d ≡ has_no_self_depend f d
+  self_in_same n d at true is = or_same d.met_all (is_none (waits_for_itself (groups_of g d))) (is_none (waits_for_itself (groups_of f d))) is
+  self_in_same n d at false is = ap (λ (bs : List Group). d.met_all || is_none (waits_for_itself bs)) (same.groups n d at is)
+
+  -- in the same depends frames wait for themselves
+  pub self_same : list_all (has_no_self_depend g) g.depends ≡ list_all (has_no_self_depend f) f.depends
+  self_same =
+      ap (list_all (has_no_self_depend g)) same.depends
+      ∙ list_all-same (has_no_self_depend g) (has_no_self_depend f) f.depends (λ n d at. self_in_same n d at d.met_all refl)
 
   -- Where of each depend that isn't satisfied the same groups are met now, exactly what is met stays marked.
   module _ (now : (n : ℕ) (d : DependRow) → slice_get f.depends n ≡ Some d → d.met_all ≡ false → (k : ℕ) (b : Group) → slice_get (groups_of f d) k ≡ Some b → is_met_now g d b ≡ is_met_now f d b) where

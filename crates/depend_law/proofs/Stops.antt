@@ -35,8 +35,8 @@ use Rattle.depend_law.proofs.Turns.{Turns, is_active, on_frame, on_slot, turns_c
 -- a depend has its ends
 paused_ends : (f : Farm) (paused : Bool) (j : JobRow) (d : DependRow) → is_kept_depend (with_paused f paused (Some j)) d ≡ is_kept_depend f d
 paused_ends f paused j d =
-    ap (λ (pending : ℕ → Bool). d.met_all || ((pending d.waiter.job && has_part (layers_of f.layers d.waiter.job) d.waiter.layer d.waiter.frame)
-    && (pending d.target.job && has_part (layers_of f.layers d.target.job) d.target.layer d.target.frame)))
+    ap (λ (pending : ℕ → Bool). (pending d.waiter.job && has_part (layers_of f.layers d.waiter.job) d.waiter.layer d.waiter.frame)
+    && (d.met_all || (pending d.target.job && has_part (layers_of f.layers d.target.job) d.target.layer d.target.frame)))
     (λ i n. still_pending j.job paused f.jobs n i)
 
 pub pause_carries : (f : Farm) (paused : Bool) (o : Option JobRow) → CarriesAll f (with_paused f paused o)

@@ -3,6 +3,7 @@ use Rattle.std.proofs.Common.{◌≡◌, ◌<◌, ◌^◌, ◌∙◌, ℕ, List,
 use Rattle.std.specs.Prelude.{codes}
 use Rattle.std.specs.List.{IsDistinct}
 use Rattle.std.specs.Ordering.{int_eq}
+use Rattle.std.specs.Cmp.Derive.{both_true}
 use Rattle.std.proofs.lemmas.List.Elements.{All-nil, All-push}
 use Rattle.farm_types.specs.declared.entry.Act.{Act}
 use Rattle.farm_types.specs.declared.entry.Entry.{Entry}
@@ -12,6 +13,7 @@ use Rattle.farm_types.specs.Formed.{IsFormedAct, IsFormedJob, IsFormedLayer, IsF
 use Rattle.farm_types.specs.Run.{IsLegal, IsLegalStep, run_of}
 use Rattle.farm_types.specs.SpecLimits.{LayerKeepsLimits}
 use Rattle.farm_types.specs.Step.{closed, after, after_act, at_moment, followed, moment_of}
+use Rattle.farm_types.proofs.Utf8.{ascii_utf8}
 use Rattle.farm_types.proofs.Ranges.{demo_range, demo_text, range_distinct}
 use Rattle.farm_law.specs.DemoRun.{demo_alloc, demo_boot, demo_entries, demo_layer_spec, demo_show, demo_spec, demo_sub, demo_submit}
 
@@ -23,7 +25,7 @@ layer_formed =
       name = refl;
       range = demo_text;
       numbers_are = sym demo_range;
-      command = refl;
+      command = both_true (ascii_utf8 (codes "echo #IFRAME#") refl) refl;
       tags = refl;
       limits =
           record {

@@ -1,16 +1,38 @@
--- The list of jobs once one finished: which jobs are found as they were.
-use Rattle.std.proofs.Common.{◌≡◌, ℕ, Bool, true, false, cond, not, ◌&&◌, ◌||◌, eqb, leb, ltb, List, map, length, Some, refl, sym, ap, subst, ◌∙◌, option_map}
-use Rattle.std.specs.List.{filter, find, list_all}
-use Rattle.std.proofs.lemmas.Bool.{eqb-true}
+-- Jobs by their numbers, and the list of jobs once one finished: which jobs are found as they were.
+use Rattle.std.proofs.Common.{◌≡◌, ℕ, suc, zero, ◌+◌, ◌≤◌, Bool, true, false, cond, not, ◌&&◌, ◌||◌, eqb, leb, ltb, List, [], ◌∷◌, map, length, Some, refl, sym, ap, subst, ◌∙◌, option_map, arith}
+use Rattle.std.specs.List.{filter, find, list_all, slice_get}
+use Rattle.std.proofs.lemmas.Bool.{eq-eqb, eqb-true, ne_eqb}
+use Rattle.std.proofs.lemmas.Option.{none-some, same_Some}
 use Rattle.farm_types.specs.declared.limits.TheConstants.{MOST_FINISHED}
 use Rattle.farm_types.specs.declared.rows.JobRow.{JobRow}
 use Rattle.farm_types.specs.declared.slot_row.SlotRow.{SlotRow}
 use Rattle.farm_types.specs.Booking.{is_pending}
 use Rattle.farm_types.specs.Finish.{cut_finished, finished_row, is_finished, is_first_finished}
+use Rattle.farm_types.specs.Rising.{IsRising, job_key}
 use Rattle.farm_types.proofs.Lists.{found_is}
 use Rattle.farm_types.proofs.Passes.{cond_each}
 use Rattle.farm_law.proofs.Filtered.{found_kept}
 use Rattle.farm_law.proofs.Paused.{find-map}
+
+-- ---- jobs by their numbers
+
+at_least : (low : ℕ) (jobs : List JobRow) (high n : ℕ) (j : JobRow) → IsRising job_key low jobs high → slice_get jobs n ≡ Some j → low ≤ j.job
+at_least low [] high n j rise at = absurd (none-some j at)
+at_least low (k ∷ ks) high zero j rise at = subst (λ (x : JobRow). low ≤ x.job) (same_Some k j at) rise.0
+at_least low (k ∷ ks) high (suc n) j rise at = omega (arith, rise.0, at_least (k.job + 1) ks high n j rise.1 at)
+
+-- each job is found by its number
+pub found_by_number : (low : ℕ) (jobs : List JobRow) (high n : ℕ) (j : JobRow) → IsRising job_key low jobs high → slice_get jobs n ≡ Some j → find (λ (k : JobRow). eqb k.job j.job) jobs ≡ Some j
+found_by_number low [] high n j rise at = absurd (none-some j at)
+found_by_number low (k ∷ ks) high zero j rise at =
+    let same = same_Some k j at in
+    ap (λ (b : Bool). cond b (Some k) (find (λ (x : JobRow). eqb x.job j.job) ks)) (eq-eqb k.job j.job (ap job_key same)) ∙ at
+found_by_number low (k ∷ ks) high (suc n) j rise at =
+    let above = at_least (k.job + 1) ks high n j rise.1 at in
+    ap (λ (b : Bool). cond b (Some k) (find (λ (x : JobRow). eqb x.job j.job) ks)) (ne_eqb k.job j.job (λ e. omega (arith, above, e)))
+    ∙ found_by_number (k.job + 1) ks high n j rise.1 at
+
+-- ---- once one finished
 
 module _ (job : ℕ) (slots : List SlotRow) (finish : ℕ) where
   -- a job, finished where it is that one

@@ -1,8 +1,8 @@
 -- Jobs that finish leave what every farm keeps of its rows, and each pending job with a frame that isn't done.
-use Rattle.std.proofs.Common.{◌≡◌, ℕ, suc, zero, ◌+◌, ◌<◌, ◌≤◌, Bool, true, false, cond, not, ◌&&◌, ◌||◌, ◌⊎◌, inl, inr, eqb, List, [], ◌∷◌, map, length, Option, Some, None, refl, sym, ap, subst, ◌∙◌, arith}
+use Rattle.std.proofs.Common.{◌≡◌, ℕ, suc, zero, ◌+◌, ◌<◌, Bool, true, false, cond, not, ◌&&◌, ◌||◌, ◌⊎◌, inl, inr, eqb, List, [], ◌∷◌, map, length, Option, Some, None, refl, sym, ap, subst, ◌∙◌, arith}
 use Rattle.std.specs.Cmp.Derive.{both_true}
 use Rattle.std.specs.List.{AllByRecursion, filter, find, list_any, slice_get}
-use Rattle.std.proofs.lemmas.Bool.{eq-eqb, false≢true, ne_eqb, not_from_false}
+use Rattle.std.proofs.lemmas.Bool.{eq-eqb, false≢true, ne_eqb, not-true, not_from_false}
 use Rattle.std.proofs.lemmas.Option.{none-some, same_Some}
 use Rattle.farm_types.specs.declared.entry.Act.{Act}
 use Rattle.farm_types.specs.declared.entry.Act.TheVariants.{EatFrame, Heard, KillJob}
@@ -22,12 +22,32 @@ use Rattle.farm_types.proofs.Lists.{and_both, list_all-from_at}
 use Rattle.farm_types.proofs.Passes.{for_some-there}
 use Rattle.farm_law.proofs.Filtered.{at_kept, kept_at, rising-filter}
 use Rattle.farm_law.proofs.Finished.{free_row, one_run}
+pub use Rattle.farm_law.proofs.FinishedJobs.{found_by_number}
 use Rattle.farm_law.proofs.FinishedJobs.{still_found}
 use Rattle.farm_law.proofs.FinishedRows.{frame_other, jobs_finished, layer_stays, pending_still, pending_was}
 use Rattle.farm_law.proofs.KeptAttempts.{Fits, FrameStays, attempts_from_each, each_fits, frames_owned, none_fits, slot_fits}
 use Rattle.farm_law.proofs.KeptChanges.{kept_hosts}
 use Rattle.farm_law.proofs.KeptServes.{hosts_serve}
 use Rattle.farm_law.proofs.RowsStay.{hosts_same}
+use Rattle.farm_law.specs.Ending.{Ends}
+
+-- ---- what is left of other jobs
+
+-- a frame of another job isn't left of this one
+left_of_other : (job n : ℕ) → eqb n job ≡ false → (o : Option Frame) → for_some o (λ (x : Frame). eqb x.job job) ≡ true → for_some o (λ (x : Frame). eqb x.job n && not (is_done_state x.state)) ≡ false
+left_of_other job n other None is = refl
+left_of_other job n other (Some x) is =
+    let apart : eqb x.job n ≡ false = ne_eqb x.job n (λ e. false≢true (sym other ∙ subst (λ (m : ℕ). eqb m job ≡ true) e is)) in
+    ap (λ (b : Bool). b && not (is_done_state x.state)) apart
+
+left_step : (job n : ℕ) → eqb n job ≡ false → (s : SlotRow) (b : Bool) → is_frame_of job s ≡ b → is_left_of n (cond b (free_row s) s) ≡ is_left_of n s
+left_step job n other s true is = sym (left_of_other job n other s.frame is)
+left_step job n other s false is = refl
+
+-- what is left of another job is as it was
+pub left_stays : (job n : ℕ) → eqb n job ≡ false → (slots : List SlotRow) → list_any (is_left_of n) (map (freed_row job) slots) ≡ list_any (is_left_of n) slots
+left_stays job n other [] = refl
+left_stays job n other (s ∷ ss) = λ i. left_step job n other s (is_frame_of job s) refl i || left_stays job n other ss i
 
 -- ---- one job
 
@@ -53,15 +73,15 @@ module _ (job : ℕ) (f : Farm) (k : KeepsRows f) where
       (subst (λ (o : Option Frame). for_any o (λ (y : Frame). is_of_pending f.jobs y.job) ≡ true) here (frames_owned f k i s at)))
       (λ p on. hosts_serve f.hosts p.host) (each_fits f k.attempts i s at)
 
-  pub kept_one : is_of_pending f.jobs job ≡ true → KeepsRows now
-  kept_one pending =
+  pub kept_one : Ends f job → KeepsRows now
+  kept_one ends =
       record {
         moment_within = k.moment_within;
         shows = k.shows;
         allocs = k.allocs;
         subs = k.subs;
         hosts = k.hosts;
-        jobs = jobs_finished job (lists_of f) (length f.shows) pending k.jobs;
+        jobs = jobs_finished job (lists_of f) (length f.shows) ends.0 k.jobs ends.1;
         attempts = attempts_from_each now (mapped_each (λ i t. Fits now t) f.slots (freed_row job) (λ i s at. fits_step i s (is_frame_of job s) refl at));
         sound = (one_run job f).sound k.sound (kept_hosts f k);
       }
@@ -71,20 +91,18 @@ module _ (job : ℕ) (f : Farm) (k : KeepsRows f) where
 abbrev pub number : ℕ → ℕ
 number n = n
 
-abbrev ArePending : Farm → List ℕ → Type 0
-ArePending f jobs = AllByRecursion (λ n. is_of_pending f.jobs n ≡ true) jobs
+-- those after one end still as it finishes
+pub later_ends : (job : ℕ) (f : Farm) (low : ℕ) (jobs : List ℕ) (high : ℕ) → job < low → IsRising number low jobs high → AllByRecursion (Ends f) jobs → AllByRecursion (Ends (finish_one job f)) jobs
+later_ends job f low [] high less rise all = tt
+later_ends job f low (n ∷ ns) high less rise all =
+    let other = ne_eqb n job (λ e. omega (arith, rise.0, less, e)) in (
+      (pending_still job f.slots f.next_finish f.jobs n other all.0.0, left_stays job n other f.slots ∙ all.0.1),
+      later_ends job f (n + 1) ns high (omega (arith, rise.0, less)) rise.1 all.1,
+    )
 
--- those after one stay pending as it finishes
-later_pending : (job : ℕ) (f : Farm) (low : ℕ) (jobs : List ℕ) (high : ℕ) → job < low → IsRising number low jobs high → ArePending f jobs → ArePending (finish_one job f) jobs
-later_pending job f low [] high less rise all = tt
-later_pending job f low (n ∷ ns) high less rise all = (
-  pending_still job f.slots f.next_finish f.jobs n (ne_eqb n job (λ e. omega (arith, rise.0, less, e))) all.0,
-  later_pending job f (n + 1) ns high (omega (arith, rise.0, less)) rise.1 all.1,
-)
-
-kept_each : (low : ℕ) (jobs : List ℕ) (high : ℕ) (f : Farm) → IsRising number low jobs high → ArePending f jobs → KeepsRows f → KeepsRows (finish_each jobs f)
+kept_each : (low : ℕ) (jobs : List ℕ) (high : ℕ) (f : Farm) → IsRising number low jobs high → AllByRecursion (Ends f) jobs → KeepsRows f → KeepsRows (finish_each jobs f)
 kept_each low [] high f rise all k = k
-kept_each low (n ∷ ns) high f rise all k = kept_each (n + 1) ns high (finish_one n f) rise.1 (later_pending n f (n + 1) ns high (omega arith) rise.1 all.1) (kept_one n f k all.0)
+kept_each low (n ∷ ns) high f rise all k = kept_each (n + 1) ns high (finish_one n f) rise.1 (later_ends n f (n + 1) ns high (omega arith) rise.1 all.1) (kept_one n f k all.0)
 
 -- ---- those that finish
 
@@ -92,39 +110,28 @@ pub numbers_rise : (low : ℕ) (jobs : List JobRow) (high : ℕ) → IsRising jo
 numbers_rise low [] high rise = rise
 numbers_rise low (j ∷ js) high rise = (rise.0, numbers_rise (j.job + 1) js high rise.1)
 
-at_least : (low : ℕ) (jobs : List JobRow) (high n : ℕ) (j : JobRow) → IsRising job_key low jobs high → slice_get jobs n ≡ Some j → low ≤ j.job
-at_least low [] high n j rise at = absurd (none-some j at)
-at_least low (k ∷ ks) high zero j rise at = subst (λ (x : JobRow). low ≤ x.job) (same_Some k j at) rise.0
-at_least low (k ∷ ks) high (suc n) j rise at = omega (arith, rise.0, at_least (k.job + 1) ks high n j rise.1 at)
+-- where each of some ends
+all_end : (f : Farm) (jobs : List JobRow) → ((n : ℕ) (j : JobRow) → slice_get jobs n ≡ Some j → Ends f j.job) → AllByRecursion (Ends f) (map (λ (j : JobRow). j.job) jobs)
+all_end f [] each = tt
+all_end f (j ∷ js) each = (each 0 j refl, all_end f js (λ n k at. each (suc n) k at))
 
--- each job is found by its number
-pub found_by_number : (low : ℕ) (jobs : List JobRow) (high n : ℕ) (j : JobRow) → IsRising job_key low jobs high → slice_get jobs n ≡ Some j → find (λ (k : JobRow). eqb k.job j.job) jobs ≡ Some j
-found_by_number low [] high n j rise at = absurd (none-some j at)
-found_by_number low (k ∷ ks) high zero j rise at =
-    let same = same_Some k j at in
-    ap (λ (b : Bool). cond b (Some k) (find (λ (x : JobRow). eqb x.job j.job) ks)) (eq-eqb k.job j.job (ap job_key same)) ∙ at
-found_by_number low (k ∷ ks) high (suc n) j rise at =
-    let above = at_least (k.job + 1) ks high n j rise.1 at in
-    ap (λ (b : Bool). cond b (Some k) (find (λ (x : JobRow). eqb x.job j.job) ks)) (ne_eqb k.job j.job (λ e. omega (arith, above, e)))
-    ∙ found_by_number (k.job + 1) ks high n j rise.1 at
-
--- where each of some is there and pending
-all_pending : (f : Farm) (jobs : List JobRow) → ((n : ℕ) (j : JobRow) → slice_get jobs n ≡ Some j → is_of_pending f.jobs j.job ≡ true) → ArePending f (map (λ (j : JobRow). j.job) jobs)
-all_pending f [] each = tt
-all_pending f (j ∷ js) each = (each 0 j refl, all_pending f js (λ n k at. each (suc n) k at))
-
-finishing_pending : (f : Farm) → KeepsRows f → ArePending f (finishing f)
-finishing_pending f k =
-    all_pending f (filter (finishes f.slots) f.jobs)
+pub finishing_end : (f : Farm) → KeepsRows f → AllByRecursion (Ends f) (finishing f)
+finishing_end f k =
+    all_end f (filter (finishes f.slots) f.jobs)
     (λ n j at.
     let was = at_kept (finishes f.slots) f.jobs n j at in
-    let pending = (and_both (is_pending j.state) (not (list_any (is_left_of j.job) f.slots)) was.2).0 in
-    for_some-there (find (λ (x : JobRow). eqb x.job j.job) f.jobs) is_pending_job j (found_by_number 1 f.jobs f.next_job was.0 j k.jobs.jobs_rise was.1) pending)
+    let both = and_both (is_pending j.state) (not (list_any (is_left_of j.job) f.slots)) was.2 in (
+      for_some-there (find (λ (x : JobRow). eqb x.job j.job) f.jobs) is_pending_job j (found_by_number 1 f.jobs f.next_job was.0 j k.jobs.jobs_rise was.1) both.0,
+      not-true (list_any (is_left_of j.job) f.slots) both.1,
+    ))
+
+-- their numbers rise
+pub finishing_rise : (f : Farm) → KeepsRows f → IsRising number 1 (finishing f) f.next_job
+finishing_rise f k = numbers_rise 1 (filter (finishes f.slots) f.jobs) f.next_job (rising-filter job_key (finishes f.slots) 1 f.jobs f.next_job k.jobs.jobs_rise)
 
 pub kept_all : (f : Farm) → KeepsRows f → KeepsRows (finish_all f)
 unfolding finish_all
-kept_all f k =
-    kept_each 1 (finishing f) f.next_job f (numbers_rise 1 (filter (finishes f.slots) f.jobs) f.next_job (rising-filter job_key (finishes f.slots) 1 f.jobs f.next_job k.jobs.jobs_rise)) (finishing_pending f k) k
+kept_all f k = kept_each 1 (finishing f) f.next_job f (finishing_rise f k) (finishing_end f k) k
 
 pub kept_closed : (act : Act) (f : Farm) → KeepsRows f → KeepsRows (closed act f)
 kept_closed (Heard heard) f k = kept_all f k
@@ -133,22 +140,6 @@ kept_closed (EatFrame p) f k = kept_all f k
 kept_closed act f k = k
 
 -- ---- the work that is left
-
--- a frame of another job isn't left of this one
-left_of_other : (job n : ℕ) → eqb n job ≡ false → (o : Option Frame) → for_some o (λ (x : Frame). eqb x.job job) ≡ true → for_some o (λ (x : Frame). eqb x.job n && not (is_done_state x.state)) ≡ false
-left_of_other job n other None is = refl
-left_of_other job n other (Some x) is =
-    let apart : eqb x.job n ≡ false = ne_eqb x.job n (λ e. false≢true (sym other ∙ subst (λ (m : ℕ). eqb m job ≡ true) e is)) in
-    ap (λ (b : Bool). b && not (is_done_state x.state)) apart
-
-left_step : (job n : ℕ) → eqb n job ≡ false → (s : SlotRow) (b : Bool) → is_frame_of job s ≡ b → is_left_of n (cond b (free_row s) s) ≡ is_left_of n s
-left_step job n other s true is = sym (left_of_other job n other s.frame is)
-left_step job n other s false is = refl
-
--- what is left of another job is as it was
-pub left_stays : (job n : ℕ) → eqb n job ≡ false → (slots : List SlotRow) → list_any (is_left_of n) (map (freed_row job) slots) ≡ list_any (is_left_of n) slots
-left_stays job n other [] = refl
-left_stays job n other (s ∷ ss) = λ i. left_step job n other s (is_frame_of job s) refl i || left_stays job n other ss i
 
 -- each pending job has a frame that isn't done, but for those
 abbrev WorkBut : List ℕ → Farm → Type 0

@@ -2,8 +2,8 @@
 use Rattle.std.proofs.Common.{◌≡◌, ℕ, ◌+◌, ◌*◌, ◌≤◌, Bool, true, false, cond, not, ◌&&◌, eqb, leb, ltb, List, [], ◌∷◌, map, length, Option, Some, None, refl, sym, ap, subst, ◌∙◌, arith}
 use Rattle.std.specs.Prelude.{bytes_eq}
 use Rattle.std.specs.Cmp.Derive.{both_true}
-use Rattle.std.specs.List.{IsDistinct, filter, find, list_all, slice_get}
-use Rattle.std.proofs.lemmas.Bool.{eqb-true, false≢true, false_from_ne_true, le-leb, leb-true, lt-ltb, ltb-false, not-true, not_from_false}
+use Rattle.std.specs.List.{IsDistinct, filter, find, list_all, list_any, slice_get}
+use Rattle.std.proofs.lemmas.Bool.{eq-eqb, eqb-true, false≢true, false_from_ne_true, le-leb, leb-true, lt-ltb, ltb-false, not-true, not_from_false}
 use Rattle.std.proofs.lemmas.List.{length-map}
 use Rattle.std.proofs.lemmas.List.Folds.{list_all-map}
 use Rattle.std.proofs.lemmas.Option.{none-some}
@@ -13,9 +13,10 @@ use Rattle.farm_types.specs.declared.rows.LayerRow.{LayerRow}
 use Rattle.farm_types.specs.declared.slot_row.Frame.{Frame}
 use Rattle.farm_types.specs.declared.slot_row.SlotRow.{SlotRow}
 use Rattle.farm_types.specs.Farm.{for_some, is_placed, layers_of}
-use Rattle.farm_types.specs.Finish.{cut_finished, finished_row, freed_row, is_frame_of, with_finished}
+use Rattle.farm_types.specs.Finish.{count_where, cut_finished, finished_row, freed_row, has_succeeded, is_frame_of, was_eaten, with_finished}
 use Rattle.farm_types.specs.Jobs.{JobLists}
-use Rattle.farm_types.specs.Kept.{AllDiffer, EachOnce, EachThere, EndsUsed, HasItsLayers, KeepsJobs, for_any, has_its_finish, is_formed_job, is_formed_layer, is_kept_frame, is_kept_slot, is_of_pending, is_pending_job, is_used, job_label, layer_in}
+use Rattle.farm_types.specs.Kept.{AllDiffer, EachOnce, EachThere, EndsUsed, HasItsLayers, KeepsJobs, for_any, has_its_counts, has_its_finish, is_formed_job, is_formed_layer, is_kept_frame, is_kept_slot, is_of_pending, is_pending_job, is_used, job_label, layer_in}
+use Rattle.farm_types.specs.Operators.{is_left_of}
 use Rattle.farm_types.specs.Rising.{IsRising, job_key, layer_key}
 use Rattle.farm_types.specs.Settle.{raised}
 use Rattle.farm_types.proofs.Changed.{mapped_each}
@@ -24,7 +25,8 @@ use Rattle.farm_types.proofs.Lists.{and_both, for_some_true, found_is, list_all-
 use Rattle.farm_types.proofs.Passes.{cond_each, for_some-there}
 use Rattle.farm_law.proofs.Filtered.{at_kept, differ-filter, filter_within, found_kept, list_all-filter, rising-filter}
 use Rattle.farm_law.proofs.Finished.{free_row}
-use Rattle.farm_law.proofs.FinishedJobs.{all_finished, finished_if, still_found, unchanged}
+use Rattle.farm_law.proofs.FinishedCounts.{all_done, own_frames}
+use Rattle.farm_law.proofs.FinishedJobs.{all_finished, finished_if, found_by_number, still_found, unchanged}
 use Rattle.farm_law.proofs.FinishedOne.{IsAmong, cut_each, few_cut, finish_known, finishes_apart, finishes_kept, is_among, one_fewer, one_more, pending_kept, stays}
 use Rattle.farm_law.proofs.Follows.{raised_raises}
 use Rattle.farm_law.proofs.KeptAttempts.{for_any_then}
@@ -207,8 +209,23 @@ module _ (job : ℕ) (b : JobLists) (shows : ℕ) (pending : is_of_pending b.job
       let was = at_kept (is_other_layer job b.layers) b.layers n l at in
       pending_still job b.slots b.next_finish b.jobs l.job (not-true (eqb l.job job) was.2) (list_all-at (λ (k : LayerRow). is_of_pending b.jobs k.job) b.layers was.0 l kept.layers_owned was.1))
 
-  pub jobs_finished : KeepsJobs (with_finished job b) shows
-  jobs_finished =
+  own_counts : list_any (is_left_of job) b.slots ≡ false → (n : ℕ) (j : JobRow) (c : Bool) → eqb j.job job ≡ c → slice_get b.jobs n ≡ Some j → has_its_counts (cond c (finished_row b.slots b.next_finish j) j) ≡ true
+  own_counts none n j false is at = list_all-at has_its_counts b.jobs n j kept.jobs_counted at
+  own_counts none n j true is at =
+      let itself : j.job ≡ job = eqb-true j.job job is in
+      let found = found_by_number 1 b.jobs b.next_job n j kept.jobs_rise at in
+      let there : is_of_pending b.jobs j.job ≡ true = subst (λ (m : ℕ). is_of_pending b.jobs m ≡ true) (sym itself) pending in
+      let its = kept.jobs_layered n j at (subst (λ (o : Option JobRow). for_some o is_pending_job ≡ true) found there) in
+      let done = all_done j.job b.slots (subst (λ (m : ℕ). list_any (is_left_of m) b.slots ≡ false) (sym itself) none) in
+      let frames = own_frames j.job b.slots b.layers its.places kept.slots_kept kept.frames_once kept.frames_there in
+      eq-eqb (count_where j.job was_eaten b.slots + count_where j.job has_succeeded b.slots) j.frames (done ∙ (frames ∙ its.frames))
+
+  -- each has its counts, where no frame of the job is left
+  counted : list_any (is_left_of job) b.slots ≡ false → list_all has_its_counts all ≡ true
+  counted none = list_all-from_at has_its_counts all (mapped_each (λ n j. has_its_counts j ≡ true) b.jobs one (λ n j at. own_counts none n j (eqb j.job job) refl at))
+
+  pub jobs_finished : list_any (is_left_of job) b.slots ≡ false → KeepsJobs (with_finished job b) shows
+  jobs_finished none =
       let fewer = one_fewer job b.slots b.next_finish b.jobs among in
       let more = one_more job b.slots b.next_finish b.jobs among in
       record {
@@ -218,6 +235,7 @@ module _ (job : ℕ) (b : JobLists) (shows : ℕ) (pending : is_of_pending b.job
         finished_count = few_cut all (omega (arith, more, kept.finished_count));
         finishes_within = each_of (has_its_finish (b.next_finish + 1)) (finish_known job b.slots b.next_finish kept.finish_from b.jobs kept.finishes_within);
         finishes_differ = finishes_kept all (finishes_apart job b.slots b.next_finish b.jobs among kept.finishes_within kept.finishes_differ);
+        jobs_counted = each_of has_its_counts (counted none);
         jobs_rise = rising;
         jobs_formed = each_of (is_formed_job shows) formed;
         jobs_differ = differ;

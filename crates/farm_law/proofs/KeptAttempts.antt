@@ -1,5 +1,5 @@
 -- What live attempts keep: where the rows that they name stay, each attempt that is left is as it was.
-use Rattle.std.proofs.Common.{◌≡◌, ℕ, ◌≤◌, ◌⊎◌, inl, inr, Bool, true, false, cond, ◌&&◌, eqb, leb, List, Option, Some, None, refl, sym, subst, ◌∙◌}
+use Rattle.std.proofs.Common.{◌≡◌, ℕ, ◌≤◌, ◌⊎◌, inl, inr, Bool, true, false, cond, ◌&&◌, eqb, leb, ltb, List, Option, Some, None, refl, sym, subst, ◌∙◌}
 use Rattle.std.proofs.lemmas.Bool.{eqb-true}
 use Rattle.std.proofs.lemmas.Option.{same_Some}
 use Rattle.std.specs.Cmp.Derive.{both_true}
@@ -47,6 +47,7 @@ pub record Fits (f : Farm) (s : SlotRow) : Type 0 where
   pub billed : for_both s (has_sub f.jobs f.hosts) ≡ true
   pub subscribed : for_any s.proc (is_subscribed f.subs) ≡ true
   pub since : for_any s.proc (λ (p : ProcRow). leb p.since f.moment) ≡ true
+  pub versioned : for_any s.proc (λ (p : ProcRow). ltb 0 p.version) ≡ true
 
 pub each_fits : (f : Farm) → KeepsAttempts f → Each (λ i s. Fits f s) f.slots
 each_fits f k i s at =
@@ -56,6 +57,7 @@ each_fits f k i s at =
       billed = list_all-at (λ (s : SlotRow). for_both s (has_sub f.jobs f.hosts)) f.slots i s k.billed at;
       subscribed = list_all-at (λ (s : SlotRow). for_any s.proc (is_subscribed f.subs)) f.slots i s k.subscribed at;
       since = list_all-at (λ (s : SlotRow). for_any s.proc (λ (p : ProcRow). leb p.since f.moment)) f.slots i s k.since at;
+      versioned = list_all-at (λ (s : SlotRow). for_any s.proc (λ (p : ProcRow). ltb 0 p.version)) f.slots i s k.versioned at;
     }
 
 pub attempts_from_each : (f : Farm) → Each (λ i s. Fits f s) f.slots → KeepsAttempts f
@@ -66,6 +68,7 @@ attempts_from_each f each =
       billed = list_all-from_at (λ (s : SlotRow). for_both s (has_sub f.jobs f.hosts)) f.slots (λ i s at. (each i s at).billed);
       subscribed = list_all-from_at (λ (s : SlotRow). for_any s.proc (is_subscribed f.subs)) f.slots (λ i s at. (each i s at).subscribed);
       since = list_all-from_at (λ (s : SlotRow). for_any s.proc (λ (p : ProcRow). leb p.since f.moment)) f.slots (λ i s at. (each i s at).since);
+      versioned = list_all-from_at (λ (s : SlotRow). for_any s.proc (λ (p : ProcRow). ltb 0 p.version)) f.slots (λ i s at. (each i s at).versioned);
     }
 
 -- a slot without an attempt fits every farm
@@ -77,6 +80,7 @@ none_fits f s none =
       billed = for_any_each s.frame (λ x. for_any s.proc (has_sub f.jobs f.hosts x)) (λ x. for_any_none s.proc (has_sub f.jobs f.hosts x) none);
       subscribed = for_any_none s.proc (is_subscribed f.subs) none;
       since = for_any_none s.proc (λ (p : ProcRow). leb p.since f.moment) none;
+      versioned = for_any_none s.proc (λ (p : ProcRow). ltb 0 p.version) none;
     }
 
 -- ---- the rows that an attempt names
@@ -150,6 +154,7 @@ slot_fits f g rest s frames serves fits =
           fits.billed;
       subscribed = for_any_then s.proc (is_subscribed f.subs) (is_subscribed g.subs) (λ p is there. rest.subs p.sub there) fits.subscribed;
       since = for_any_then s.proc (λ (p : ProcRow). leb p.since f.moment) (λ (p : ProcRow). leb p.since g.moment) (λ p is before. at_more p.since f.moment g.moment rest.moment before) fits.since;
+      versioned = fits.versioned;
     }
 
 -- where pending jobs stay, so does what the frame of one names

@@ -1,9 +1,9 @@
 -- The attempt that a booking adds fits the farm.
-use Rattle.std.proofs.Common.{◌≡◌, ◌≤◌, ℕ, Bool, true, Option, Some, refl, sym, subst, ap, ◌∙◌, option_map}
+use Rattle.std.proofs.Common.{◌≡◌, ◌≤◌, ◌+◌, ℕ, Bool, true, Option, Some, refl, sym, subst, ap, ◌∙◌, option_map, arith}
 use Rattle.std.specs.Prelude.{is_some}
 use Rattle.std.specs.Cmp.Derive.{both_true}
 use Rattle.std.specs.List.{slice_get}
-use Rattle.std.proofs.lemmas.Bool.{eq-eqb, le-leb}
+use Rattle.std.proofs.lemmas.Bool.{eq-eqb, le-leb, lt-ltb}
 use Rattle.std.proofs.lemmas.Option.{same_Some}
 use Rattle.farm_types.proofs.Changed.{changed_at_each}
 use Rattle.farm_types.proofs.Passes.{for_some-there}
@@ -44,6 +44,7 @@ module _ (f : Farm) (slot host moment : ℕ) (r : Rows) (can : CanBook f slot ho
             (for_some-there (job_at f r.frame.job) _ r.job can.job_is (for_some-there (slice_get f.hosts host) _ r.host can.host_is (eq-eqb (sub_of r.job.show r.host.alloc) (sub_of r.job.show r.host.alloc) refl)));
         subscribed = ap is_some can.sub_is;
         since = le-leb moment f.moment now;
+        versioned = lt-ltb 0 (r.slot.version + 1) (omega arith);
       }
 
   -- attempts keep theirs with the one that a booking adds

@@ -27,6 +27,7 @@ jobs_none =
       finished_count = omega arith;
       finishes_within = refl;
       finishes_differ = nothing_differs;
+      jobs_counted = refl;
       jobs_rise = omega arith;
       jobs_formed = refl;
       jobs_differ = names_none;
@@ -51,7 +52,7 @@ kept_empty =
       subs = record { rise = omega arith; each = refl };
       hosts = record { count = omega arith; differ = names_none; formed = refl; allocated = refl; heard = refl };
       jobs = jobs_none;
-      attempts = record { hosted = refl; measured = refl; billed = refl; subscribed = refl; since = refl };
+      attempts = record { hosted = refl; measured = refl; billed = refl; subscribed = refl; since = refl; versioned = refl };
       sound = empty_sound;
     }
 

@@ -33,6 +33,7 @@ jobs_more_shows b shows more le kept =
       finished_count = kept.finished_count;
       finishes_within = kept.finishes_within;
       finishes_differ = kept.finishes_differ;
+      jobs_counted = kept.jobs_counted;
       jobs_rise = kept.jobs_rise;
       jobs_formed = jobs_formed_more shows more b.jobs le kept.jobs_formed;
       jobs_differ = kept.jobs_differ;

@@ -57,6 +57,7 @@ slots_keep b slots shows zip kept =
       finished_count = kept.finished_count;
       finishes_within = kept.finishes_within;
       finishes_differ = kept.finishes_differ;
+      jobs_counted = kept.jobs_counted;
       jobs_rise = kept.jobs_rise;
       jobs_formed = kept.jobs_formed;
       jobs_differ = kept.jobs_differ;

@@ -17,7 +17,7 @@ use Rattle.farm_types.specs.Finish.{is_finished}
 use Rattle.farm_types.specs.Formed.{IsFormedJob}
 use Rattle.farm_types.specs.Jobs.{JobLists, frames_of, is_finished_named, job_row, layer_rows, new_frame, place_frames, with_job, without_finished}
 use Rattle.farm_types.specs.Farm.{is_placed}
-use Rattle.farm_types.specs.Kept.{EachOnce, EachThere, HasItsLayers, KeepsJobs, finish_of, has_its_finish, is_formed_job, is_formed_layer, is_kept_slot, is_of_pending, is_pending_job}
+use Rattle.farm_types.specs.Kept.{EachOnce, EachThere, HasItsLayers, KeepsJobs, finish_of, has_its_counts, has_its_finish, is_formed_job, is_formed_layer, is_kept_slot, is_of_pending, is_pending_job}
 use Rattle.farm_types.specs.Ranges.{range_numbers}
 use Rattle.farm_types.specs.Rising.{IsRising, job_key, layer_key}
 use Rattle.farm_types.proofs.Lists.{for_some_true}
@@ -84,6 +84,9 @@ module _ (b : JobLists) (spec : JobSpec) (show shows : ℕ) (formed : IsFormedJo
   finishes_apart : IsDistinct nat_eq (map finish_of (filter is_finished jobs))
   finishes_apart =
       subst (λ (js : List JobRow). IsDistinct nat_eq (map finish_of js)) (sym finished_are) (differ-filter finish_of nat_eq stays (filter is_finished b.jobs) kept.finishes_differ)
+
+  counts_known : list_all has_its_counts jobs ≡ true
+  counts_known = list_all-append has_its_counts olds (row ∷ []) ∙ both_true (list_all-filter has_its_counts stays b.jobs kept.jobs_counted) refl
 
   -- each pending job has its layers
   layered_at : (n : ℕ) (j : JobRow) → (slice_get olds n ≡ Some j) ⊎ ((m : ℕ) × (slice_get (row ∷ []) m ≡ Some j)) → is_pending_job j ≡ true → HasItsLayers (b.layers ++ rows) j
@@ -173,6 +176,7 @@ module _ (b : JobLists) (spec : JobSpec) (show shows : ℕ) (formed : IsFormedJo
         finished_count = few_finished;
         finishes_within = finishes_known;
         finishes_differ = finishes_apart;
+        jobs_counted = counts_known;
         jobs_rise = rising-append job_key 1 b.next_job (b.next_job + 1) olds (row ∷ []) olds_rise (omega arith, omega arith);
         jobs_formed = list_all-append (is_formed_job shows) olds (row ∷ []) ∙ both_true (list_all-filter (is_formed_job shows) stays b.jobs kept.jobs_formed) (both_true (row_is_formed b.next_job show shows spec formed shown) refl);
         jobs_differ = names_added b.jobs b.next_job show spec kept.jobs_differ ok.name_new;

@@ -9,7 +9,7 @@ use Rattle.farm_types.specs.declared.rows.LayerRow.{LayerRow}
 use Rattle.farm_types.specs.Farm.{Farm, for_some}
 use Rattle.farm_types.specs.Finish.{is_finished}
 use Rattle.farm_types.specs.Jobs.{JobLists}
-use Rattle.farm_types.specs.Kept.{HasItsLayers, KeepsJobs, KeepsRows, finish_of, has_its_finish, is_formed_job, is_of_pending, is_pending_job, job_label}
+use Rattle.farm_types.specs.Kept.{HasItsLayers, KeepsJobs, KeepsRows, finish_of, has_its_counts, has_its_finish, is_formed_job, is_of_pending, is_pending_job, job_label}
 use Rattle.farm_types.specs.Operators.{paused_row, with_paused}
 use Rattle.farm_types.specs.Rising.{job_key}
 use Rattle.farm_types.specs.Step.{lists_of}
@@ -45,6 +45,10 @@ module _ (job : ℕ) (paused : Bool) (jobs : List JobRow) where
       list_all-map (has_its_finish next) (paused_row job paused) jobs
       ∙ ap (λ (test : JobRow → Bool). list_all test jobs) (λ i j. unread (has_its_finish next) (λ x b. refl) job paused j i)
 
+  counts_known : list_all has_its_counts changed ≡ list_all has_its_counts jobs
+  counts_known =
+      list_all-map has_its_counts (paused_row job paused) jobs ∙ ap (λ (test : JobRow → Bool). list_all test jobs) (λ i j. unread has_its_counts (λ x b. refl) job paused j i)
+
   names_are : map job_label changed ≡ map job_label jobs
   names_are = map-map_kept job_label (paused_row job paused) (unread job_label (λ j b. refl) job paused) jobs
 
@@ -76,6 +80,7 @@ keeps_paused b job paused shows kept =
       finished_count = omega (arith, finished, kept.finished_count);
       finishes_within = finishes_known job paused b.jobs b.next_finish ∙ kept.finishes_within;
       finishes_differ = subst (IsDistinct nat_eq) (sym (finishes_are job paused b.jobs)) kept.finishes_differ;
+      jobs_counted = counts_known job paused b.jobs ∙ kept.jobs_counted;
       jobs_rise = rising-map job_key (paused_row job paused) (unread job_key (λ x p. refl) job paused) 1 b.jobs b.next_job kept.jobs_rise;
       jobs_formed = formed_are job paused b.jobs shows ∙ kept.jobs_formed;
       jobs_differ = subst (IsDistinct bytes_eq) (sym (names_are job paused b.jobs)) kept.jobs_differ;

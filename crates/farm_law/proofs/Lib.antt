@@ -7,6 +7,7 @@ pub mod Ended
 pub mod FollowLaws
 pub mod Filtered
 pub mod Finished
+pub mod FinishedCounts
 pub mod FinishedJobs
 pub mod FinishedKept
 pub mod FinishedOne
@@ -47,6 +48,7 @@ pub mod NeedsHosts
 pub mod Once
 pub mod Paused
 pub mod Placed
+pub mod Recorded
 pub mod RowsStay
 pub mod RunsStay
 pub mod SafeRuns

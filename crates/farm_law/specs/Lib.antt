@@ -1,1 +1,2 @@
 pub mod DemoRun
+pub mod Ending

@@ -5,12 +5,12 @@ use Rattle.serde_json.specs.Data.{Members}
 use Rattle.cue_json.specs.Fields.{flag_at, others_at, signed_at}
 use Rattle.farm_types.specs.declared.depend.DependKind.{DependKind}
 use Rattle.farm_types.specs.declared.depend.Place.{Place}
-use Rattle.farm_types.specs.Formed.{IsFormedDepend, IsFormedOwn, IsFormedPlace, is_layer_name, names_frame, names_layer, names_target_frame, names_target_layer}
-use Rattle.farm_types.specs.Forms.{is_name_text}
+use Rattle.farm_types.specs.Formed.{IsFormedDepend, IsFormedOwn, IsFormedPlace, is_frame_named, is_layer_name, names_frame, names_layer, names_target_frame, names_target_layer}
+use Rattle.farm_types.specs.Forms.{is_frame_number, is_name_text}
 use Rattle.farm_lines.specs.DependLines.{depend_at, depend_keys, frame_if, kind_at, layer_if, own_depend_at, own_keys, target_at, waiter_at}
 use Rattle.farm_lines.specs.Fields.{name_at, or_default}
 use Rattle.farm_lines.specs.declared.limits.TheConstants.{LEAST_FRAME, MOST_FRAME}
-use Rattle.farm_lines.proofs.FieldLemmas.{step, step_any, name_formed, default_formed}
+use Rattle.farm_lines.proofs.FieldLemmas.{step, step_any, name_formed, default_formed, signed_formed}
 
 -- ---- ends
 
@@ -22,12 +22,13 @@ layer_formed : (named : Bool) (field : List ℕ) (ms : Members) → IfOk (layer_
 layer_formed true field ms = step (λ name. is_name_text name ≡ true) (IsLayer true) (name_at field ms) (λ name. Ok (Some name)) (name_formed field ms) (λ name h. (refl, h))
 layer_formed false field ms = (refl, refl)
 
+-- a frame's number, there exactly where the kind names it
 abbrev IsFrame : Bool → Option ℤ → Type 0
-IsFrame named frame = is_some frame ≡ named
+IsFrame named frame = (is_some frame ≡ named) × (is_frame_named frame ≡ true)
 
 frame_formed : (named : Bool) (field : List ℕ) (ms : Members) → IfOk (frame_if named field ms) (IsFrame named)
-frame_formed true field ms = step_any (IsFrame true) (signed_at field LEAST_FRAME MOST_FRAME ms) (λ number. Ok (Some number)) (λ number. refl)
-frame_formed false field ms = refl
+frame_formed true field ms = step (λ number. is_frame_number number ≡ true) (IsFrame true) (signed_at field LEAST_FRAME MOST_FRAME ms) (λ number. Ok (Some number)) (signed_formed field LEAST_FRAME MOST_FRAME ms) (λ number h. (refl, h))
+frame_formed false field ms = (refl, refl)
 
 -- an end of that job, formed as its kind asks
 abbrev IsEnd : Bool → Bool → List ℕ → Place → Type 0
@@ -39,7 +40,7 @@ waiter_formed job kind ms named =
     let End : Place → Type 0 = IsEnd (names_layer kind) (names_frame kind) job in
     step (IsLayer (names_layer kind)) End (layer_if (names_layer kind) (codes "layer") ms) _ (layer_formed (names_layer kind) (codes "layer") ms) (λ layer layered.
     step (IsFrame (names_frame kind)) End (frame_if (names_frame kind) (codes "frame") ms) _ (frame_formed (names_frame kind) (codes "frame") ms) (λ frame framed.
-    (refl, record { job = named; layer = layered.0; layer_name = layered.1; frame = framed })))
+    (refl, record { job = named; layer = layered.0; layer_name = layered.1; frame = framed.0; frame_named = framed.1 })))
 
 target_formed : (job : List ℕ) (kind : DependKind) (ms : Members) → is_name_text job ≡ true → IfOk (target_at job kind ms) (IsEnd (names_target_layer kind) (names_target_frame kind) job)
 unfolding target_at
@@ -47,7 +48,7 @@ target_formed job kind ms named =
     let End : Place → Type 0 = IsEnd (names_target_layer kind) (names_target_frame kind) job in
     step (IsLayer (names_target_layer kind)) End (layer_if (names_target_layer kind) (codes "on_layer") ms) _ (layer_formed (names_target_layer kind) (codes "on_layer") ms) (λ layer layered.
     step (IsFrame (names_target_frame kind)) End (frame_if (names_target_frame kind) (codes "on_frame") ms) _ (frame_formed (names_target_frame kind) (codes "on_frame") ms) (λ frame framed.
-    (refl, record { job = named; layer = layered.0; layer_name = layered.1; frame = framed })))
+    (refl, record { job = named; layer = layered.0; layer_name = layered.1; frame = framed.0; frame_named = framed.1 })))
 
 -- ---- depends
 

@@ -1,13 +1,13 @@
 -- What is read of a field is of the field's form.
 use Rattle.std.proofs.Common.{◌≡◌, ℕ, ◌≤◌, List, Bool, true, false, cond, refl, Option, None, Some, Result, Ok, Err}
-use Rattle.std.specs.Prelude.{IfOk, ◌&&◌, nat_le, option_and_then}
+use Rattle.std.specs.Prelude.{IfOk, ℤ, ◌&&◌, int_le, nat_le, option_and_then}
 use Rattle.std.specs.List.{All, list_all}
 use Rattle.std.specs.Option.{IfSome}
 use Rattle.std.proofs.lemmas.Bool.{and_parts, leb-true}
 use Rattle.std.proofs.lemmas.List.Elements.{All-cons, All-nil}
 use Rattle.serde_json.specs.Data.{Data, Items, no_items, item, Members}
-use Rattle.serde_json.specs.Find.{get_member, as_str, as_u64, as_number, as_object}
-use Rattle.cue_json.specs.Fields.{Fault, WrongKind, ◌>>=◌, of_kind, of_member, whole_in, as_whole, text_at, whole_at, list_at, has_key}
+use Rattle.serde_json.specs.Find.{get_member, as_i64, as_str, as_u64, as_number, as_object}
+use Rattle.cue_json.specs.Fields.{Fault, WrongKind, ◌>>=◌, of_kind, of_member, signed_at, signed_in, whole_in, as_signed, as_whole, text_at, whole_at, list_at, has_key}
 use Rattle.farm_types.specs.Forms.{is_name_text, is_tag_text}
 use Rattle.farm_lines.specs.Fields.{name_at, item_at, items_at, list_of, or_default}
 use Rattle.farm_lines.specs.Spec.{of_form, text_of, tag_item, tags_in, tags_at}
@@ -74,6 +74,15 @@ pub whole_formed : (field : List ℕ) (least most : ℕ) (ms : Members) → IfOk
 whole_formed field least most ms =
     member_formed (λ n. (least ≤ n) × (n ≤ most)) field (as_whole least most) (get_member field ms)
     (λ d. then_some (λ n. (least ≤ n) × (n ≤ most)) (whole_in least most) (option_and_then as_u64 (as_number d)) (λ n. whole_some least most n (nat_le least n && nat_le n most) refl))
+
+signed_some : (least most z : ℤ) (b : Bool) → (int_le least z && int_le z most) ≡ b → IfSome (cond b (Some z) None) (λ z. (int_le least z && int_le z most) ≡ true)
+signed_some least most z true h = h
+signed_some least most z false h = tt
+
+pub signed_formed : (field : List ℕ) (least most : ℤ) (ms : Members) → IfOk (signed_at field least most ms) (λ z. (int_le least z && int_le z most) ≡ true)
+signed_formed field least most ms =
+    member_formed (λ z. (int_le least z && int_le z most) ≡ true) field (as_signed least most) (get_member field ms)
+    (λ d. then_some (λ z. (int_le least z && int_le z most) ≡ true) (signed_in least most) (option_and_then as_i64 (as_number d)) (λ z. signed_some least most z (int_le least z && int_le z most) refl))
 
 -- ---- lists
 

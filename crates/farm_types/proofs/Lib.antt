@@ -7,3 +7,4 @@ pub mod Passes
 pub mod Ranges
 pub mod Searched
 pub mod Stays
+pub mod Utf8

@@ -1,5 +1,5 @@
 -- The forms and limits of entries: each moment is a number of 64 bits, each text has its form, and each number is within its limits.
-use Rattle.std.specs.Prelude.{ℕ, ◌≡◌, ◌≤◌, ◌<◌, ◌^◌, Bool, true, false, List, Option, None, Some, is_some}
+use Rattle.std.specs.Prelude.{ℕ, ℤ, ◌≡◌, ◌≤◌, ◌<◌, ◌^◌, Bool, true, false, List, Option, None, Some, is_some}
 use Rattle.std.specs.List.{All, list_all}
 use Rattle.farm_types.specs.declared.attempt.DoneItem.{DoneItem}
 use Rattle.farm_types.specs.declared.boot.BootLine.{BootLine}
@@ -15,7 +15,7 @@ use Rattle.farm_types.specs.declared.entry.HeardAct.{HeardAct}
 use Rattle.farm_types.specs.declared.job.JobSpec.{JobSpec}
 use Rattle.farm_types.specs.declared.job.LayerSpec.{LayerSpec}
 use Rattle.farm_types.specs.declared.sub_line.SubLine.{SubLine}
-use Rattle.farm_types.specs.Forms.{is_command_text, is_name_or_empty, is_name_text, is_tag_text}
+use Rattle.farm_types.specs.Forms.{is_command_text, is_frame_number, is_name_or_empty, is_name_text, is_tag_text}
 use Rattle.farm_types.specs.Limits.{IsBetween, BootKeepsLimits, SubKeepsLimits}
 use Rattle.farm_types.specs.Ranges.{is_range_text, range_numbers}
 use Rattle.farm_types.specs.SpecLimits.{JobKeepsLimits, LayerKeepsLimits}
@@ -95,12 +95,18 @@ abbrev pub is_layer_name : Option (List ℕ) → Bool
 is_layer_name None = true
 is_layer_name (Some name) = is_name_text name
 
+-- a number of a frame, where there is one
+abbrev pub is_frame_named : Option ℤ → Bool
+is_frame_named None = true
+is_frame_named (Some number) = is_frame_number number
+
 -- names of a job and, where the kind of depend has them, of a layer and a frame
 pub record IsFormedPlace (layered framed : Bool) (p : Place) : Type 0 where
   pub job : is_name_text p.job ≡ true
   pub layer : is_some p.layer ≡ layered
   pub layer_name : is_layer_name p.layer ≡ true
   pub frame : is_some p.frame ≡ framed
+  pub frame_named : is_frame_named p.frame ≡ true
 
 pub record IsFormedDepend (d : DependSpec) : Type 0 where
   pub waiter : IsFormedPlace (names_layer d.kind) (names_frame d.kind) d.waiter

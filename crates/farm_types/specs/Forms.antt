@@ -1,6 +1,7 @@
--- The forms of names.
-use Rattle.std.specs.Prelude.{ℕ, ◌==◌, ◌&&◌, ◌||◌, List, length, Bool, nat_le}
+-- The forms of names, commands and frames' numbers.
+use Rattle.std.specs.Prelude.{ℕ, ℤ, ◌==◌, ◌&&◌, ◌||◌, List, length, Bool, nat_le, int_le, negsuc, pos}
 use Rattle.std.specs.List.{list_all}
+use Rattle.std.specs.Str.{is_utf8}
 use Rattle.farm_types.specs.declared.limits.TheConstants.{MOST_NAME, MOST_TAG}
 
 abbrev pub is_between : ℕ → ℕ → ℕ → Bool
@@ -34,5 +35,10 @@ is_name_or_empty text = length text == 0 || is_name_text text
 abbrev pub is_command_byte : ℕ → Bool
 is_command_byte b = nat_le 32 b
 
+-- a text in UTF-8 of such bytes
 abbrev pub is_command_text : List ℕ → Bool
-is_command_text text = list_all is_command_byte text
+is_command_text text = is_utf8 text && list_all is_command_byte text
+
+-- a number that a frame may have
+abbrev pub is_frame_number : ℤ → Bool
+is_frame_number number = int_le (negsuc 9999998) number && int_le number (pos 9999999)

@@ -1,5 +1,5 @@
 -- What every farm of the program keeps: each legal run from the empty farm, or from a farm that keeps it, does.
-use Rattle.std.specs.Prelude.{ℕ, ℤ, ◌≡◌, ◌≤◌, ◌<◌, ◌==◌, ◌&&◌, ◌||◌, ◌+◌, ◌*◌, ◌^◌, ◌/◌, ◌%◌, Bool, true, false, not, List, [], ◌∷◌, length, map, filter, sum_by, find, is_some, slice_get, nat_le, nat_lt, bytes_eq, nat_eq, Option, None, Some, if◌then◌else◌}
+use Rattle.std.specs.Prelude.{ℕ, ℤ, ◌≡◌, ◌≤◌, ◌<◌, ◌==◌, ◌&&◌, ◌||◌, ◌+◌, ◌*◌, ◌^◌, ◌/◌, ◌%◌, Bool, true, false, not, List, [], ◌∷◌, length, map, filter, sum_by, find, is_none, is_some, slice_get, nat_le, nat_lt, bytes_eq, nat_eq, Option, None, Some, if◌then◌else◌}
 use Rattle.std.specs.List.{IsDistinct, list_all}
 use Rattle.std.specs.Ordering.{int_eq}
 use Rattle.farm_types.specs.declared.attempt.ProcRow.{ProcRow}
@@ -16,10 +16,11 @@ use Rattle.farm_types.specs.declared.slot_row.SlotRow.{SlotRow}
 use Rattle.farm_types.specs.declared.states.FrameState.{FrameState}
 use Rattle.farm_types.specs.declared.states.FrameState.TheVariants as frame_state
 use Rattle.farm_types.specs.Booking.{is_pending, is_up, is_waiting}
-use Rattle.farm_types.specs.DependActs.{has_number, is_running}
-use Rattle.farm_types.specs.Depends.{groups_left, is_open}
-use Rattle.farm_types.specs.Farm.{Farm, for_some, alloc_name, sub_of, is_placed, slot_from, layers_of}
+use Rattle.farm_types.specs.DependActs.{has_number, is_running, waits_for_itself}
+use Rattle.farm_types.specs.Depends.{groups_left, groups_of, is_open}
+use Rattle.farm_types.specs.Farm.{Farm, empty_farm, for_some, alloc_name, sub_of, is_placed, slot_from, layers_of}
 use Rattle.farm_types.specs.Finish.{finishes, is_finished}
+use Rattle.farm_types.specs.Formed.{is_frame_named, is_layer_name, names_frame, names_layer, names_target_frame, names_target_layer}
 use Rattle.farm_types.specs.Forms.{is_between, is_command_text, is_name_or_empty, is_name_text, is_tag_text}
 use Rattle.farm_types.specs.Jobs.{JobLists}
 use Rattle.farm_types.specs.Ranges.{is_range_text, range_numbers}
@@ -184,6 +185,10 @@ has_its_finish next j = if is_pending j.state then j.finish == 0 else nat_lt 0 j
 abbrev pub finish_of : JobRow → ℕ
 finish_of j = j.finish
 
+-- a pending job has no counts, and of a finished one each frame was eaten or succeeded
+abbrev pub has_its_counts : JobRow → Bool
+has_its_counts j = if is_pending j.state then j.eaten == 0 && j.succeeded == 0 else j.eaten + j.succeeded == j.frames
+
 -- the jobs of so many shows with their layers and frames
 pub record KeepsJobs (b : JobLists) (shows : ℕ) : Type 0 where
   pub next_within : b.next_job ≤ LAST_JOB + 1
@@ -192,6 +197,7 @@ pub record KeepsJobs (b : JobLists) (shows : ℕ) : Type 0 where
   pub finished_count : length (filter is_finished b.jobs) ≤ MOST_FINISHED
   pub finishes_within : list_all (has_its_finish b.next_finish) b.jobs ≡ true
   pub finishes_differ : IsDistinct nat_eq (map finish_of (filter is_finished b.jobs))
+  pub jobs_counted : list_all has_its_counts b.jobs ≡ true
   pub jobs_rise : IsRising job_key 1 b.jobs b.next_job
   pub jobs_formed : list_all (is_formed_job shows) b.jobs ≡ true
   pub jobs_differ : AllDiffer job_label b.jobs
@@ -233,6 +239,7 @@ pub record KeepsAttempts (f : Farm) : Type 0 where
   pub billed : list_all (λ (s : SlotRow). for_both s (has_sub f.jobs f.hosts)) f.slots ≡ true
   pub subscribed : list_all (λ (s : SlotRow). for_any s.proc (is_subscribed f.subs)) f.slots ≡ true
   pub since : list_all (λ (s : SlotRow). for_any s.proc (λ (p : ProcRow). nat_le p.since f.moment)) f.slots ≡ true
+  pub versioned : list_all (λ (s : SlotRow). for_any s.proc (λ (p : ProcRow). nat_lt 0 p.version)) f.slots ≡ true
 
 -- ---- rows but for depends
 
@@ -262,22 +269,42 @@ has_part layers (Some name) frame = for_some (find (λ (l : LayerRow). bytes_eq 
 abbrev pub is_end_there : Farm → DependEnd → Bool
 is_end_there f e = is_of_pending f.jobs e.job && has_part (layers_of f.layers e.job) e.layer e.frame
 
--- the ends of a depend that isn't satisfied are there
+-- the waiting end of a depend is there, and so is the other end of one that isn't satisfied
 abbrev pub is_kept_depend : Farm → DependRow → Bool
-is_kept_depend f d = d.met_all || (is_end_there f d.waiter && is_end_there f d.target)
+is_kept_depend f d = is_end_there f d.waiter && (d.met_all || is_end_there f d.target)
+
+-- there is something exactly where the flag says so
+abbrev pub is_given : {X : Type 0} → Bool → Option X → Bool
+is_given true part = is_some part
+is_given false part = not (is_some part)
+
+-- an end of a job's number, that names a layer and a frame where its depend's kind does, each of its form
+abbrev pub is_formed_end : Bool → Bool → DependEnd → Bool
+is_formed_end layered framed e =
+    is_between 1 LAST_JOB e.job && (is_given layered e.layer && (is_layer_name e.layer && (is_given framed e.frame && is_frame_named e.frame)))
+
+abbrev pub is_formed_depend : DependRow → Bool
+is_formed_depend d =
+    is_formed_end (names_layer d.kind) (names_frame d.kind) d.waiter && is_formed_end (names_target_layer d.kind) (names_target_frame d.kind) d.target
+
+-- in a depend that isn't satisfied no frame waits for itself
+abbrev pub has_no_self_depend : Farm → DependRow → Bool
+has_no_self_depend f d = d.met_all || is_none (waits_for_itself (groups_of f d))
 
 -- the slot's frame waits or runs, and isn't open
 abbrev pub runs_unmet : Farm → ℕ → SlotRow → Bool
 runs_unmet f slot s = for_some s.frame (λ x. is_waiting x.state || is_running x.state) && not (is_open f slot)
 
--- Depends in the order of their numbers, within their limits, with their ends. Exactly what is met is marked, no blocked frame is open, and each
--- frame that waits or runs is.
+-- Depends in the order of their numbers, within their limits and forms, with their ends, and none in which a frame waits for itself. Exactly what is met is
+-- marked, no blocked frame is open, and each frame that waits or runs is.
 pub record KeepsDepends (f : Farm) : Type 0 where
   pub next_within : f.next_depend ≤ LAST_DEPEND + 1
   pub rise : IsRising depend_key 1 f.depends f.next_depend
   pub count : length f.depends ≤ MOST_DEPENDS
   pub groups_within : groups_left f ≤ MOST_GROUPS
+  pub formed : list_all is_formed_depend f.depends ≡ true
   pub ends_there : list_all (is_kept_depend f) f.depends ≡ true
+  pub no_self_depends : list_all (has_no_self_depend f) f.depends ≡ true
   pub met : with_met f ≡ f
   pub blocked : (slot : ℕ) (s : SlotRow) → slice_get f.slots slot ≡ Some s → opens f slot s ≡ false
   pub free_to_run : (slot : ℕ) (s : SlotRow) → slice_get f.slots slot ≡ Some s → runs_unmet f slot s ≡ false
@@ -288,9 +315,16 @@ pub record KeepsDepends (f : Farm) : Type 0 where
 abbrev pub KeepsWork : Farm → Type 0
 KeepsWork f = list_all (λ (j : JobRow). not (finishes f.slots j)) f.jobs ≡ true
 
+-- ---- the farm that no entry has made
+
+-- an entry made the farm, or it is the empty one
+abbrev pub KeepsRecord : Farm → Type 0
+KeepsRecord f = f.recorded ≡ false → f ≡ empty_farm
+
 -- ---- the farm
 
 pub record IsKeptFarm (f : Farm) : Type 0 where
   pub rows : KeepsRows f
   pub depends : KeepsDepends f
   pub work : KeepsWork f
+  pub record_kept : KeepsRecord f

@@ -117,6 +117,35 @@ impl Place {
     }
 }
 
+impl DependEnd {
+    /// An equal end.
+    pub fn copy(&self, alloc: Global) -> Result<DependEnd, AllocError>
+        ensures { IfOk result (λ copy. copy ≡ self.now) }
+    {
+        Ok(DependEnd {
+            job: self.job,
+            layer: copy_of_name(alloc, &self.layer)?,
+            frame: self.frame,
+        })
+    }
+}
+
+impl DependRow {
+    /// An equal depend.
+    pub fn copy(&self, alloc: Global) -> Result<DependRow, AllocError>
+        ensures { IfOk result (λ copy. copy ≡ self.now) }
+    {
+        Ok(DependRow {
+            depend: self.depend,
+            kind: self.kind,
+            any: self.any,
+            met_all: self.met_all,
+            waiter: self.waiter.copy(alloc)?,
+            target: self.target.copy(alloc)?,
+        })
+    }
+}
+
 // An equal name, or none.
 fn copy_of_name(alloc: Global, name: &Option<Text>) -> Result<Option<Text>, AllocError>
     ensures { IfOk result (λ copy. copy ≡ name.now) }

@@ -1,9 +1,12 @@
 //! The records of shows, allocations, subscriptions, hosts, jobs and layers.
 
+ghost use Rattle.std.specs.Prelude.{◌≡◌, IfOk};
+
 use crate::items::Items;
 use crate::numbers::{AllocNo, Cores, JobNo, Kb, ShowNo, SubNo};
 use crate::states::{HostState, JobState, LockState};
 use crate::text::Text;
+use std::alloc::{AllocError, Global};
 
 /// A show. Its number is its place in the list of shows.
 #[derive(Debug, Drop)]
@@ -76,4 +79,91 @@ pub struct LayerRow {
     pub cores: Cores,
     pub memory: Kb,
     pub tags: Items<Text>,
+}
+
+impl ShowRow {
+    /// An equal show.
+    pub fn copy(&self, alloc: Global) -> Result<ShowRow, AllocError>
+        ensures { IfOk result (λ copy. copy ≡ self.now) }
+    {
+        Ok(ShowRow {
+            name: self.name.copy(alloc)?,
+        })
+    }
+}
+
+impl AllocRow {
+    /// An equal allocation.
+    pub fn copy(&self, alloc: Global) -> Result<AllocRow, AllocError>
+        ensures { IfOk result (λ copy. copy ≡ self.now) }
+    {
+        Ok(AllocRow {
+            facility: self.facility.copy(alloc)?,
+            tag: self.tag.copy(alloc)?,
+        })
+    }
+}
+
+impl HostRow {
+    /// An equal host.
+    pub fn copy(&self, alloc: Global) -> Result<HostRow, AllocError>
+        ensures { IfOk result (λ copy. copy ≡ self.now) }
+    {
+        Ok(HostRow {
+            name: self.name.copy(alloc)?,
+            alloc: self.alloc,
+            tags: self.tags.copy(alloc)?,
+            cores: self.cores,
+            memory: self.memory,
+            boot: self.boot,
+            nonce: self.nonce,
+            seq: self.seq,
+            heard: self.heard,
+            lock: self.lock,
+            state: self.state,
+        })
+    }
+}
+
+impl JobRow {
+    /// An equal job.
+    pub fn copy(&self, alloc: Global) -> Result<JobRow, AllocError>
+        ensures { IfOk result (λ copy. copy ≡ self.now) }
+    {
+        Ok(JobRow {
+            job: self.job,
+            name: self.name.copy(alloc)?,
+            show: self.show,
+            facility: self.facility.copy(alloc)?,
+            shot: self.shot.copy(alloc)?,
+            user: self.user.copy(alloc)?,
+            priority: self.priority,
+            max_retries: self.max_retries,
+            auto_eat: self.auto_eat,
+            paused: self.paused,
+            state: self.state,
+            frames: self.frames,
+            finish: self.finish,
+            eaten: self.eaten,
+            succeeded: self.succeeded,
+        })
+    }
+}
+
+impl LayerRow {
+    /// An equal layer.
+    pub fn copy(&self, alloc: Global) -> Result<LayerRow, AllocError>
+        ensures { IfOk result (λ copy. copy ≡ self.now) }
+    {
+        Ok(LayerRow {
+            job: self.job,
+            place: self.place,
+            name: self.name.copy(alloc)?,
+            range: self.range.copy(alloc)?,
+            command: self.command.copy(alloc)?,
+            cores: self.cores,
+            memory: self.memory,
+            tags: self.tags.copy(alloc)?,
+        })
+    }
 }
