@@ -1,4 +1,6 @@
+pub mod Changes
 pub mod Examples
+pub mod Lists
 pub mod Recovery
 pub mod RecoveryExamples
 pub mod Rows

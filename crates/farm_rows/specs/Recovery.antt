@@ -1,10 +1,9 @@
 -- The farm that rows say: what each row adds, when it breaks the farm that the rows before it say, and which row is at fault after the last one.
-use Rattle.std.specs.Prelude.{ℕ, ℤ, ◌==◌, ◌&&◌, ◌||◌, ◌+◌, ◌-◌, ◌*◌, Bool, true, false, not, List, [], ◌∷◌, ◌++◌, map, filter, find, length, is_some, replicate, slice_get, bytes_eq, nat_le, nat_lt, Option, None, Some, Result, Ok, Err, option_map, option_and_then, if◌then◌else◌}
+use Rattle.std.specs.Prelude.{ℕ, ℤ, ◌==◌, ◌&&◌, ◌||◌, ◌+◌, ◌-◌, ◌*◌, ◌^◌, Bool, true, false, not, List, [], ◌∷◌, ◌++◌, map, filter, find, length, is_some, replicate, slice_get, bytes_eq, nat_le, nat_lt, Option, None, Some, Result, Ok, Err, option_map, option_and_then, if◌then◌else◌}
 use Rattle.std.specs.List.{list_all, list_any, position_or_len}
 use Rattle.std.specs.Ordering.{int_eq}
 use Rattle.farm_types.specs.declared.attempt.ProcRow.{ProcRow}
 use Rattle.farm_types.specs.declared.depend.DependEnd.{DependEnd}
-use Rattle.farm_types.specs.declared.depend.DependKind.{DependKind}
 use Rattle.farm_types.specs.declared.depend.DependRow.{DependRow}
 use Rattle.farm_types.specs.declared.depend.Group.{Group}
 use Rattle.farm_types.specs.declared.depend.LayerShape.{LayerShape}
@@ -20,15 +19,14 @@ use Rattle.farm_types.specs.declared.slot_row.Frame.{Frame}
 use Rattle.farm_types.specs.declared.slot_row.SlotRow.{SlotRow}
 use Rattle.farm_types.specs.declared.states.FrameState.{FrameState}
 use Rattle.farm_types.specs.declared.states.FrameState.TheVariants as frame_state
-use Rattle.farm_types.specs.Booking.{is_pending, is_up, is_waiting}
-use Rattle.farm_types.specs.DependActs.{is_running, or_else, waits_for_itself}
+use Rattle.farm_types.specs.Booking.{is_pending, is_up}
+use Rattle.farm_types.specs.DependActs.{or_else, waits_for_itself}
 use Rattle.farm_types.specs.Depends.{groups_left, groups_of, is_met}
 use Rattle.farm_types.specs.Farm.{Farm, empty_farm, for_some, is_placed, job_at, layer_at, layers_of, slot_from, sub_at, sub_of}
 use Rattle.farm_types.specs.Finish.{finishes, is_finished}
-use Rattle.farm_types.specs.Formed.{is_layer_name, names_frame, names_layer, names_target_frame, names_target_layer}
 use Rattle.farm_types.specs.Forms.{is_between}
 use Rattle.farm_types.specs.Groups.{groups_by, part_at}
-use Rattle.farm_types.specs.Kept.{alloc_label, frames_said, host_label, is_formed_alloc, is_formed_host, is_formed_job, is_formed_layer, is_formed_show, is_kept_sub, is_of_pending, is_pending_job, job_label, layer_label, runs_unmet, show_label}
+use Rattle.farm_types.specs.Kept.{alloc_label, frames_said, has_its_counts, has_its_finish, host_label, is_formed_alloc, is_formed_depend, is_formed_host, is_formed_job, is_formed_layer, is_formed_show, is_kept_sub, is_of_pending, is_pending_job, job_label, layer_label, runs_unmet, show_label}
 use Rattle.farm_types.specs.Ranges.{range_numbers}
 use Rattle.farm_types.specs.Settle.{is_met_now, opens}
 use Rattle.farm_types.specs.Sums.{used_cores, used_memory}
@@ -110,10 +108,10 @@ with_stored f (row.Met r) = record f { met = f.met ++ r ∷ [] }
 abbrev pub is_new : {X : Type 0} → (X → List ℕ) → List ℕ → List X → Bool
 is_new label name xs = not (list_any (λ x. bytes_eq (label x) name) xs)
 
--- the first row: of the one format, each next number in its range
+-- the first row: of the one format, its moment a number of 64 bits, each next number in its range
 abbrev pub head_fits : Farm → HeadRow → Bool
 head_fits f r =
-    not f.recorded && (r.format == 1 && (is_between 1 (LAST_DEPEND + 1) r.depends && (is_between 1 (LAST_JOB + 1) r.finishes && is_between 1 (LAST_JOB + 1) r.jobs)))
+    not f.recorded && (r.format == 1 && (nat_lt r.moment (2 ^ 64) && (is_between 1 (LAST_DEPEND + 1) r.depends && (is_between 1 (LAST_JOB + 1) r.finishes && is_between 1 (LAST_JOB + 1) r.jobs))))
 
 abbrev pub show_fits : Farm → ℕ → ShowRow → Bool
 show_fits f show r = show == length f.shows && (nat_lt show MOST_SHOWS && (is_formed_show r && is_new show_label r.name f.shows))
@@ -131,9 +129,8 @@ host_fits f host r =
 -- a pending job has no finish and no counts; a finished one has a finish of its own, counts that make its frames, and room among the finished ones
 abbrev pub end_fits : Farm → JobRow → Bool
 end_fits f r =
-    if is_pending r.state then r.finish == 0 && (r.eaten == 0 && r.succeeded == 0)
-    else is_between 1 (f.next_finish - 1) r.finish && (not (list_any (λ (j : JobRow). j.finish == r.finish) f.jobs)
-    && (r.eaten + r.succeeded == r.frames && nat_lt (length (filter is_finished f.jobs)) MOST_FINISHED))
+    has_its_finish f.next_finish r && (has_its_counts r
+    && (is_pending r.state || (not (list_any (λ (j : JobRow). j.finish == r.finish) f.jobs) && nat_lt (length (filter is_finished f.jobs)) MOST_FINISHED)))
 
 abbrev pub job_fits : Farm → JobRow → Bool
 job_fits f r =
@@ -192,14 +189,6 @@ is_part_in f job (Some name) frame = for_some (find (λ (l : LayerRow). bytes_eq
 abbrev pub end_is_there : Farm → DependEnd → Bool
 end_is_there f e = is_of_pending f.jobs e.job && is_part_in f e.job e.layer e.frame
 
--- a part is named exactly where the kind has it
-abbrev pub is_given : {X : Type 0} → Bool → Option X → Bool
-is_given true part = is_some part
-is_given false part = not (is_some part)
-
-abbrev pub has_form : Bool → Bool → DependEnd → Bool
-has_form layered framed e = is_given layered e.layer && (is_layer_name e.layer && is_given framed e.frame)
-
 -- a number past all slots for a frame that has no slot yet
 abbrev pub stand_in : ℕ → ℕ → ℕ → Option ℕ → ℕ
 stand_in job layer position None = SLOT_LIMIT + ((LAYER_IDS * job + layer) * MOST_FRAMES + position)
@@ -230,8 +219,7 @@ unmet_fits f r = end_is_there f r.target && groups_fit f r (groups_so_far f r)
 abbrev pub depend_fits : Farm → DependRow → Bool
 depend_fits f r =
     is_between 1 (f.next_depend - 1) r.depend && (nat_lt (length f.depends) MOST_DEPENDS
-    && ((has_form (names_layer r.kind) (names_frame r.kind) r.waiter && has_form (names_target_layer r.kind) (names_target_frame r.kind) r.target)
-    && (end_is_there f r.waiter && (r.met_all || unmet_fits f r))))
+    && (is_formed_depend r && (end_is_there f r.waiter && (r.met_all || unmet_fits f r))))
 
 abbrev pub has_group : Farm → ℕ → DependRow → Bool
 has_group f position d = not d.met_all && list_any (λ (g : Group). g.position == position) (groups_so_far f d)

@@ -1,12 +1,9 @@
 -- A small farm that recovery gives back, and rows at fault.
-use Rattle.std.specs.Prelude.{ℕ, true, false, List, [], ◌∷◌, ◌++◌, codes, None, Some, pos, Result}
+use Rattle.std.specs.Prelude.{[], ◌∷◌, None, Some, Result}
 use Rattle.farm_types.specs.declared.slot_row.SlotRow.{SlotRow}
 use Rattle.farm_types.specs.declared.states.FrameState.TheVariants as frame_state
-use Rattle.farm_types.specs.declared.rows.HostRow.{HostRow}
 use Rattle.farm_types.specs.Farm.{Farm}
-use Rattle.farm_rows.specs.declared.farm_row.FarmRow.{FarmRow}
-use Rattle.farm_rows.specs.declared.farm_row.FarmRow.TheVariants as row
-use Rattle.farm_rows.specs.Examples.{attempt, farm_general, frame_in, depend_two, host_one, job_three, layer_at_place, show_called, small_farm, sub_numbered, used}
+use Rattle.farm_rows.specs.Examples.{attempt, frame_in, host_one, small_farm, used}
 use Rattle.farm_rows.specs.Recovery.{RowKey, farm_said}
 use Rattle.farm_rows.specs.Rows.{rows_of}
 

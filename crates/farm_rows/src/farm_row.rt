@@ -1,11 +1,13 @@
 //! A row of the store.
 
 ghost use Rattle.std.specs.Prelude.{◌≡◌};
+ghost use Rattle.farm_rows.specs.Changes.{row_key};
 ghost use Rattle.farm_rows.specs.Rows.{row_id, row_kind};
 
 use crate::frame_row::FrameRow;
 use crate::head_row::HeadRow;
 use crate::ids::{group_id, layer_id};
+use crate::row_key::RowKey;
 use farm_types::{
     AllocNo, AllocRow, DependRow, HostNo, HostRow, JobRow, LayerRow, MetRow, ShowNo, ShowRow,
     SubRow,
@@ -60,6 +62,30 @@ impl FarmRow {
             FarmRow::Frame(row) => u64::from(row.slot.0),
             FarmRow::Depend(row) => u64::from(row.depend.0),
             FarmRow::Met(row) => group_id(row.depend.0, row.position),
+        }
+    }
+
+    /// The row's key.
+    pub fn key(&self) -> RowKey
+        ensures { result ≡ row_key self.now }
+    {
+        match self {
+            FarmRow::Head(_) => RowKey::Head,
+            FarmRow::Show { show, .. } => RowKey::Show { show: *show },
+            FarmRow::Alloc { alloc, .. } => RowKey::Alloc { alloc: *alloc },
+            FarmRow::Sub(row) => RowKey::Sub { sub: row.sub },
+            FarmRow::Host { host, .. } => RowKey::Host { host: *host },
+            FarmRow::Job(row) => RowKey::Job { job: row.job },
+            FarmRow::Layer(row) => RowKey::Layer {
+                job: row.job,
+                place: row.place,
+            },
+            FarmRow::Frame(row) => RowKey::Frame { slot: row.slot },
+            FarmRow::Depend(row) => RowKey::Depend { depend: row.depend },
+            FarmRow::Met(row) => RowKey::Met {
+                depend: row.depend,
+                position: row.position,
+            },
         }
     }
 }

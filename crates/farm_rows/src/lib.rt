@@ -1,16 +1,22 @@
 //! The rows of the store, and in `specs/` the rows of a farm.
 #![tactic(auto)]
 
+mod book_lists;
 mod examples;
 mod farm_row;
 mod frame_row;
 mod head_row;
 mod ids;
 mod recovering;
+mod row_change;
+mod row_key;
 
+pub use book_lists::BookLists;
 pub use examples::{every_kind_has_its_rows, new_farms_have_one_row, unused_slots_have_no_row};
 pub use farm_row::FarmRow;
 pub use frame_row::{FrameRow, StoredFrame, StoredState};
 pub use head_row::HeadRow;
 pub use ids::{GROUP_IDS, LAYER_IDS};
 pub use recovering::{rows_at_fault_are_named, rows_give_the_farm_back};
+pub use row_change::RowChange;
+pub use row_key::RowKey;

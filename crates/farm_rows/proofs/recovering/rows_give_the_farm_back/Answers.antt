@@ -1,6 +1,7 @@
 -- The farms compute.
 use Rattle.std.proofs.Common.{refl}
 use Rattle.std.specs.Fmt.{digits}
+use Rattle.std.specs.Str.{chars, is_utf8}
 use Rattle.frame_range.specs.Printed.{printed_section}
 use Rattle.frame_range.specs.Sections.{section_at}
 use Rattle.frame_range.specs.Sets.{add_section, fault_of, numbers_of, set_of}
@@ -11,5 +12,5 @@ use Rattle.farm_rows.specs.Recovery.{groups_so_far}
 use Rattle.farm_rows.proofs.recovering.rows_give_the_farm_back.Goals as goal
 
 pub returns-clause-whole : goal.returns-clause-whole
-unfolding groups_so_far groups_of is_range_text range_numbers numbers_of set_of add_section section_at fault_of section_numbers printed_section digits
+unfolding is_utf8 chars groups_so_far groups_of is_range_text range_numbers numbers_of set_of add_section section_at fault_of section_numbers printed_section digits lib.Utf8.encode
 returns-clause-whole c = refl

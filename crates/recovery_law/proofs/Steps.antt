@@ -1,0 +1,51 @@
+-- Rows that say a farm, one after the other: what each row keeps holds of the farm that all rows say.
+use Rattle.std.proofs.Common.{◌≡◌, ◌<◌, Bool, true, false, cond, ◌&&◌, ◌||◌, eqb, ltb, List, [], ◌∷◌, ◌++◌, Option, Some, None, refl, sym, subst, append-nil, ◌⊎◌, inl, inr}
+use Rattle.std.specs.Prelude.{Result, Ok, Err}
+use Rattle.std.proofs.lemmas.Bool.{eqb-true, false≢true, ltb-true}
+use Rattle.std.proofs.lemmas.List.{append_assoc}
+use Rattle.farm_types.specs.Farm.{Farm}
+use Rattle.farm_types.proofs.Lists.{and_both}
+use Rattle.farm_rows.specs.declared.farm_row.FarmRow.{FarmRow}
+use Rattle.farm_rows.specs.Recovery.{RowKey, comes_after, end_fault, ended, farm_with, is_before, key_of, row_fits, with_stored}
+
+-- ---- keys
+
+before_by : (a b c : Bool) (x y : RowKey) → ltb x.0 y.0 ≡ a → eqb x.0 y.0 ≡ b → ltb x.1 y.1 ≡ c → (a || (b && c)) ≡ true → (x.0 < y.0) ⊎ ((x.0 ≡ y.0) × (x.1 < y.1))
+before_by true b c x y kind same id h = inl (ltb-true x.0 y.0 kind)
+before_by false true true x y kind same id h = inr (eqb-true x.0 y.0 same, ltb-true x.1 y.1 id)
+before_by false true false x y kind same id h = absurd (false≢true h)
+before_by false false c x y kind same id h = absurd (false≢true h)
+
+-- a key before another has an earlier kind, or an earlier id of its kind
+pub before_parts : (x y : RowKey) → is_before x y ≡ true → (x.0 < y.0) ⊎ ((x.0 ≡ y.0) × (x.1 < y.1))
+before_parts x y h = before_by (ltb x.0 y.0) (eqb x.0 y.0) (ltb x.1 y.1) x y refl refl refl h
+
+-- ---- all rows
+
+err_ok : {X : Type 0} (key : RowKey) (x : X) → ◌≡◌ {A = Result X RowKey} (Err key) (Ok x) → ⊥
+err_ok key x e = cc
+
+ended_by : (o : Option RowKey) (f g : Farm) → end_fault f ≡ o → ended f o ≡ Ok g → (f ≡ g) × (end_fault f ≡ None)
+ended_by None f g is e = (cc, is)
+ended_by (Some key) f g is e = absurd (err_ok key g e)
+
+taken_by : (b : Bool) (key : RowKey) (rest : Result Farm RowKey) (g : Farm) → cond b rest (Err key) ≡ Ok g → (b ≡ true) × (rest ≡ Ok g)
+taken_by true key rest g e = (refl, e)
+taken_by false key rest g e = absurd (err_ok key g e)
+
+module _ (P : Option RowKey → Farm → List FarmRow → Type 0) where
+  -- what a row keeps that comes after the last one and fits
+  abbrev pub IsStep : Type 0
+  IsStep = (last : Option RowKey) (f : Farm) (done : List FarmRow) (r : FarmRow) → P last f done → comes_after last (key_of r) ≡ true → row_fits f r ≡ true → P (Some (key_of r)) (with_stored f r) (done ++ r ∷ [])
+
+  -- holds of the farm that rows say, in which nothing is at fault
+  pub all_rows : IsStep → (last : Option RowKey) (f : Farm) (done rows : List FarmRow) (g : Farm) → P last f done → farm_with last f rows ≡ Ok g → (end : Option RowKey) × P end g (done ++ rows) × (end_fault g ≡ None)
+  all_rows step last f done [] g p e =
+      let at_end = ended_by (end_fault f) f g refl e in
+      let whole : P last f (done ++ []) = subst (P last f) (sym (append-nil done)) p in
+      (last, subst (λ (h : Farm). P last h (done ++ [])) at_end.0 whole, subst (λ (h : Farm). end_fault h ≡ None) at_end.0 at_end.1)
+  all_rows step last f done (r ∷ rows) g p e =
+      let taken = taken_by (comes_after last (key_of r) && row_fits f r) (key_of r) (farm_with (Some (key_of r)) (with_stored f r) rows) g e in
+      let both = and_both (comes_after last (key_of r)) (row_fits f r) taken.0 in
+      let all = all_rows step (Some (key_of r)) (with_stored f r) (done ++ r ∷ []) rows g (step last f done r p both.0 both.1) taken.1 in
+      (all.0, subst (P all.0 g) (append_assoc done (r ∷ []) rows) all.1, all.2)
