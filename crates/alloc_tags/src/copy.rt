@@ -26,17 +26,7 @@ fn copy_rows(alloc: Global, rows: &[AllocRow]) -> Result<Vec<AllocRow>, AllocErr
 {
     let mut copies = Vec::with_capacity(alloc, MOST_ALLOCS as usize)?;
     for row in rows {
-        copies.push(copy_row(alloc, row)?)?;
+        copies.push(row.copy(alloc)?)?;
     }
     Ok(copies)
-}
-
-// An equal allocation.
-fn copy_row(alloc: Global, row: &AllocRow) -> Result<AllocRow, AllocError>
-    ensures { IfOk result (λ copy. copy ≡ row.now) }
-{
-    Ok(AllocRow {
-        facility: row.facility.copy(alloc)?,
-        tag: row.tag.copy(alloc)?,
-    })
 }

@@ -5,6 +5,7 @@ mod allocs;
 mod copy;
 mod names;
 mod read;
+mod restore;
 mod spare;
 mod tags;
 

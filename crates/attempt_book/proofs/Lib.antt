@@ -3,4 +3,5 @@ pub mod KeptSums
 pub mod KeptWays
 pub mod KnownAttempts
 pub mod Marks
+pub mod Restored
 pub mod TotalAt

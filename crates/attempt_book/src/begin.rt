@@ -39,8 +39,8 @@ impl Attempts {
     }
 }
 
-// The slot has that attempt, or none.
-fn set_at(procs: &mut Vec<Option<ProcRow>>, slot: Slot, proc: Option<ProcRow>)
+/// The slot has that attempt, or none.
+pub(crate) fn set_at(procs: &mut Vec<Option<ProcRow>>, slot: Slot, proc: Option<ProcRow>)
     requires { slot < length procs.old.items }
     ensures items { procs.new.items ≡ slice_set procs.old.items slot proc }
     ensures capacity { vec_capacity procs.new ≡ vec_capacity procs.old }

@@ -5,6 +5,7 @@ mod attempts;
 mod begin;
 mod copy;
 mod own;
+mod restore;
 mod sums;
 mod way;
 

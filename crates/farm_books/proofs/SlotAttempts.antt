@@ -19,7 +19,7 @@ use Rattle.farm_books.specs.Install.{CanInstall, IsBeginning, MayBegin, proc_in,
 -- ---- one slot
 
 -- a sum over the attempts is one over the slots
-sum_of : (weight : Option ProcRow → ℕ) (slots : List SlotRow) → sum_by weight (procs_of slots) ≡ sum_by (λ (s : SlotRow). weight s.proc) slots
+pub sum_of : (weight : Option ProcRow → ℕ) (slots : List SlotRow) → sum_by weight (procs_of slots) ≡ sum_by (λ (s : SlotRow). weight s.proc) slots
 sum_of weight [] = refl
 sum_of weight (s ∷ ss) = omega (arith, sum_by-cons weight s.proc (procs_of ss), sum_by-cons (λ (x : SlotRow). weight x.proc) s ss, sum_of weight ss)
 

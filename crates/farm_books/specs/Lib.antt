@@ -3,3 +3,4 @@ pub mod Finish
 pub mod Inside
 pub mod Install
 pub mod Reads
+pub mod Rows

@@ -10,6 +10,8 @@ mod install;
 mod install_job;
 mod look;
 mod reserve;
+mod restore;
+mod rows;
 mod shows;
 mod used;
 

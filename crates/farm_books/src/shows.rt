@@ -38,6 +38,24 @@ impl Shows {
         })
     }
 
+    // The book of these rows, with the memory of all. The rows are moved into it.
+    pub(crate) fn of_rows(rows: Vec<ShowRow>) -> Result<Shows, AllocError>
+        requires { length rows.items ≤ MOST_SHOWS }
+        ensures { IfOk result (λ b. b ≡ rows.items) }
+    {
+        Ok(Shows {
+            rows: with_room(rows)?,
+        })
+    }
+
+    // The shows, each at its number.
+    pub(crate) fn rows(&self) -> &[ShowRow]
+        ensures value { result.now ≡ self.now }
+        ensures within { length result.now ≤ MOST_SHOWS }
+    {
+        self.rows.as_slice()
+    }
+
     // How many shows there are.
     pub(crate) fn count(&self) -> usize
         ensures value { result ≡ length self.now }
@@ -88,4 +106,14 @@ fn show_in(shows: &[ShowRow], name: &str) -> Option<ShowNo>
         }
     }
     None
+}
+
+// The same rows, with the capacity for all.
+fn with_room(rows: Vec<ShowRow>) -> Result<Vec<ShowRow>, AllocError>
+    ensures items { IfOk result (λ all. all.items ≡ rows.items) }
+    ensures capacity { IfOk result (λ all. MOST_SHOWS ≤ vec_capacity all) }
+{
+    let mut rows = rows;
+    rows.reserve((MOST_SHOWS as usize).saturating_sub(rows.len()))?;
+    Ok(rows)
 }

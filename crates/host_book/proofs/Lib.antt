@@ -2,4 +2,5 @@ pub mod Booted
 pub mod KeptHosts
 pub mod Named
 pub mod Oldest
+pub mod Restored
 pub mod Unheard

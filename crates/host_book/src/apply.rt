@@ -74,8 +74,8 @@ fn alloc_of(plan: BootPlan) -> AllocNo
     }
 }
 
-// A name that isn't there goes last.
-fn add_name(names: &mut IndexSet<String>, name: String)
+/// A name that isn't there goes last.
+pub(crate) fn add_name(names: &mut IndexSet<String>, name: String)
     requires new { list_any (λ k. string_eq name k) names.old.keys ≡ false }
     requires capacity { 0 < spare names.old }
     ensures keys { names.new.keys ≡ names.old.keys ++ name ∷ [] }

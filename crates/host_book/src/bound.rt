@@ -27,8 +27,8 @@ impl Hosts {
     }
 }
 
-// The least of the moments, and the greatest number where there is none.
-fn least(watched: &[u64]) -> u64
+/// The least of the moments, and the greatest number where there is none.
+pub(crate) fn least(watched: &[u64]) -> u64
     ensures { result ≡ least_of watched.now }
 {
     watched

@@ -31,28 +31,9 @@ fn copy_rows(alloc: Global, rows: &[HostRow]) -> Result<Vec<HostRow>, AllocError
 {
     let mut copies = Vec::with_capacity(alloc, MOST_HOSTS as usize)?;
     for row in rows {
-        copies.push(copy_row(alloc, row)?)?;
+        copies.push(row.copy(alloc)?)?;
     }
     Ok(copies)
-}
-
-// An equal row.
-fn copy_row(alloc: Global, row: &HostRow) -> Result<HostRow, AllocError>
-    ensures { IfOk result (λ copy. copy ≡ row.now) }
-{
-    Ok(HostRow {
-        name: row.name.copy(alloc)?,
-        alloc: row.alloc,
-        tags: row.tags.copy(alloc)?,
-        cores: row.cores,
-        memory: row.memory,
-        boot: row.boot,
-        nonce: row.nonce,
-        seq: row.seq,
-        heard: row.heard,
-        lock: row.lock,
-        state: row.state,
-    })
 }
 
 // Equal names, with the capacity for all.

@@ -8,6 +8,7 @@ mod check;
 mod copy;
 mod hosts;
 mod life;
+mod restore;
 mod spare;
 mod walk;
 

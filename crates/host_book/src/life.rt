@@ -49,7 +49,7 @@ impl Hosts {
     }
 }
 
-// The life of a host.
+/// The life of a host.
 pub(crate) fn life_of(row: &HostRow) -> HostLife
     ensures { result ≡ life_of row.now }
 {
@@ -61,8 +61,8 @@ pub(crate) fn life_of(row: &HostRow) -> HostLife
     }
 }
 
-// The moment when a host of that life was last heard, and the greatest number for one that is down.
-fn watched_in(life: &HostLife) -> u64
+/// The moment when a host of that life was last heard, and the greatest number for one that is down.
+pub(crate) fn watched_in(life: &HostLife) -> u64
     ensures { result ≡ watched_in life.now }
 {
     match life.state {

@@ -29,3 +29,11 @@ pub mod ReadyKept
 pub mod ReadyLists
 pub mod InState
 pub mod FreePlaces
+pub mod RestoredBook
+pub mod RestoredCounts
+pub mod RestoredIndex
+pub mod RestoredKeys
+pub mod RestoredEntries
+pub mod RestoredLayers
+pub mod RestoredNames
+pub mod NewNumber

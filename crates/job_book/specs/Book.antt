@@ -1,5 +1,5 @@
 -- What the calls of the job book answer and change.
-use Rattle.std.specs.Prelude.{◌≡◌, ◌<◌, ◌≤◌, All, IsSome, ℕ, ◌==◌, ◌&&◌, ◌+◌, Bool, not, is_some, List, [], ◌∷◌, ◌++◌, option_map, option_and_then, sum_by, Option, None, Some, find, slice_get, nat_lt, bytes_eq, Result, Ok, Err, if◌then◌else◌}
+use Rattle.std.specs.Prelude.{◌≡◌, ◌<◌, ◌≤◌, All, IsSome, ℕ, ◌==◌, ◌&&◌, ◌+◌, Bool, not, is_some, List, [], ◌∷◌, ◌++◌, filter, option_map, option_and_then, sum_by, Option, None, Some, find, slice_get, nat_lt, bytes_eq, Result, Ok, Err, if◌then◌else◌}
 use Rattle.std.specs.List.{prefix_len}
 use Rattle.farm_types.specs.declared.job.JobSpec.{JobSpec}
 use Rattle.farm_types.specs.declared.rows.JobRow.{JobRow}
@@ -69,6 +69,11 @@ abbrev pub with_pause : Bool → JobRow → JobRow
 with_pause paused j = record j { paused = paused }
 
 -- ---- what is read
+
+-- the jobs without the one of that number, where one is named
+abbrev pub without_job : Option ℕ → List JobRow → List JobRow
+without_job None jobs = jobs
+without_job (Some job) jobs = filter (λ (j : JobRow). not (j.job == job)) jobs
 
 -- the number of the first job of that name
 abbrev pub job_named : JobLists → List ℕ → Option ℕ

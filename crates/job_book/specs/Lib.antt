@@ -12,3 +12,4 @@ pub mod OneJob
 pub mod Puts
 pub mod Ready
 pub mod Refused
+pub mod Restored

@@ -35,8 +35,8 @@ impl Jobs {
     }
 }
 
-// Whether a frame in the state waits.
-fn is_waiting(state: FrameState) -> bool
+/// Whether a frame in the state waits.
+pub(crate) fn is_waiting(state: FrameState) -> bool
     ensures { result ≡ is_waiting state }
 {
     matches!(state, FrameState::Waiting)

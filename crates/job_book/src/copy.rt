@@ -8,7 +8,7 @@ use crate::entry::Entry;
 use crate::jobs::Jobs;
 use crate::layer_frames::LayerFrames;
 use crate::ready::copy_ready;
-use farm_types::{JobRow, LayerRow, SLOT_LIMIT};
+use farm_types::{LayerRow, SLOT_LIMIT};
 use std::alloc::{AllocError, Global};
 
 impl Jobs {
@@ -48,40 +48,9 @@ pub(crate) trait Row: Drop {
         ensures { IfOk result (λ copy. copy ≡ self.now) };
 }
 
-impl Row for JobRow {
-    fn copy(&self, alloc: Global) -> Result<JobRow, AllocError> {
-        Ok(JobRow {
-            job: self.job,
-            name: self.name.copy(alloc)?,
-            show: self.show,
-            facility: self.facility.copy(alloc)?,
-            shot: self.shot.copy(alloc)?,
-            user: self.user.copy(alloc)?,
-            priority: self.priority,
-            max_retries: self.max_retries,
-            auto_eat: self.auto_eat,
-            paused: self.paused,
-            state: self.state,
-            frames: self.frames,
-            finish: self.finish,
-            eaten: self.eaten,
-            succeeded: self.succeeded,
-        })
-    }
-}
-
 impl Row for LayerRow {
     fn copy(&self, alloc: Global) -> Result<LayerRow, AllocError> {
-        Ok(LayerRow {
-            job: self.job,
-            place: self.place,
-            name: self.name.copy(alloc)?,
-            range: self.range.copy(alloc)?,
-            command: self.command.copy(alloc)?,
-            cores: self.cores,
-            memory: self.memory,
-            tags: self.tags.copy(alloc)?,
-        })
+        LayerRow::copy(self, alloc)
     }
 }
 
@@ -94,7 +63,7 @@ impl Row for LayerFrames {
 impl Row for Entry {
     fn copy(&self, alloc: Global) -> Result<Entry, AllocError> {
         Ok(Entry {
-            row: Row::copy(&self.row, alloc)?,
+            row: self.row.copy(alloc)?,
             counts: self.counts,
             layers: copies(alloc, self.layers.as_slice(), 0)?,
             index: copies(alloc, self.index.as_slice(), 0)?,
@@ -127,8 +96,12 @@ pub(crate) fn copies<R: Row>(alloc: Global, rows: &[R], capacity: u32) -> Result
     Ok(copies)
 }
 
-// Equal values that own no memory, with a capacity.
-fn plain_copies<T: Copy>(alloc: Global, values: &[T], capacity: u32) -> Result<Vec<T>, AllocError>
+/// Equal values that own no memory, with a capacity.
+pub(crate) fn plain_copies<T: Copy>(
+    alloc: Global,
+    values: &[T],
+    capacity: u32,
+) -> Result<Vec<T>, AllocError>
     ensures items { IfOk result (λ copies. copies.items ≡ values.now) }
     ensures capacity { IfOk result (λ copies. capacity ≤ vec_capacity copies) }
 {

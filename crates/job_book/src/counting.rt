@@ -33,8 +33,8 @@ fn lowered(counts: Counts, state: FrameState) -> Counts
     lowered
 }
 
-// One more in that state.
-fn raised(counts: Counts, state: FrameState) -> Counts
+/// One more in that state.
+pub(crate) fn raised(counts: Counts, state: FrameState) -> Counts
     requires { part state counts ≤ SLOT_LIMIT }
     ensures { result ≡ raised state counts }
 {

@@ -2,6 +2,7 @@
 
 ghost use Rattle.std.specs.Prelude.{◌≡◌, ◌<◌, length, replicate, slice_get, slice_set, true, IfOk};
 ghost use Rattle.job_book.specs.Layers.{first_marked, marked};
+ghost use Rattle.job_book.specs.Restored.{with_slot};
 
 use farm_types::Slot;
 use place_set::PlaceSet;
@@ -40,6 +41,14 @@ impl LayerFrames {
         ensures { self.new ≡ record self.old { slots = slice_set self.old.slots position slot } }
     {
         self.slots[position] = slot;
+    }
+
+    /// The frame at the position stands in that slot, and whether it waits is noted. A position past the last is left alone.
+    pub(crate) fn note(&mut self, position: u32, slot: Slot, waits: bool)
+        ensures { self.new ≡ with_slot position slot waits self.old }
+    {
+        set_slot(&mut self.slots, position as usize, slot);
+        self.waiting.put(position as usize, waits);
     }
 
     /// The slot of the frame at the position.
@@ -81,5 +90,14 @@ impl LayerFrames {
             slots: Vec::from_slice(alloc, self.slots.as_slice())?,
             waiting: self.waiting.copy(alloc)?,
         })
+    }
+}
+
+// The item at a place is set. A place past the last is left alone.
+fn set_slot(slots: &mut Vec<Slot>, place: usize, slot: Slot)
+    ensures { slots.new.items ≡ slice_set slots.old.items place slot }
+{
+    if place < slots.len() {
+        slots[place] = slot;
     }
 }

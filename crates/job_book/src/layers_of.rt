@@ -1,9 +1,11 @@
 //! What is read of one job: its layers, and where the frames of each stand.
 
-ghost use Rattle.std.specs.Prelude.{◌≡◌, ℕ, find, option_map, slice_get};
+ghost use Rattle.std.specs.Prelude.{◌≡◌, ◌==◌, ◌&&◌, ℕ, None, IfSome, find, option_map, slice_get, true};
 ghost use Rattle.std.specs.List.{list_any};
-ghost use Rattle.farm_types.specs.Farm.{is_placed, layers_of, slot_from};
-ghost use Rattle.farm_types.specs.Jobs.{is_finished_named, is_pending_named};
+ghost use Rattle.farm_types.specs.Farm.{for_some, is_placed, layers_of, slot_from};
+ghost use Rattle.farm_types.specs.Finish.{is_finished};
+ghost use Rattle.farm_types.specs.Jobs.{is_finished_named, is_pending_named, without_finished};
+ghost use Rattle.job_book.specs.Book.{without_job};
 
 use crate::check::is_pending_in;
 use crate::jobs::Jobs;
@@ -11,9 +13,11 @@ use crate::layer_index::slots_in;
 use farm_types::{JobNo, LayerRow, Slot};
 
 impl Jobs {
-    /// The next job's number, one past the last where none is left.
+    /// The next job's number, one past the last where none is left. No job and no layer has it.
     pub fn next_number(&self) -> u64
-        ensures { result ≡ self.now.next_job }
+        ensures value { result ≡ self.now.next_job }
+        ensures no_job { find (λ j. j.job == self.now.next_job) self.now.jobs ≡ None }
+        ensures no_layer { (place : ℕ) → find (λ l. l.job == self.now.next_job && l.place == place) self.now.layers ≡ None }
     {
         self.entries.next()
     }
@@ -27,6 +31,18 @@ impl Jobs {
             return Some(job);
         }
         None
+    }
+
+    /// The number of the finished job of that name, which leaves where a job of the name is placed.
+    pub fn finished_named(&self, name: &str) -> Option<JobNo>
+        ensures without { without_finished name.now self.now.jobs ≡ without_job result self.now.jobs }
+        ensures there { IfSome result (λ job. for_some (find (λ j. j.job == job) self.now.jobs) is_finished ≡ true) }
+    {
+        let job = self.names.get(name)?;
+        if is_pending_in(&self.entries, job) {
+            return None;
+        }
+        Some(job)
     }
 
     /// Whether a finished job of that name is kept.

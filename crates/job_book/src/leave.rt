@@ -53,8 +53,8 @@ pub(crate) fn put_finished(finished: &mut ReadyJobs, entries: &Entries, job: Job
     finished.put(finish_key(row));
 }
 
-// The key by which finished jobs are in order.
-fn finish_key(row: &JobRow) -> u64
+/// The key by which finished jobs are in order.
+pub(crate) fn finish_key(row: &JobRow) -> u64
     requires { has_finish row.now ≡ true }
     ensures { result ≡ finish_key row.now }
 {

@@ -28,6 +28,12 @@ mod read;
 mod ready;
 mod ready_jobs;
 mod reserve;
+mod restore;
+mod restored_counts;
+mod restored_entries;
+mod restored_index;
+mod restored_keys;
+mod rows;
 
 pub use counts::Counts;
 pub use frame_view::FrameView;

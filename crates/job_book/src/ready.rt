@@ -107,8 +107,8 @@ fn take_ready(ready: &mut Vec<ReadyJobs>, job: &JobRow)
     }
 }
 
-// The key by which ready jobs are in order.
-fn ready_key(job: &JobRow) -> u64
+/// The key by which ready jobs are in order.
+pub(crate) fn ready_key(job: &JobRow) -> u64
     requires { has_priority job.now ≡ true }
     ensures { result ≡ ready_key job.now }
 {

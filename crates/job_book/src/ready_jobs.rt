@@ -4,8 +4,11 @@ ghost use Rattle.std.specs.Prelude.{◌≡◌, ◌≤◌, ◌<◌, ◌*◌, [], 
 ghost use Rattle.std.specs.List.{insert, position_or_len};
 ghost use Rattle.std.specs.Vec.{vec_capacity};
 ghost use Rattle.farm_types.specs.Rising.{IsRising};
-ghost use Rattle.job_book.specs.Ready.{CanPut, drop_key, itself, job_of, put_key};
+ghost use Rattle.job_book.specs.Ready.{CanPut, drop_key, itself, job_of, put_key, sorted};
+ghost use Rattle.job_book.specs.Restored.{AreKeys};
+ghost use Rattle.job_book.specs.declared.jobs.TheConstants.{MOST_JOBS};
 
+use crate::copy::plain_copies;
 use crate::jobs::MOST_JOBS;
 use farm_types::JobNo;
 use std::alloc::{AllocError, Global};
@@ -42,6 +45,19 @@ impl ReadyJobs {
         Ok(ReadyJobs {
             keys: Vec::with_capacity(alloc, MOST_JOBS as usize)?,
             jobs: Vec::with_capacity(alloc, MOST_JOBS as usize)?,
+        })
+    }
+
+    /// The jobs of these keys, none of which stands twice.
+    pub(crate) fn of_keys(alloc: Global, keys: Vec<u64>) -> Result<ReadyJobs, AllocError>
+        requires { AreKeys keys.items }
+        ensures { IfOk result (λ ready. ready ≡ sorted keys.items) }
+    {
+        let mut sorted = keys;
+        sorted.sort_unstable();
+        Ok(ReadyJobs {
+            keys: plain_copies(alloc, sorted.as_slice(), MOST_JOBS)?,
+            jobs: jobs_of(alloc, sorted.as_slice())?,
         })
     }
 
@@ -82,6 +98,18 @@ impl ReadyJobs {
         copy.jobs.extend_from_slice(self.jobs.as_slice())?;
         Ok(copy)
     }
+}
+
+// The numbers of the keys' jobs, with capacity for all.
+fn jobs_of(alloc: Global, keys: &[u64]) -> Result<Vec<JobNo>, AllocError>
+    ensures items { IfOk result (λ jobs. jobs.items ≡ map job_of keys.now) }
+    ensures capacity { IfOk result (λ jobs. MOST_JOBS ≤ vec_capacity jobs) }
+{
+    let mut jobs = Vec::with_capacity(alloc, MOST_JOBS as usize)?;
+    for key in keys {
+        jobs.push(job_of(*key))?;
+    }
+    Ok(jobs)
 }
 
 // The place of the first key above one.

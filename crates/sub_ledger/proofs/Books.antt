@@ -1,5 +1,5 @@
 -- The ledger that the places make: what is read of it, and what a call changes in it.
-use Rattle.std.proofs.Common.{◌≡◌, ℕ, zero, suc, ◌+◌, ◌-◌, ◌<◌, ◌≤◌, List, [], ◌∷◌, length, map, replicate, Option, is_some, Some, None, true, refl, sym, ap, subst, ◌∙◌, arith}
+use Rattle.std.proofs.Common.{◌≡◌, ℕ, zero, suc, ◌+◌, ◌-◌, ◌<◌, ◌≤◌, ◌^◌, List, [], ◌∷◌, length, map, replicate, Option, is_some, Some, None, true, refl, sym, ap, subst, ◌∙◌, arith}
 use Rattle.std.specs.List.{slice_get}
 use Rattle.std.specs.Option.{option_map}
 use Rattle.std.proofs.lemmas.Bool.{false≢true}
@@ -9,8 +9,8 @@ use Rattle.farm_types.specs.Farm.{changed_at}
 use Rattle.farm_types.specs.Subs.{with_sub}
 use Rattle.farm_types.specs.Sums.{total_in, total_at}
 use Rattle.sub_ledger.specs.declared.subs.SubState.{SubState}
-use Rattle.sub_ledger.specs.Ledger.{Ledger, no_subs, row_of, state_for, state_of, IsWithin, CanAdd, CanRemove}
-use Rattle.sub_ledger.specs.Inside.{row_for, with_place, rows_from, booked_of, ledger_for, state_in, set_to, with_more, with_less, TakesCores, GivesCores}
+use Rattle.sub_ledger.specs.Ledger.{Ledger, no_subs, row_of, state_for, state_of, IsWithin, CanAdd, CanCount, CanRemove}
+use Rattle.sub_ledger.specs.Inside.{row_for, with_place, rows_from, booked_of, ledger_for, state_in, set_to, with_more, with_less, CountsCores, TakesCores, GivesCores}
 use Rattle.farm_types.proofs.ChangedLists.{map-changed_at, map-changed_at_kept}
 use Rattle.sub_ledger.proofs.Rows.{row_from, rows_set, rows_kept}
 use Rattle.farm_types.specs.declared.limits.TheConstants.{SUB_NUMBERS}
@@ -49,6 +49,15 @@ module _ (places : List (Option SubState)) (sub : ℕ) where
       takes state cores (subst (λ (n : ℕ). IsWithin (option_map (row_for sub) state) (n + cores)) (booked_at places sub)
       (subst (λ (r : Option SubRow). IsWithin r (total_at (map booked_of places) sub + cores)) row_at can))
 
+  counts : (o : Option SubState) (cores : ℕ) → is_some (option_map (row_for sub) o) ≡ true → booked_of o + cores < 2 ^ 32 → CountsCores o cores
+  counts None cores there room = absurd (false≢true there)
+  counts (Some s) cores there room = room
+
+  -- the subscription at the place has the room that the ledger has
+  pub counts_cores : (cores : ℕ) → CanCount (ledger_for places) sub cores → CountsCores state cores
+  counts_cores cores can =
+      counts state cores (subst (λ (r : Option SubRow). is_some r ≡ true) row_at can.there) (subst (λ (n : ℕ). n + cores < 2 ^ 32) (booked_at places sub) can.room)
+
   gives : (o : Option SubState) (cores : ℕ) → is_some (option_map (row_for sub) o) ≡ true → cores ≤ booked_of o → GivesCores o cores
   gives None cores there enough = absurd (false≢true there)
   gives (Some s) cores there enough = enough
@@ -76,6 +85,16 @@ more_keeps cores sub (Some s) rows = refl
 more_booked : (cores : ℕ) (p : Option SubState) → TakesCores p cores → booked_of (with_more cores p) ≡ booked_of p + cores
 more_booked cores None takes = absurd takes
 more_booked cores (Some s) takes = refl
+
+counted_booked : (cores : ℕ) (p : Option SubState) → CountsCores p cores → booked_of (with_more cores p) ≡ booked_of p + cores
+counted_booked cores None counts = absurd counts
+counted_booked cores (Some s) counts = refl
+
+pub ledger_counted : (places : List (Option SubState)) (sub cores : ℕ) → CountsCores (state_in (slice_get places sub)) cores
+    → ledger_for (changed_at places sub (with_more cores)) ≡ record (ledger_for places) { booked = changed_at (map booked_of places) sub (λ total. total + cores) }
+ledger_counted places sub cores counts =
+    two_lists _ _ _ _ (rows_kept (with_more cores) (more_keeps cores) 0 sub places)
+    (map-changed_at booked_of (with_more cores) places sub (λ total. total + cores) (λ p at. counted_booked cores p (subst (λ (o : Option (Option SubState)). CountsCores (state_in o) cores) at counts)))
 
 pub ledger_more : (places : List (Option SubState)) (sub cores : ℕ) → TakesCores (state_in (slice_get places sub)) cores
     → ledger_for (changed_at places sub (with_more cores)) ≡ record (ledger_for places) { booked = changed_at (map booked_of places) sub (λ total. total + cores) }

@@ -1,5 +1,5 @@
 -- What the ledger of subscriptions keeps in its places, one for each number.
-use Rattle.std.specs.Prelude.{ℕ, ◌≡◌, ◌≤◌, ◌+◌, ◌-◌, List, [], ◌∷◌, map, length, Option, None, Some}
+use Rattle.std.specs.Prelude.{ℕ, ◌≡◌, ◌≤◌, ◌<◌, ◌+◌, ◌-◌, ◌^◌, List, [], ◌∷◌, map, length, Option, None, Some}
 use Rattle.farm_types.specs.declared.rows.SubRow.{SubRow}
 use Rattle.sub_ledger.specs.declared.subs.SubState.{SubState}
 use Rattle.sub_ledger.specs.declared.subs.Subs.TheInside.{Inside}
@@ -59,6 +59,11 @@ with_less cores (Some s) = Some (record s { booked = s.booked - cores })
 abbrev pub TakesCores : Option SubState → ℕ → Type 0
 TakesCores None cores = ⊥
 TakesCores (Some s) cores = s.booked + cores ≤ s.burst
+
+-- the subscription at the place has room for the cores in its count
+abbrev pub CountsCores : Option SubState → ℕ → Type 0
+CountsCores None cores = ⊥
+CountsCores (Some s) cores = s.booked + cores < 2 ^ 32
 
 -- so many cores are booked of the subscription at the place
 abbrev pub GivesCores : Option SubState → ℕ → Type 0

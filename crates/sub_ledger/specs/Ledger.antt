@@ -1,5 +1,5 @@
 -- What the ledger of subscriptions holds and answers.
-use Rattle.std.specs.Prelude.{ℕ, ◌≡◌, ◌≤◌, ◌==◌, ◌+◌, List, [], replicate, find, is_some, true, Option, None, Some, option_map}
+use Rattle.std.specs.Prelude.{ℕ, ◌≡◌, ◌≤◌, ◌<◌, ◌==◌, ◌+◌, ◌^◌, List, [], replicate, find, is_some, true, Option, None, Some, option_map}
 use Rattle.std.specs.declared.cmp.Ordering.{Ordering}
 use Rattle.farm_types.specs.declared.rows.SubRow.{SubRow}
 use Rattle.farm_types.specs.Dispatch.{by_ratio}
@@ -46,6 +46,11 @@ IsWithin (Some s) booked = booked ≤ s.burst
 
 abbrev pub CanAdd : Ledger → ℕ → ℕ → Type 0
 CanAdd b sub cores = IsWithin (row_of b sub) (total_at b.booked sub + cores)
+
+-- the subscription is there, and what is booked of it with the cores is a number of 32 bits
+pub record CanCount (b : Ledger) (sub cores : ℕ) : Type 0 where
+  pub there : is_some (row_of b sub) ≡ true
+  pub room : total_at b.booked sub + cores < 2 ^ 32
 
 -- the subscription is there, and so many cores of it are booked
 pub record CanRemove (b : Ledger) (sub cores : ℕ) : Type 0 where

@@ -3,6 +3,7 @@
 
 mod places;
 mod ratio;
+mod restore;
 mod subs;
 
 pub use ratio::by_ratio;

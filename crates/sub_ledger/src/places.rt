@@ -2,7 +2,7 @@
 
 ghost use Rattle.std.specs.Prelude.{◌≡◌, ◌<◌, length, slice_get};
 ghost use Rattle.farm_types.specs.Farm.{changed_at};
-ghost use Rattle.sub_ledger.specs.Inside.{state_in, booked_of, set_to, with_more, with_less, TakesCores, GivesCores};
+ghost use Rattle.sub_ledger.specs.Inside.{state_in, booked_of, set_to, with_more, with_less, CountsCores, TakesCores, GivesCores};
 
 use crate::subs::SubState;
 use farm_types::{Cores, SubNo};
@@ -53,6 +53,22 @@ pub(crate) fn add_at(places: &mut Vec<Option<SubState>>, sub: SubNo, cores: Core
         size: state.size,
         burst: state.burst,
         booked: Cores(state.booked.0 + cores.0),
+    });
+}
+
+/// Counts cores as booked of a subscription, also past its burst.
+pub(crate) fn count_at(places: &mut Vec<Option<SubState>>, sub: SubNo, cores: Cores)
+    requires { CountsCores (state_in (slice_get places.old.items sub)) cores }
+    ensures { places.new.items ≡ changed_at places.old.items sub (with_more cores) }
+{
+    let Some(state) = state_at(places.as_slice(), sub) else {
+        unreachable!()
+    };
+    let booked = Cores(state.booked.0 + cores.0);
+    places[usize::from(sub.0)] = Some(SubState {
+        size: state.size,
+        burst: state.burst,
+        booked,
     });
 }
 

@@ -26,7 +26,7 @@ pub struct SubState {
 /// what is booked of it.
 #[derive(Debug, Drop)]
 pub struct Subs {
-    places: Vec<Option<SubState>>,
+    pub(crate) places: Vec<Option<SubState>>,
 }
 
 impl Model for Subs {
