@@ -17,17 +17,17 @@ use Rattle.depend_book.specs.Book.{CanAdd, DependLists, IsBook, added_row, row_o
 -- ---- numbers
 
 -- they end no lower than they begin
-ends_above : (rows : List DependRow) (low high : ℕ) → IsRising depend_key low rows high → low ≤ high
+pub ends_above : (rows : List DependRow) (low high : ℕ) → IsRising depend_key low rows high → low ≤ high
 ends_above [] low high rise = rise
 ends_above (d ∷ ds) low high rise = omega (arith, rise.0, ends_above ds (d.depend + 1) high rise.1)
 
 -- one more at the end
-rising_more : (rows : List DependRow) (low high : ℕ) (d : DependRow) → IsRising depend_key low rows high → d.depend ≡ high → IsRising depend_key low (rows ++ d ∷ []) (high + 1)
+pub rising_more : (rows : List DependRow) (low high : ℕ) (d : DependRow) → IsRising depend_key low rows high → d.depend ≡ high → IsRising depend_key low (rows ++ d ∷ []) (high + 1)
 rising_more [] low high d rise is = (omega (arith, rise, is), omega (arith, is))
 rising_more (r ∷ rs) low high d rise is = (rise.0, rising_more rs (r.depend + 1) high d rise.1 is)
 
 -- a number past all is none of theirs
-new_number : (rows : List DependRow) (ws : List Watch) (low high n : ℕ) → map depend_key rows ≡ map watch_number ws → IsRising depend_key low rows high → high ≤ n
+pub new_number : (rows : List DependRow) (ws : List Watch) (low high n : ℕ) → map depend_key rows ≡ map watch_number ws → IsRising depend_key low rows high → high ≤ n
     → list_any (λ (w : Watch). eqb w.depend n) ws ≡ false
 new_number rows [] low high n same rise above = refl
 new_number [] (w ∷ ws) low high n same rise above = cc
@@ -40,7 +40,7 @@ new_number (d ∷ ds) (w ∷ ws) low high n same rise above =
 
 -- ---- rows and groups
 
-rows_more : (rows : List DependRow) (ws : List Watch) (d : DependRow) (w : Watch) → rows_of rows ws ≡ rows → map depend_key rows ≡ map watch_number ws → row_of d w ≡ d
+pub rows_more : (rows : List DependRow) (ws : List Watch) (d : DependRow) (w : Watch) → rows_of rows ws ≡ rows → map depend_key rows ≡ map watch_number ws → row_of d w ≡ d
     → rows_of (rows ++ d ∷ []) (ws ++ w ∷ []) ≡ rows ++ d ∷ []
 rows_more [] [] d w are same is = ap (λ (r : DependRow). r ∷ []) is
 rows_more [] (v ∷ vs) d w are same is = cc
@@ -59,7 +59,7 @@ left_in_within : (b : Bool) (w : Watch) → is_satisfied w ≡ b → left_in w �
 left_in_within true w is = rw is (omega arith)
 left_in_within false w is = rw is (omega arith)
 
-left_more : (ws : List Watch) (w : Watch) → groups_left (ws ++ w ∷ []) ≤ groups_left ws + length w.groups
+pub left_more : (ws : List Watch) (w : Watch) → groups_left (ws ++ w ∷ []) ≤ groups_left ws + length w.groups
 left_more ws w =
     let all = sum_by-append left_in ws (w ∷ []) in
     let one = sum_by-cons left_in w [] in

@@ -5,5 +5,6 @@ pub mod Kept
 pub mod MarksLeft
 pub mod Older
 pub mod PlaceChanged
+pub mod Restored
 pub mod RowsThere
 pub mod Satisfied

@@ -1,6 +1,7 @@
 pub mod Book
 pub mod Forgotten
 pub mod Inside
+pub mod Restored
 pub mod Rows
 pub mod RowsInside
 pub mod Satisfied

@@ -18,6 +18,9 @@ no_rows = record { rows = []; next = 1 }
 abbrev pub with_row : RowLists → DependRow → RowLists
 with_row r d = record { rows = r.rows ++ d ∷ []; next = r.next + 1 }
 
+abbrev pub rows_skipped : RowLists → ℕ → RowLists
+rows_skipped r next = record r { next = next }
+
 -- a row of that number goes, in which the job waits
 pub record IsTaken (job depend : ℕ) (olds news : List DependRow) : Type 0 where
   pub waits : waits_in_one job olds depend ≡ true

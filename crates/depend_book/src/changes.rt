@@ -79,8 +79,8 @@ impl Depends {
         self.rows.satisfy_all(self.opened.satisfied());
     }
 
-    // Whether all groups would be met at once.
-    fn are_met_at_once(&self, groups: &Items<Group>) -> bool
+    /// Whether all groups would be met at once.
+    pub fn are_met_at_once(&self, groups: &Items<Group>) -> bool
         ensures { result ≡ list_all (are_done (is_flagged self.now.graph.done)) groups.now }
     {
         groups

@@ -1,15 +1,15 @@
 //! The book, and what is read of it.
 
-ghost use Rattle.std.specs.Prelude.{◌≡◌, ◌≤◌, true, false, length, option_copied, All, IfOk, nat_eq};
+ghost use Rattle.std.specs.Prelude.{◌≡◌, ◌≤◌, true, false, length, option_copied, All, IfOk, map, nat_eq};
 ghost use Rattle.std.specs.List.{IsDistinct};
 ghost use Rattle.farm_types.specs.Depends.{are_done};
 ghost use Rattle.farm_types.specs.declared.limits.TheConstants.{MOST_DEPENDS, MOST_GROUPS};
-ghost use Rattle.depend_graph.specs.Graph.{groups_left, has_depend, is_flagged, opened_between, unmet_of, with_all_done, without_depend};
-ghost use Rattle.depend_book.specs.Book.{IsBook, next_in, no_depends, row_in};
+ghost use Rattle.depend_graph.specs.Graph.{HasMet, groups_at, groups_left, has_depend, is_flagged, opened_between, unmet_of, with_all_done, without_depend};
+ghost use Rattle.depend_book.specs.Book.{IsBook, mark_of, next_in, no_depends, row_in};
 
 use crate::row_list::RowList;
-use depend_graph::{Graph, Opened};
-use farm_types::{DependNo, DependRow, Group, Items, Slot};
+use depend_graph::{Graph, Marks, Opened};
+use farm_types::{DependNo, DependRow, Group, Items, MetRow, Slot};
 use std::alloc::{AllocError, Global};
 use std::marker::Model;
 
@@ -110,6 +110,22 @@ impl Depends {
         ensures { IfOk result (λ slots. slots ≡ opened_between self.now.graph.depends (with_all_done self.now.graph done.now).depends) }
     {
         self.graph.would_open(alloc, done)
+    }
+
+    /// What would be met if these frames were done. Nothing changes.
+    pub fn would_meet(&self, alloc: Global, done: &[Slot]) -> Result<Marks, AllocError>
+        requires differ { IsDistinct nat_eq done.now }
+        requires undone { All (λ slot. is_flagged self.now.graph.done slot ≡ false) done.now }
+        ensures { IfOk result (λ marks. HasMet self.now.graph.depends (with_all_done self.now.graph done.now).depends marks) }
+    {
+        self.graph.would_meet(alloc, done)
+    }
+
+    /// The marks that the depend's groups have once they are met, in order, whether they are met yet or not, and none where the depend isn't there.
+    pub fn marks_of(&self, alloc: Global, depend: DependNo) -> Result<Items<MetRow>, AllocError>
+        ensures { IfOk result (λ marks. marks ≡ map (mark_of depend) (groups_at self.now.graph.depends depend)) }
+    {
+        self.graph.marks_of(alloc, depend)
     }
 
     /// The frames that would open if the depend was dropped, by slot, in order.

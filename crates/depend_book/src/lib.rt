@@ -7,6 +7,7 @@ mod forgetting;
 mod new_depend;
 mod newest;
 mod places;
+mod restoring;
 mod room;
 mod row_list;
 

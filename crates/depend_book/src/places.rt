@@ -101,8 +101,8 @@ fn waiter_of(row: &DependRow) -> u32
     row.waiter.job.0
 }
 
-// The depend's number.
-fn depend_of(row: &DependRow) -> DependNo
+/// The depend's number.
+pub(crate) fn depend_of(row: &DependRow) -> DependNo
     ensures { result ≡ row.now.depend }
 {
     row.depend

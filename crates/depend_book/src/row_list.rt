@@ -2,7 +2,7 @@
 
 ghost use Rattle.std.specs.Prelude.{◌≡◌, ◌==◌, ◌≤◌, ◌<◌, ◌++◌, ◌∷◌, [], find, length, nat_lt, option_copied, option_map, IfOk, IfNone, IfSome};
 ghost use Rattle.farm_types.specs.declared.limits.TheConstants.{LAST_DEPEND, MOST_DEPENDS};
-ghost use Rattle.depend_book.specs.Rows.{IsTaken, WaitsInNone, no_rows, with_row};
+ghost use Rattle.depend_book.specs.Rows.{IsTaken, WaitsInNone, no_rows, rows_skipped, with_row};
 ghost use Rattle.depend_book.specs.Satisfied.{satisfied_all};
 
 use crate::newest::{last_in, note, number_of};
@@ -102,6 +102,14 @@ impl RowList {
         push_place(&mut self.places, &mut self.newest, row);
         self.count += 1;
         self.next += 1;
+    }
+
+    /// The next number is that one. It takes no memory.
+    pub(crate) fn skip_to(&mut self, next: u64)
+        requires { self.old.next ≤ next }
+        ensures { self.new ≡ rows_skipped self.old next }
+    {
+        self.next = next;
     }
 
     /// The depends of those numbers are satisfied. It takes no memory.

@@ -15,9 +15,10 @@ use Rattle.farm_types.proofs.Lists.{and_both}
 use Rattle.farm_types.proofs.Passes.{option_map-from}
 use Rattle.depend_graph.specs.Added.{count_for, held_in, is_lacking}
 use Rattle.depend_graph.specs.Aims.{aims_from}
-use Rattle.depend_graph.specs.Graph.{CanAdd, IsGroup, Watch, Watched, groups_left, holds, is_below, is_flagged, is_satisfied, unmet_in, unmet_of, watch_of, watched}
+use Rattle.depend_graph.specs.Graph.{CanAdd, IsGroup, Watch, Watched, groups_left, holds, is_below, is_flagged, is_satisfied, unmet_in, unmet_of, watched}
 use Rattle.depend_graph.specs.Inside.{KeepsDepends, KeepsSums, there_of, watches}
 use Rattle.depend_graph.specs.Listed.{IsListed, KeepsCounts, ListedLists, aim_of, has_number, is_enough, is_there, is_unmet, watch_by, watched_with}
+use Rattle.depend_graph.specs.Marked.{marked_counts, marked_watch, marked_with}
 use Rattle.depend_graph.specs.Ways.{edge_lists, edges_in}
 use Rattle.depend_graph.specs.declared.links.Edge.{Edge}
 use Rattle.depend_graph.specs.declared.listed.Count.{Count}
@@ -89,38 +90,88 @@ module _ (edges : List Edge) (gs : List Group) (aims : map aim_of edges ≡ aims
       let counted = edges_counted edges gs k (λ t. true) aims ∙ (ap (targets_in (λ t. true)) at ∙ all_counted_true g.targets) in
       omega (arith, count_by-le-length (edges_at k (λ t. true)) edges)
 
+-- ---- marks
+
+marked_long : (cs : List Count) (ms : List Bool) → length (marked_counts cs ms) ≡ length cs
+marked_long [] ms = refl
+marked_long (c ∷ cs) [] = refl
+marked_long (c ∷ cs) (m ∷ ms) = omega (arith, marked_long cs ms)
+
+pub marked_none : (ws : List Watched) → marked_with ws [] ≡ ws
+marked_none [] = refl
+marked_none (w ∷ ws) = refl
+
+pub watches_marked : (ws : List Watched) (ms : List Bool) → length (marked_with ws ms) ≡ length ws
+watches_marked [] ms = refl
+watches_marked (w ∷ ws) [] = refl
+watches_marked (w ∷ ws) (m ∷ ms) = omega (arith, watches_marked ws ms)
+
+pub counts_long : (done : List Bool) (gs : List Group) (ms : List Bool) → length (marked_counts (map (count_for done) gs) ms) ≡ length gs
+counts_long done gs ms = marked_long (map (count_for done) gs) ms ∙ length-map gs (count_for done)
+
+-- a count that may be marked lacks as many targets, and is met where it was
+pub record IsOr (old new : Count) : Type 0 where
+  pub undone : old.undone ≡ new.undone
+  pub stays : old.met ≡ true → new.met ≡ true
+
+same_or : (c d : Count) → c ≡ d → IsOr c d
+same_or c d same = record { undone = ap (λ (x : Count). x.undone) same; stays = λ met. ap (λ (x : Count). x.met) (sym same) ∙ met }
+
+met_or : (b m : Bool) → b ≡ true → (b || m) ≡ true
+met_or true m met = refl
+met_or false m met = absurd (false≢true met)
+
+marked_at : (cs : List Count) (ms : List Bool) (k : ℕ) (c : Count) → slice_get (marked_counts cs ms) k ≡ Some c → (x : Count) × (slice_get cs k ≡ Some x) × IsOr x c
+marked_at [] ms k c at = absurd (none-some c at)
+marked_at (x ∷ xs) [] k c at = (c, at, same_or c c refl)
+marked_at (x ∷ xs) (m ∷ ms) zero c at =
+    let same : record x { met = x.met || m } ≡ c = same_Some (record x { met = x.met || m }) c at in
+    (x, refl, record { undone = ap (λ (y : Count). y.undone) same; stays = λ met. ap (λ (y : Count). y.met) (sym same) ∙ met_or x.met m met })
+marked_at (x ∷ xs) (m ∷ ms) (suc k) c at = marked_at xs ms k c at
+
 -- ---- the depend that is added
 
-module _ (done : List Bool) (depend : ℕ) (gs : List Group) (edges : List Edge) (aims : map aim_of edges ≡ aims_from 0 gs) (within : length edges < 2 ^ 32) where
+module _ (done : List Bool) (depend : ℕ) (gs : List Group) (ms : List Bool) (edges : List Edge) (aims : map aim_of edges ≡ aims_from 0 gs) (within : length edges < 2 ^ 32) where
+  abbrev pub counts_of : List Count
+  counts_of = marked_counts (map (count_for done) gs) ms
+
   abbrev pub added : ListedLists
-  added = record { depend = depend; groups = gs; counts = map (count_for done) gs; edges = edges; unmet = count_by is_unmet (map (count_for done) gs); gone = false }
+  added = record { depend = depend; groups = gs; counts = counts_of; edges = edges; unmet = count_by is_unmet counts_of; gone = false }
 
   counted : length added.counts ≡ length gs
-  counted = length-map gs (count_for done)
+  counted = counts_long done gs ms
 
-  marks : (xs : List Group) → watched_with xs (map (count_for done) xs) ≡ map (watched done) xs
-  marks [] = refl
-  marks (g ∷ xs) = λ i. record { group = g; met = sym (are_done_by (is_flagged done) g) i } ∷ marks xs i
+  unmarked : (xs : List Group) → watched_with xs (map (count_for done) xs) ≡ map (watched done) xs
+  unmarked [] = refl
+  unmarked (g ∷ xs) = λ i. record { group = g; met = sym (are_done_by (is_flagged done) g) i } ∷ unmarked xs i
 
-  pub added_watch : watch_by added ≡ watch_of done depend gs
-  added_watch = λ i. record { depend = depend; groups = marks gs i }
+  marks : (xs : List Group) (bs : List Bool) → watched_with xs (marked_counts (map (count_for done) xs) bs) ≡ marked_with (map (watched done) xs) bs
+  marks [] bs = refl
+  marks (g ∷ xs) [] = unmarked (g ∷ xs)
+  marks (g ∷ xs) (b ∷ bs) = λ i. record { group = g; met = sym (are_done_by (is_flagged done) g) i || b } ∷ marks xs bs i
+
+  pub added_watch : watch_by added ≡ marked_watch done depend gs ms
+  added_watch = λ i. record { depend = depend; groups = marks gs ms i }
 
   pub added_listed : All IsGroup gs → length gs ≤ MOST_GROUPS → IsListed added
   added_listed each few = record { counted = counted; aims = aims; edges_within = within; groups_within = few; each = each; unmet_kept = refl }
 
-  count_is : (k : ℕ) (c : Count) → slice_get added.counts k ≡ Some c → (g : Group) × (slice_get gs k ≡ Some g) × (count_for done g ≡ c)
-  count_is k c at = option_map-from (count_for done) (slice_get gs k) c (sym (slice_get-map (count_for done) gs k) ∙ at)
+  count_is : (k : ℕ) (c : Count) → slice_get added.counts k ≡ Some c → (g : Group) × (slice_get gs k ≡ Some g) × IsOr (count_for done g) c
+  count_is k c at =
+      let x = marked_at (map (count_for done) gs) ms k c at in
+      let g = option_map-from (count_for done) (slice_get gs k) x.0 (sym (slice_get-map (count_for done) gs k) ∙ x.1) in
+      (g.0, g.1, subst (λ (y : Count). IsOr y c) (sym g.2) x.2)
 
   pub added_counts : KeepsCounts done added
   added_counts =
       record {
         undone_kept = λ k c at.
             let x = count_is k c at in
-            ap (λ (n : Count). n.undone) (sym x.2) ∙ sym (edges_counted edges gs k (is_lacking done) aims ∙ ap (targets_in (is_lacking done)) x.1);
+            sym x.2.undone ∙ sym (edges_counted edges gs k (is_lacking done) aims ∙ ap (targets_in (is_lacking done)) x.1);
         met_kept = λ k g c at_group at_count enough.
             let x = count_is k c at_count in
             let same : x.0 ≡ g = same_Some x.0 g (sym x.1 ∙ at_group) in
-            ap (λ (n : Count). n.met) (sym x.2) ∙ ((λ i. is_enough (same i) (x.2 i).undone) ∙ enough);
+            x.2.stays ((λ i. is_enough (same i) (x.2.undone i)) ∙ enough);
       }
 
   module _ (ds : List ListedLists) (unmet : List ℕ) (left : ℕ) (depends : KeepsDepends ds) (sums : KeepsSums unmet left ds) (flags : List Bool)
@@ -164,7 +215,7 @@ module _ (done : List Bool) (depend : ℕ) (gs : List Group) (edges : List Edge)
       weight_is : weight_of (watch_by added) ≡ cond (eqb added.unmet 0) 0 (length gs)
       weight_is =
           ap (λ b. cond b 0 (length (watched_with gs added.counts))) (satisfied_by added counted refl)
-          ∙ ap (cond (eqb added.unmet 0) 0) (ap (λ (ws : List Watched). length ws) (marks gs) ∙ length-map gs (watched done))
+          ∙ ap (cond (eqb added.unmet 0) 0) (ap (λ (ws : List Watched). length ws) (marks gs ms) ∙ (watches_marked (map (watched done) gs) ms ∙ length-map gs (watched done)))
 
       pub push_sums : KeepsSums (held_in unmet gs added.counts) (cond (eqb added.unmet 0) left (left + length gs)) (ds ++ added ∷ [])
       push_sums =

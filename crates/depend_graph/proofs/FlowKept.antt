@@ -91,7 +91,7 @@ never_opened ws s = by_count (unmet_of ws s) (cases_Bool (eqb (unmet_of ws s) 0)
   by_count n (inl none) = ap (λ b. b && eqb n 0) (le-ltb 0 n (omega (arith, eqb-true n 0 none)))
   by_count n (inr some) = ap (λ b. ltb 0 n && b) some ∙ and_false (ltb 0 n)
 
-never_became : (a b : Bool) → (a && (not b && b)) ≡ false
+pub never_became : (a b : Bool) → (a && (not b && b)) ≡ false
 never_became true true = refl
 never_became true false = refl
 never_became false b = refl

@@ -1,7 +1,7 @@
 -- A trial on its way along the edges of a slot, and from one frame that would be done to the next.
-use Rattle.std.proofs.Common.{◌≡◌, ◌<◌, ◌≤◌, ℕ, ◌-◌, Bool, true, false, List, [], ◌∷◌, map, length, Option, Some, None, refl, sym, ap, subst, ◌∙◌, arith}
+use Rattle.std.proofs.Common.{◌≡◌, ◌<◌, ◌≤◌, ℕ, ◌-◌, Bool, true, false, List, [], ◌∷◌, map, length, eqb, Option, Some, None, refl, sym, ap, subst, ◌∙◌, arith}
 use Rattle.std.specs.Prelude.{nat_eq, ◌||◌}
-use Rattle.std.specs.List.{slice_get, slice_set, count_by, AllByRecursion, IsDistinct}
+use Rattle.std.specs.List.{slice_get, slice_set, count_by, list_any, AllByRecursion, IsDistinct}
 use Rattle.std.proofs.Math.ListN.{length-set}
 use Rattle.std.proofs.lemmas.Bool.{eq-eqb, false≢true}
 use Rattle.std.proofs.lemmas.Option.{same_Some, slice_get_within}
@@ -10,19 +10,21 @@ use Rattle.farm_types.specs.declared.limits.TheConstants.{SLOT_LIMIT}
 use Rattle.farm_types.specs.Sums.{total_at}
 use Rattle.farm_types.proofs.Lists.{slice_get_below}
 use Rattle.depend_graph.specs.Flow.{IsEdgeAt, flow_of, passed_flow}
-use Rattle.depend_graph.specs.Graph.{GraphLists, Watch, completed_in, is_flagged, nothing_opened, unmet_of, with_done}
+use Rattle.depend_graph.specs.Graph.{GraphLists, HasMet, Watch, completed_in, is_flagged, is_mark, nothing_opened, unmet_of, was_met, was_satisfied, with_done}
 use Rattle.depend_graph.specs.Inside.{KeepsDepends, KeepsSums, watches}
 use Rattle.depend_graph.specs.Kept.{Still, still_of}
 use Rattle.depend_graph.specs.Listed.{ListedLists, is_enough}
-use Rattle.depend_graph.specs.Trial.{IsFollowing, IsHit, IsLaid, IsTried, IsUnderWay, is_at, key_of, nothing_laid}
+use Rattle.depend_graph.specs.Trial.{IsFollowing, IsHit, IsLaid, IsMetWhere, IsTried, IsUnderWay, MetLists, becomes_due, count_or, is_at, key_of, nothing_laid, nothing_met}
 use Rattle.depend_graph.specs.Ways.{IsEdge, IsLast, edge_lists, is_ahead_of, is_any}
 use Rattle.depend_graph.specs.declared.links.Edge.{Edge}
 use Rattle.depend_graph.specs.declared.links.EdgeAt.{EdgeAt}
 use Rattle.depend_graph.specs.declared.listed.Count.{Count}
+use Rattle.depend_graph.specs.declared.marks.Marks.{Marks}
 use Rattle.depend_graph.proofs.EdgeLists.{edge_lists-still}
 use Rattle.depend_graph.proofs.Finished.{all_counted, all_listed, completed_all, depends_kept, end_counted, flag_other, start_passing}
 use Rattle.depend_graph.proofs.Gone.{few_left}
 use Rattle.depend_graph.proofs.Still.{still_at}
+use Rattle.depend_graph.proofs.Telling.{start_tells, tells_step}
 use Rattle.depend_graph.proofs.Tried.{step_agrees}
 use Rattle.depend_graph.proofs.Unchanged.{done_already, flag_past}
 use Rattle.depend_graph.proofs.Walked.{place_there, way_passed}
@@ -30,21 +32,22 @@ use Rattle.depend_graph.proofs.Walked.{place_there, way_passed}
 module _ (olds : List ListedLists) (unmet : List ℕ) where
   -- ---- the beginning
 
-  pub start_following : (over : ℕ → Option ℕ) (xs : List ℕ) (g : GraphLists) (slot : ℕ) (first : Option EdgeAt) (t : IsTried olds unmet over xs g) → is_flagged g.done slot ≡ false → IsLast (edge_lists olds) slot is_any first
-      → IsFollowing olds unmet g.done slot t.news first over xs
-  start_following over xs g slot first t undone last =
+  pub start_following : (over : ℕ → Option ℕ) (xs : List ℕ) (m : MetLists) (g : GraphLists) (slot : ℕ) (first : Option EdgeAt) (t : IsTried olds unmet over xs m g) → is_flagged g.done slot ≡ false
+      → IsLast (edge_lists olds) slot is_any first → IsFollowing olds unmet g.done slot t.news first over xs m
+  start_following over xs m g slot first t undone last =
       record {
         flow = flow_of t.news t.unmet_then t.left_then nothing_opened;
         passing =
             start_passing g.done slot t.news first (subst (λ (ls : List (List Edge)). IsLast ls slot is_any first) (sym (edge_lists-still olds t.news t.structure)) last) t.unmet_then t.left_then undone
             t.depends.listed (few_left t.news t.depends) t.sums t.counts;
         agrees = t.agrees;
+        tells = t.tells;
       }
 
   -- ---- one edge
 
-  module _ (over laid : ℕ → Option ℕ) (xs ys : List ℕ) (done : List Bool) (slot : ℕ) (news : List ListedLists) (structure : map still_of news ≡ map still_of olds) (o : Option EdgeAt) (a : EdgeAt)
-      (following : IsFollowing olds unmet done slot news o over xs) (is : o ≡ Some a)
+  module _ (over laid : ℕ → Option ℕ) (xs ys : List ℕ) (m l : MetLists) (done : List Bool) (slot : ℕ) (news : List ListedLists) (structure : map still_of news ≡ map still_of olds) (o : Option EdgeAt) (a : EdgeAt)
+      (following : IsFollowing olds unmet done slot news o over xs m) (is : o ≡ Some a)
     where
       same : map still_of following.flow.depends ≡ map still_of olds
       same = following.passing.flow.structure ∙ structure
@@ -57,8 +60,10 @@ module _ (olds : List ListedLists) (unmet : List ℕ) where
           → ((d : ListedLists) (e : Edge) → slice_get olds a.depend ≡ Some d → slice_get d.edges a.edge ≡ Some e → result ≡ e.next)
           → ((d : ListedLists) (e : Edge) (g : Group) (c : Count) → slice_get olds a.depend ≡ Some d → slice_get d.edges a.edge ≡ Some e → slice_get d.groups e.group ≡ Some g → slice_get d.counts e.group ≡ Some c
           → IsHit (key_of a.depend e.group) g c over laid xs ys)
-          → IsFollowing olds unmet done slot news result laid ys
-      step_following within listed next result next_is hit =
+          → ((d : ListedLists) (e : Edge) (g : Group) (c : Count) → slice_get olds a.depend ≡ Some d → slice_get d.edges a.edge ≡ Some e → slice_get d.groups e.group ≡ Some g → slice_get d.counts e.group ≡ Some c
+          → IsMetWhere (becomes_due g c (count_or c.undone (over (key_of a.depend e.group)))) a.depend d g m l)
+          → IsFollowing olds unmet done slot news result laid ys l
+      step_following within listed next result next_is hit met =
           let w = place.place in
           let x = place.edge in
           let old = still_at olds following.flow.depends same a.depend w.listed w.listed_there in
@@ -80,13 +85,17 @@ module _ (olds : List ListedLists) (unmet : List ℕ) where
             agrees =
                 step_agrees olds unmet over laid xs ys following.flow following.agrees listed same a.depend x.group old.0 w.listed w.one c.0 w.count old.1 w.listed_there group_there c.1 w.count_there
                 (hit old.0 x w.one c.0 old.1 edge_there group_there c.1);
+            tells =
+                tells_step olds listed following.flow following.passing.flow.listed m l (over (key_of a.depend x.group)) a.depend x.group old.0 w.listed w.one c.0 w.count old.1 w.listed_there group_there c.1
+                w.group_there w.count_there (following.agrees.counts a.depend x.group old.0 w.listed w.one c.0 w.count old.1 w.listed_there group_there c.1 w.count_there)
+                (met old.0 x w.one c.0 old.1 edge_there group_there c.1) following.tells;
           }
 
   -- ---- the end
 
-  pub end_following : (over laid : ℕ → Option ℕ) (xs ys : List ℕ) (g : GraphLists) (slot : ℕ) (t : IsTried olds unmet over xs g) → IsFollowing olds unmet g.done slot t.news None laid ys → slot < length g.done
-      → IsTried olds unmet laid ys (with_done g slot true)
-  end_following over laid xs ys g slot t following within =
+  pub end_following : (over laid : ℕ → Option ℕ) (xs ys : List ℕ) (m l : MetLists) (g : GraphLists) (slot : ℕ) (t : IsTried olds unmet over xs m g) → IsFollowing olds unmet g.done slot t.news None laid ys l
+      → slot < length g.done → IsTried olds unmet laid ys l (with_done g slot true)
+  end_following over laid xs ys m l g slot t following within =
       let f = following.flow in
       let pass = following.passing in
       record {
@@ -100,24 +109,26 @@ module _ (olds : List ListedLists) (unmet : List ℕ) where
         counts = end_counted g.done slot t.news f pass within t.depends.listed;
         done_counted = length-set g.done slot true ∙ t.done_counted;
         agrees = following.agrees;
+        tells = following.tells;
       }
 
   -- ---- a slot that isn't there
 
-  pub tried_past : (over : ℕ → Option ℕ) (xs : List ℕ) (g : GraphLists) (slot : ℕ) → IsTried olds unmet over xs g → SLOT_LIMIT ≤ slot → IsTried olds unmet over xs (with_done g slot true)
-  tried_past over xs g slot t past =
+  pub tried_past : (over : ℕ → Option ℕ) (xs : List ℕ) (m : MetLists) (g : GraphLists) (slot : ℕ) → IsTried olds unmet over xs m g → SLOT_LIMIT ≤ slot → IsTried olds unmet over xs m (with_done g slot true)
+  tried_past over xs m g slot t past =
       let stays : slice_set g.done slot true ≡ g.done = flag_past g.done slot true (omega (arith, t.done_counted, past)) in
       let same : g ≡ with_done g slot true =
       (λ i. record { done = g.done; depends = sym t.depends_are i })
       ∙ (done_already g.done slot t.news t.depends.listed t.counts true stays ∙ λ i. with_done (record { done = g.done; depends = t.depends_are i }) slot true)
       in
-      subst (λ (h : GraphLists). IsTried olds unmet over xs h) same t
+      subst (λ (h : GraphLists). IsTried olds unmet over xs m h) same t
 
   -- ---- nothing laid over the counts
 
-  pub tried_alike : (over laid : ℕ → Option ℕ) (xs ys : List ℕ) (g : GraphLists) → ((key : ℕ) → laid key ≡ over key) → ys ≡ xs → IsTried olds unmet over xs g → IsTried olds unmet laid ys g
-  tried_alike over laid xs ys g alike same t =
-      subst (λ (h : ℕ → Option ℕ). IsTried olds unmet h ys g) (λ i key. sym (alike key) i) (subst (λ (zs : List ℕ). IsTried olds unmet over zs g) (sym same) t)
+  pub tried_alike : (over laid : ℕ → Option ℕ) (xs ys : List ℕ) (m l : MetLists) (g : GraphLists) → ((key : ℕ) → laid key ≡ over key) → ys ≡ xs → l ≡ m → IsTried olds unmet over xs m g → IsTried olds unmet laid ys l g
+  tried_alike over laid xs ys m l g alike same told t =
+      subst (λ (x : MetLists). IsTried olds unmet laid ys x g) (sym told)
+      (subst (λ (h : ℕ → Option ℕ). IsTried olds unmet h ys m g) (λ i key. sym (alike key) i) (subst (λ (zs : List ℕ). IsTried olds unmet over zs m g) (sym same) t))
 
   -- ---- from frame to frame
 
@@ -127,11 +138,11 @@ module _ (olds : List ListedLists) (unmet : List ℕ) where
   apart_undone done slot (s ∷ ss) apart undone =
       (flag_other done slot s true (λ same. false≢true (sym apart.0 ∙ eq-eqb slot s (sym same))) ∙ undone.0, apart_undone done slot ss apart.1 undone.1)
 
-  pub step_under_way : (over laid : ℕ → Option ℕ) (xs ys : List ℕ) (slot : ℕ) (slots : List ℕ) (last : GraphLists) → IsUnderWay olds unmet over xs (slot ∷ slots) last
-      → ((g : GraphLists) → is_flagged g.done slot ≡ false → IsTried olds unmet over xs g → IsTried olds unmet laid ys (with_done g slot true))
-      → IsUnderWay olds unmet laid ys slots last
+  pub step_under_way : (over laid : ℕ → Option ℕ) (xs ys : List ℕ) (m l : MetLists) (slot : ℕ) (slots : List ℕ) (last : GraphLists) → IsUnderWay olds unmet over xs m (slot ∷ slots) last
+      → ((g : GraphLists) → is_flagged g.done slot ≡ false → IsTried olds unmet over xs m g → IsTried olds unmet laid ys l (with_done g slot true))
+      → IsUnderWay olds unmet laid ys l slots last
   unfolding IsDistinct
-  step_under_way over laid xs ys slot slots last way done_too =
+  step_under_way over laid xs ys m l slot slots last way done_too =
       record {
         graph = with_done way.graph slot true;
         tried = done_too way.graph way.undone.0 way.tried;
@@ -140,15 +151,26 @@ module _ (olds : List ListedLists) (unmet : List ℕ) where
         differ = way.differ.1;
       }
 
-  pub end_under_way : (over : ℕ → Option ℕ) (xs : List ℕ) (last : GraphLists) → IsUnderWay olds unmet over xs [] last → (slot : ℕ) → unmet_of last.depends slot ≡ total_at unmet slot - count_by (is_at slot) xs
-  end_under_way over xs last way slot =
-      let t = way.tried in
-      ap (λ (g : GraphLists). unmet_of g.depends slot) (sym way.leads) ∙ (ap (λ (ws : List Watch). unmet_of ws slot) (sym t.depends_are) ∙ (sym (t.sums.unmet_kept slot) ∙ t.agrees.unmet_read slot))
+  pub end_under_way : (over : ℕ → Option ℕ) (xs : List ℕ) (m : MetLists) (last : GraphLists) → IsUnderWay olds unmet over xs m [] last → IsTried olds unmet over xs m last
+  end_under_way over xs m last way = subst (λ (g : GraphLists). IsTried olds unmet over xs m g) way.leads way.tried
+
+  -- what would be met, and in how many unmet groups each would wait
+  pub tried_unmet : (over : ℕ → Option ℕ) (xs : List ℕ) (m : MetLists) (g : GraphLists) → IsTried olds unmet over xs m g → (slot : ℕ) → unmet_of g.depends slot ≡ total_at unmet slot - count_by (is_at slot) xs
+  tried_unmet over xs m g t slot = ap (λ (ws : List Watch). unmet_of ws slot) (sym t.depends_are) ∙ (sym (t.sums.unmet_kept slot) ∙ t.agrees.unmet_read slot)
+
+  pub tried_met : (over : ℕ → Option ℕ) (xs : List ℕ) (m : MetLists) (g : GraphLists) (marks : Marks) → IsTried olds unmet over xs m g → marks.met ≡ m.met → marks.satisfied ≡ m.satisfied
+      → HasMet (watches olds) g.depends marks
+  tried_met over xs m g marks t met satisfied =
+      record {
+        met = λ n position.
+            ap (list_any (is_mark n position)) met ∙ (t.tells.met n position ∙ ap (λ (ws : List Watch). was_met (watches olds) ws n position) t.depends_are);
+        satisfied = λ n. ap (list_any (λ i. eqb i n)) satisfied ∙ (t.tells.satisfied n ∙ ap (λ (ws : List Watch). was_satisfied (watches olds) ws n) t.depends_are);
+      }
 
 -- ---- the graph as it is
 
 pub start_tried : (olds : List ListedLists) (unmet : List ℕ) (left : ℕ) (done : List Bool) → KeepsDepends olds → KeepsSums unmet left olds → all_counted done olds → length done ≡ SLOT_LIMIT
-    → IsTried olds unmet nothing_laid [] (record { done = done; depends = watches olds })
+    → IsTried olds unmet nothing_laid [] nothing_met (record { done = done; depends = watches olds })
 start_tried olds unmet left done depends sums counted long =
     record {
       news = olds;
@@ -168,6 +190,7 @@ start_tried olds unmet left done depends sums counted long =
                 subst (λ (n : Count). IsLaid None g old n) (sym one) (record { undone = refl; met = met_by old.met (is_enough g old.undone) ((counted p d at_d).met_kept k g old at_g at_old) });
             unmet_read = λ s. omega arith;
           };
+      tells = start_tells olds;
     }
   where
     met_by : (was enough : Bool) → (enough ≡ true → was ≡ true) → was ≡ (was || enough)

@@ -20,6 +20,7 @@ pub mod LinkSteps
 pub mod Linked
 pub mod Lowered
 pub mod Made
+pub mod Marked
 pub mod Moved
 pub mod NothingOpens
 pub mod Ordered
@@ -33,6 +34,7 @@ pub mod Standing
 pub mod Steps
 pub mod Still
 pub mod Targets
+pub mod Telling
 pub mod Thinned
 pub mod Tried
 pub mod Unchanged

@@ -11,7 +11,7 @@ use Rattle.depend_graph.specs.Inside.{watches}
 use Rattle.depend_graph.specs.Listed.{ListedLists, watch_by}
 
 -- the first of two ors, where the second is behind
-or_later : (b r x : Bool) → cond b true (r || x) ≡ (cond b true r || x)
+pub or_later : (b r x : Bool) → cond b true (r || x) ≡ (cond b true r || x)
 or_later true r x = refl
 or_later false r x = refl
 

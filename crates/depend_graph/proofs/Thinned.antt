@@ -1,16 +1,21 @@
 -- Depends without those of which no group is left.
-use Rattle.std.proofs.Common.{◌≡◌, ℕ, suc, Bool, true, false, not, cond, eqb, ltb, List, [], ◌∷◌, map, length, Some, refl, sym, ap, subst, ◌∙◌, arith}
-use Rattle.std.specs.Prelude.{◌&&◌}
-use Rattle.std.specs.List.{slice_get, slice_set, sum_by, count_by, filter, list_all}
+use Rattle.std.proofs.Common.{◌≡◌, ℕ, zero, suc, Bool, true, false, not, cond, eqb, ltb, List, [], ◌∷◌, map, length, Some, refl, sym, ap, subst, ◌∙◌, arith}
+use Rattle.std.specs.Prelude.{◌&&◌, ◌||◌}
+use Rattle.std.specs.List.{slice_get, slice_set, sum_by, count_by, filter, list_all, list_any}
+use Rattle.std.proofs.lemmas.Bool.{eqb-true, ne_eqb, false≢true}
 use Rattle.std.proofs.lemmas.List.Sums.{sum_by-cons}
-use Rattle.std.proofs.lemmas.Option.{same_Some, slice_get-map}
+use Rattle.std.proofs.lemmas.Option.{none-some, same_Some, slice_get-map}
 use Rattle.farm_types.specs.declared.depend.Group.{Group}
 use Rattle.farm_types.specs.declared.limits.TheConstants.{SLOT_LIMIT}
+use Rattle.farm_types.specs.declared.depend.MetRow.{MetRow}
+use Rattle.farm_types.proofs.Lists.{and_both}
 use Rattle.farm_types.proofs.Passes.{option_map-from}
-use Rattle.depend_graph.specs.Graph.{GraphLists, HasOpened, OpenedLists, Watch, Watched, became_satisfied, completed, completed_in, groups_left, holds, is_met, is_satisfied, met_group, met_where, numbers_from, opened_between, unmet_in, unmet_of, was_satisfied, with_all_done, with_done}
+use Rattle.depend_graph.specs.Graph.{GraphLists, HasMet, HasOpened, OpenedLists, Watch, Watched, became_satisfied, completed, completed_in, group_mark, groups_at, groups_left, holds, is_met, is_satisfied, met_between, met_group, met_where, numbers_from, opened_between, unmet_in, unmet_of, was_met, was_satisfied, with_all_done, with_done}
 use Rattle.depend_graph.specs.Inside.{KeepsDepends, there_of, watches}
 use Rattle.depend_graph.proofs.Gone.{gone_by}
-use Rattle.depend_graph.specs.Listed.{ListedLists, is_there, watch_by, watched_with}
+use Rattle.depend_graph.specs.Listed.{ListedLists, has_number, is_there, mark_for, watch_by, watched_with}
+use Rattle.depend_graph.specs.declared.listed.Count.{Count}
+use Rattle.depend_graph.specs.declared.marks.Marks.{Marks}
 
 -- those with a mark
 abbrev pub thinned : List Bool → List Watch → List Watch
@@ -81,6 +86,27 @@ thinned_was n (b ∷ bs) (o ∷ os) (v ∷ vs) empty = by_mark b refl (thinned_w
       → was_satisfied (o ∷ os) (v ∷ vs) n ≡ was_satisfied (cond m (o ∷ thinned bs os) (thinned bs os)) (cond m (v ∷ thinned bs vs) (thinned bs vs)) n
   by_mark true is more = ap (λ c. cond (became_satisfied n o v) true c) more
   by_mark false is more = ap (λ c. cond c true (was_satisfied os vs n)) (never_became n o v (empty 0 o (ap (λ (x : Bool). Some x) is) refl)) ∙ more
+
+-- the same of groups that became met
+met_none : (n position : ℕ) (ws : List Watch) → was_met ws [] n position ≡ false
+met_none n position [] = refl
+met_none n position (w ∷ ws) = refl
+
+never_met : (n position : ℕ) (old new : Watch) → old.groups ≡ [] → (eqb old.depend n && met_between position old.groups new.groups) ≡ false
+never_met n position old new none = ap (λ (ws : List Watched). eqb old.depend n && met_between position ws new.groups) none ∙ off (eqb old.depend n) where
+  off : (b : Bool) → (b && false) ≡ false
+  off true = refl
+  off false = refl
+
+thinned_met : (n position : ℕ) (bs : List Bool) (olds news : List Watch) → AreEmpty bs olds → was_met olds news n position ≡ was_met (thinned bs olds) (thinned bs news) n position
+thinned_met n position [] olds news empty = refl
+thinned_met n position (b ∷ bs) [] news empty = refl
+thinned_met n position (b ∷ bs) (o ∷ os) [] empty = sym (met_none n position (thinned (b ∷ bs) (o ∷ os)))
+thinned_met n position (b ∷ bs) (o ∷ os) (v ∷ vs) empty = by_mark b refl (thinned_met n position bs os vs (λ p w at_b at. empty (suc p) w at_b at)) where
+  by_mark : (m : Bool) → b ≡ m → was_met os vs n position ≡ was_met (thinned bs os) (thinned bs vs) n position
+      → was_met (o ∷ os) (v ∷ vs) n position ≡ was_met (cond m (o ∷ thinned bs os) (thinned bs os)) (cond m (v ∷ thinned bs vs) (thinned bs vs)) n position
+  by_mark true is more = ap (λ c. cond (eqb o.depend n && met_between position o.groups v.groups) true c) more
+  by_mark false is more = ap (λ c. cond c true (was_met os vs n position)) (never_met n position o v (empty 0 o (ap (λ (x : Bool). Some x) is) refl)) ∙ more
 
 pub thinned_between : (bs : List Bool) (olds news : List Watch) → AreEmpty bs olds → AreEmpty bs news → opened_between olds news ≡ opened_between (thinned bs olds) (thinned bs news)
 unfolding opened_between
@@ -172,3 +198,61 @@ there_met ds depends n s =
     ap (λ (ws : List Watch). unmet_of (map (met_where n) ws) s) (there_thinned ds)
     ∙ (ap (λ (ws : List Watch). unmet_of ws s) (sym (thinned_map (met_where n) bs (watches ds)))
     ∙ sym (thinned_unmet bs (map (met_where n) (watches ds)) (empty_map (met_where n) (met_empty n) bs (watches ds) (empty_there ds depends)) s))
+
+-- what would be met, of those that are there
+pub there_meets : (ds : List ListedLists) → KeepsDepends ds → (done : List Bool) (slots : List ℕ) (marks : Marks) → HasMet (watches ds) (with_all_done (record { done = done; depends = watches ds }) slots).depends marks
+    → HasMet (watches (there_of ds)) (with_all_done (record { done = done; depends = watches (there_of ds) }) slots).depends marks
+there_meets ds depends done slots marks has =
+    let bs = map is_there ds in
+    let all : GraphLists = record { done = done; depends = watches ds } in
+    let last = (with_all_done all slots).depends in
+    let empty = empty_there ds depends in
+    let then : (with_all_done (record { done = done; depends = watches (there_of ds) }) slots).depends ≡ thinned bs last =
+    ap (λ (ws : List Watch). (with_all_done (record { done = done; depends = ws }) slots).depends) (there_thinned ds) ∙ (thinned_done bs all slots empty).0 in
+    record {
+      met = λ n position. has.met n position ∙ (thinned_met n position bs (watches ds) last empty ∙ λ i. was_met (sym (there_thinned ds) i) (sym then i) n position);
+      satisfied = λ n. has.satisfied n ∙ (thinned_was n bs (watches ds) last empty ∙ λ i. was_satisfied (sym (there_thinned ds) i) (sym then i) n);
+    }
+
+-- ---- the groups of one
+
+-- no two that are there have one number
+abbrev AreApart : List ListedLists → Type 0
+AreApart ds = (p q : ℕ) (d e : ListedLists) → slice_get ds p ≡ Some d → slice_get ds q ≡ Some e → is_there d ≡ true → is_there e ≡ true → d.depend ≡ e.depend → p ≡ q
+
+pub groups_there : (ds : List ListedLists) → AreApart ds → (p n : ℕ) (d : ListedLists) → slice_get ds p ≡ Some d → has_number n d ≡ true → groups_at (watches (there_of ds)) n ≡ (watch_by d).groups
+groups_there [] differ p n d at is = absurd (none-some d at)
+groups_there (x ∷ xs) differ zero n d at is =
+    let same : x ≡ d = same_Some x d at in
+    let both = and_both (is_there x) (eqb x.depend n) (ap (has_number n) same ∙ is) in
+    ap (λ b. groups_at (watches (cond b (x ∷ there_of xs) (there_of xs))) n) both.0
+    ∙ (ap (λ b. cond b (watch_by x).groups (groups_at (watches (there_of xs)) n)) both.1 ∙ ap (λ (y : ListedLists). (watch_by y).groups) same)
+groups_there (x ∷ xs) differ (suc p) n d at is =
+    by_mark (is_there x) refl (groups_there xs (λ i j a b at_a at_b there_a there_b same. let e : suc i ≡ suc j = differ (suc i) (suc j) a b at_a at_b there_a there_b same in omega arith) p n d at is)
+  where
+    both : (is_there d ≡ true) × (eqb d.depend n ≡ true)
+    both = and_both (is_there d) (eqb d.depend n) is
+
+    by_mark : (m : Bool) → is_there x ≡ m → groups_at (watches (there_of xs)) n ≡ (watch_by d).groups → groups_at (watches (cond m (x ∷ there_of xs) (there_of xs))) n ≡ (watch_by d).groups
+    by_mark true there more = ap (λ b. cond b (watch_by x).groups (groups_at (watches (there_of xs)) n)) other ∙ more where
+      other : eqb x.depend n ≡ false
+      other = ne_eqb x.depend n (λ e. absurd (let same : 0 ≡ suc p = differ 0 (suc p) x d refl at there both.0 (e ∙ sym (eqb-true d.depend n both.1)) in omega arith))
+    by_mark false there more = more
+
+pub no_groups : (ds : List ListedLists) (n : ℕ) → list_any (has_number n) ds ≡ false → groups_at (watches (there_of ds)) n ≡ []
+no_groups [] n none = refl
+no_groups (x ∷ xs) n none = by_mark (is_there x) refl (no_groups xs n parts.1) where
+  parts : (has_number n x ≡ false) × (list_any (has_number n) xs ≡ false)
+  parts = neither (has_number n x) (list_any (has_number n) xs) none where
+    neither : (a b : Bool) → (a || b) ≡ false → (a ≡ false) × (b ≡ false)
+    neither true b isnt = absurd (false≢true (sym isnt))
+    neither false b isnt = (refl, isnt)
+
+  by_mark : (m : Bool) → is_there x ≡ m → groups_at (watches (there_of xs)) n ≡ [] → groups_at (watches (cond m (x ∷ there_of xs) (there_of xs))) n ≡ []
+  by_mark true there more = ap (λ b. cond b (watch_by x).groups (groups_at (watches (there_of xs)) n)) (sym (ap (λ b. b && eqb x.depend n) there) ∙ parts.0) ∙ more
+  by_mark false there more = more
+
+pub marks_watched : (n : ℕ) (gs : List Group) (cs : List Count) → length cs ≡ length gs → map (mark_for n) gs ≡ map (group_mark n) (watched_with gs cs)
+marks_watched n [] cs same = refl
+marks_watched n (g ∷ gs) [] same = absurd (omega arith)
+marks_watched n (g ∷ gs) (c ∷ cs) same = ap (λ (ms : List MetRow). mark_for n g ∷ ms) (marks_watched n gs cs (omega arith))

@@ -57,7 +57,7 @@ mark_by false true enough_now grows = sym (grows refl)
 mark_by false false true grows = refl
 mark_by false false false grows = refl
 
-due_by : (was enough_was enough_now : Bool) → (not (was || enough_was) && enough_now) ≡ (not was && (not enough_was && enough_now))
+pub due_by : (was enough_was enough_now : Bool) → (not (was || enough_was) && enough_now) ≡ (not was && (not enough_was && enough_now))
 due_by true enough_was enough_now = refl
 due_by false true enough_now = refl
 due_by false false enough_now = refl

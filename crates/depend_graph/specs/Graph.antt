@@ -3,9 +3,11 @@ use Rattle.std.specs.Prelude.{ℕ, zero, suc, ◌≡◌, ◌==◌, ◌&&◌, ◌
 use Rattle.std.specs.List.{IsDistinct, list_all, list_any}
 use Rattle.std.specs.Prelude.{nat_eq}
 use Rattle.farm_types.specs.declared.depend.Group.{Group}
+use Rattle.farm_types.specs.declared.depend.MetRow.{MetRow}
 use Rattle.farm_types.specs.Depends.{are_done, waits_in}
 use Rattle.farm_types.specs.Farm.{for_some}
 use Rattle.farm_types.specs.declared.limits.TheConstants.{MOST_DEPENDS, MOST_GROUPS, SLOT_LIMIT}
+use Rattle.depend_graph.specs.declared.marks.Marks.{Marks}
 
 -- a group, and whether it is met
 pub record Watched : Type 0 where
@@ -137,6 +139,42 @@ nothing_opened = record { slots = []; satisfied = [] }
 pub record HasOpened (olds news : List Watch) (opened : OpenedLists) : Type 0 where
   pub slots : opened.slots ≡ opened_between olds news
   pub satisfied : (depend : ℕ) → list_any (λ n. n == depend) opened.satisfied ≡ was_satisfied olds news depend
+
+-- ---- what becomes met
+
+-- the group at that position becomes met
+abbrev pub becomes_met : ℕ → Watched → Watched → Bool
+becomes_met position old new = old.group.position == position && (not old.met && new.met)
+
+abbrev pub met_between : ℕ → List Watched → List Watched → Bool
+met_between position [] news = false
+met_between position (old ∷ olds) [] = false
+met_between position (old ∷ olds) (new ∷ news) = if becomes_met position old new then true else met_between position olds news
+
+-- a group of the depend of that number, at that position, wasn't met, and is now
+abbrev pub was_met : List Watch → List Watch → ℕ → ℕ → Bool
+was_met [] news depend position = false
+was_met (old ∷ olds) [] depend position = false
+was_met (old ∷ olds) (new ∷ news) depend position = if old.depend == depend && met_between position old.groups new.groups then true else was_met olds news depend position
+
+abbrev pub is_mark : ℕ → ℕ → MetRow → Bool
+is_mark depend position m = m.depend == depend && m.position == position
+
+-- exactly the groups that became met, and exactly the depends that became satisfied
+pub record HasMet (olds news : List Watch) (marks : Marks) : Type 0 where
+  pub met : (depend position : ℕ) → list_any (is_mark depend position) marks.met ≡ was_met olds news depend position
+  pub satisfied : (depend : ℕ) → list_any (λ n. n == depend) marks.satisfied ≡ was_satisfied olds news depend
+
+-- ---- what is read
+
+-- the groups of the depend of that number
+abbrev pub groups_at : List Watch → ℕ → List Watched
+groups_at [] depend = []
+groups_at (w ∷ ws) depend = if w.depend == depend then w.groups else groups_at ws depend
+
+-- the mark of a group once it is met
+abbrev pub group_mark : ℕ → Watched → MetRow
+group_mark depend w = record { depend = depend; position = w.group.position }
 
 -- ---- conditions
 

@@ -8,6 +8,8 @@ pub mod Kept
 pub mod Linking
 pub mod Listed
 pub mod ListedInside
+pub mod Marked
+pub mod Meeting
 pub mod OpenedInside
 pub mod Passing
 pub mod Spare

@@ -1,6 +1,7 @@
 -- A depend as the graph lists it.
 use Rattle.std.specs.Prelude.{ℕ, ◌≡◌, ◌==◌, ◌&&◌, ◌<◌, ◌≤◌, ◌^◌, Bool, true, not, List, [], ◌∷◌, map, length, All, count_by, nat_lt, slice_get, Some, if◌then◌else◌}
 use Rattle.farm_types.specs.declared.depend.Group.{Group}
+use Rattle.farm_types.specs.declared.depend.MetRow.{MetRow}
 use Rattle.farm_types.specs.declared.limits.TheConstants.{MOST_GROUPS}
 use Rattle.depend_graph.specs.Aims.{Aim, aims_from}
 use Rattle.depend_graph.specs.Graph.{IsGroup, Watch, Watched, is_flagged}
@@ -29,6 +30,10 @@ watched_with (g ∷ gs) (c ∷ cs) = watched_by g c ∷ watched_with gs cs
 
 abbrev pub watch_by : ListedLists → Watch
 watch_by d = record { depend = d.depend; groups = watched_with d.groups d.counts }
+
+-- the mark of a group of the depend of that number, once it is met
+abbrev pub mark_for : ℕ → Group → MetRow
+mark_for depend g = record { depend = depend; position = g.position }
 
 -- it wasn't forgotten
 abbrev pub is_there : ListedLists → Bool

@@ -1,15 +1,16 @@
 -- What would become of the graph: counts that are laid over its own, and the slots of those who would be freed.
-use Rattle.std.specs.Prelude.{ℕ, ◌≡◌, ◌≢◌, ◌==◌, ◌&&◌, ◌||◌, ◌+◌, ◌*◌, ◌-◌, Bool, false, not, List, [], ◌∷◌, ◌++◌, map, length, count_by, slice_get, Option, None, Some, if◌then◌else◌}
+use Rattle.std.specs.Prelude.{ℕ, ◌≡◌, ◌≢◌, ◌==◌, ◌&&◌, ◌||◌, ◌+◌, ◌*◌, ◌-◌, Bool, true, false, not, List, [], ◌∷◌, ◌++◌, map, length, count_by, slice_get, Option, None, Some, if◌then◌else◌}
 use Rattle.farm_types.specs.declared.depend.Group.{Group}
+use Rattle.farm_types.specs.declared.depend.MetRow.{MetRow}
 use Rattle.farm_types.specs.declared.limits.TheConstants.{SLOT_LIMIT}
 use Rattle.farm_types.specs.Sums.{total_at}
 use Rattle.std.specs.Prelude.{nat_eq}
-use Rattle.std.specs.List.{AllByRecursion, IsDistinct}
+use Rattle.std.specs.List.{AllByRecursion, IsDistinct, list_any}
 use Rattle.depend_graph.specs.Flow.{Flow}
-use Rattle.depend_graph.specs.Graph.{GraphLists, is_flagged, with_all_done}
+use Rattle.depend_graph.specs.Graph.{GraphLists, is_flagged, is_mark, was_met, was_satisfied, with_all_done}
 use Rattle.depend_graph.specs.Inside.{KeepsDepends, KeepsSums, watches}
 use Rattle.depend_graph.specs.Kept.{still_of}
-use Rattle.depend_graph.specs.Listed.{KeepsCounts, ListedLists, is_enough}
+use Rattle.depend_graph.specs.Listed.{KeepsCounts, ListedLists, is_enough, mark_for}
 use Rattle.depend_graph.specs.Passing.{IsPassing}
 use Rattle.depend_graph.specs.declared.links.EdgeAt.{EdgeAt}
 use Rattle.depend_graph.specs.declared.listed.Count.{Count}
@@ -59,6 +60,35 @@ pub record IsFreed (slot count : ℕ) (old new : ℕ → Option ℕ) (slots news
   pub counts : IsLowered slot count old new
   pub listed : news ≡ (if count_or count (old slot) == 1 then slots ++ slot ∷ [] else slots)
 
+-- ---- what is met
+
+-- by the places of depends how many of their groups aren't met, where that isn't as in the graph; the marks of the groups that would be met; and the
+-- numbers of the depends that would be satisfied
+pub record MetLists : Type 0 where
+  pub left : ℕ → Option ℕ
+  pub met : List MetRow
+  pub satisfied : List ℕ
+
+abbrev pub nothing_met : MetLists
+nothing_met = record { left = nothing_laid; met = []; satisfied = [] }
+
+-- a group of the depend at a place is met too
+pub record IsMet (place : ℕ) (d : ListedLists) (g : Group) (old new : MetLists) : Type 0 where
+  pub left : IsLowered place d.unmet old.left new.left
+  pub met : new.met ≡ old.met ++ mark_for d.depend g ∷ []
+  pub satisfied : new.satisfied ≡ (if count_or d.unmet (old.left place) == 1 then old.satisfied ++ d.depend ∷ [] else old.satisfied)
+
+-- it is met, or nothing is
+abbrev pub IsMetWhere : Bool → ℕ → ListedLists → Group → MetLists → MetLists → Type 0
+IsMetWhere true place d g old new = IsMet place d g old new
+IsMetWhere false place d g old new = new ≡ old
+
+-- the lists tell what is met in the new depends
+pub record Tells (olds : List ListedLists) (m : MetLists) (news : List ListedLists) : Type 0 where
+  pub left : (p : ℕ) (d e : ListedLists) → slice_get olds p ≡ Some d → slice_get news p ≡ Some e → e.unmet ≡ count_or d.unmet (m.left p)
+  pub met : (depend position : ℕ) → list_any (is_mark depend position) m.met ≡ was_met (watches olds) (watches news) depend position
+  pub satisfied : (depend : ℕ) → list_any (λ n. n == depend) m.satisfied ≡ was_satisfied (watches olds) (watches news) depend
+
 -- ---- the graph that it would be
 
 -- a group's count is the one that is laid over the old, and it is met where it was or lacks no target
@@ -72,7 +102,7 @@ pub record Agrees (olds : List ListedLists) (unmet : List ℕ) (over : ℕ → O
   pub unmet_read : (slot : ℕ) → total_at unmet_then slot ≡ total_at unmet slot - count_by (is_at slot) freed
 
 -- the counts and the freed are those of that graph
-pub record IsTried (olds : List ListedLists) (unmet : List ℕ) (over : ℕ → Option ℕ) (freed : List ℕ) (g : GraphLists) : Type 0 where
+pub record IsTried (olds : List ListedLists) (unmet : List ℕ) (over : ℕ → Option ℕ) (freed : List ℕ) (m : MetLists) (g : GraphLists) : Type 0 where
   pub news : List ListedLists
   pub unmet_then : List ℕ
   pub left_then : ℕ
@@ -83,17 +113,19 @@ pub record IsTried (olds : List ListedLists) (unmet : List ℕ) (over : ℕ → 
   pub counts : (p : ℕ) (d : ListedLists) → slice_get news p ≡ Some d → KeepsCounts g.done d
   pub done_counted : length g.done ≡ SLOT_LIMIT
   pub agrees : Agrees olds unmet over freed news unmet_then
+  pub tells : Tells olds m news
 
 -- on the way along the edges of a slot that would be done, where these are the depends at the way's beginning
-pub record IsFollowing (olds : List ListedLists) (unmet : List ℕ) (done : List Bool) (slot : ℕ) (news : List ListedLists) (at : Option EdgeAt) (over : ℕ → Option ℕ) (freed : List ℕ) : Type 0 where
+pub record IsFollowing (olds : List ListedLists) (unmet : List ℕ) (done : List Bool) (slot : ℕ) (news : List ListedLists) (at : Option EdgeAt) (over : ℕ → Option ℕ) (freed : List ℕ) (m : MetLists) : Type 0 where
   pub flow : Flow
   pub passing : IsPassing done slot news at flow
   pub agrees : Agrees olds unmet over freed flow.depends flow.unmet
+  pub tells : Tells olds m flow.depends
 
 -- the graph that it would be once the first of these frames are done, which is on its way to that in which all are
-pub record IsUnderWay (olds : List ListedLists) (unmet : List ℕ) (over : ℕ → Option ℕ) (freed slots : List ℕ) (last : GraphLists) : Type 0 where
+pub record IsUnderWay (olds : List ListedLists) (unmet : List ℕ) (over : ℕ → Option ℕ) (freed : List ℕ) (m : MetLists) (slots : List ℕ) (last : GraphLists) : Type 0 where
   pub graph : GraphLists
-  pub tried : IsTried olds unmet over freed graph
+  pub tried : IsTried olds unmet over freed m graph
   pub leads : with_all_done graph slots ≡ last
   pub undone : AllByRecursion (λ slot. is_flagged graph.done slot ≡ false) slots
   pub differ : IsDistinct nat_eq slots

@@ -3,12 +3,14 @@
 ghost use Rattle.std.specs.Prelude.{◌≡◌, ◌==◌, ◌+◌, ◌≤◌, if◌then◌else◌};
 ghost use Rattle.farm_types.specs.declared.limits.TheConstants.{MOST_GROUPS};
 ghost use Rattle.depend_graph.specs.Graph.{CanAdd, with_depend};
+ghost use Rattle.depend_graph.specs.Marked.{with_marked};
 ghost use Rattle.depend_graph.specs.Spare.{spare_of};
 
 use crate::counting::{count_all, hold_all, unmet_among};
 use crate::graph::Graph;
 use crate::linking::link;
 use crate::listed::Listed;
+use crate::marking::mark_all;
 use crate::room::make_room;
 use crate::spare::GraphSpare;
 use farm_types::{DependNo, Group, Items};
@@ -20,9 +22,26 @@ impl Graph {
         requires can { CanAdd self.old depend groups }
         ensures { self.new ≡ with_depend self.old depend groups }
     {
+        self.add_marked(spare, depend, groups, &[]);
+    }
+
+    /// Adds a depend with its groups, in the memory that was taken for them. A group is met at once where its targets are done, or where a mark
+    /// stands at its place among the depend's groups. It takes no memory.
+    pub fn add_marked(
+        &mut self,
+        spare: GraphSpare,
+        depend: DependNo,
+        groups: Items<Group>,
+        marks: &[bool],
+    )
+        requires reserved { spare ≡ spare_of groups }
+        requires can { CanAdd self.old depend groups }
+        ensures { self.new ≡ with_marked self.old depend groups marks.now }
+    {
         make_room(&mut self.first, &mut self.depends);
         let GraphSpare { mut counts, edges } = spare;
         count_all(&mut counts, groups.as_slice(), self.done.as_slice());
+        mark_all(&mut counts, marks);
         hold_all(&mut self.unmet, groups.as_slice(), counts.as_slice());
         let unmet = unmet_among(counts.as_slice());
         self.left = raised_left(self.left, unmet, groups.len());

@@ -13,6 +13,9 @@ mod graph;
 mod linking;
 mod links;
 mod listed;
+mod marking;
+mod marks;
+mod meeting;
 mod opened;
 mod opening;
 mod opens;
@@ -26,5 +29,6 @@ mod trying;
 mod unlinking;
 
 pub use graph::Graph;
+pub use marks::Marks;
 pub use opened::Opened;
 pub use spare::GraphSpare;

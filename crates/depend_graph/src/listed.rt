@@ -1,18 +1,18 @@
 //! A depend as the graph lists it.
 
-ghost use Rattle.std.specs.Prelude.{◌≡◌, ◌<◌, ◌-◌, ◌^◌, Some, length, slice_get};
+ghost use Rattle.std.specs.Prelude.{◌≡◌, ◌<◌, ◌-◌, ◌^◌, IfOk, Some, length, map, slice_get};
 ghost use Rattle.farm_types.specs.declared.limits.TheConstants.{MOST_GROUPS};
 ghost use Rattle.farm_types.specs.declared.depend.Group.{Group};
 ghost use Rattle.farm_types.specs.Farm.{changed_at};
 ghost use Rattle.depend_graph.specs.Flow.{is_due, lowered, met_at, raised};
 ghost use Rattle.depend_graph.specs.Bare.{edge_changed, with_next, with_prev};
-ghost use Rattle.depend_graph.specs.Listed.{emptied, is_enough, is_there};
+ghost use Rattle.depend_graph.specs.Listed.{emptied, is_enough, is_there, mark_for};
 ghost use Rattle.depend_graph.specs.Trial.{becomes_due};
 ghost use Rattle.depend_graph.specs.declared.listed.Count.{Count};
 
 use crate::links::{Edge, EdgeAt};
-use farm_types::{DependNo, Group, Items, Slot};
-use std::alloc::Global;
+use farm_types::{DependNo, Group, Items, MetRow, Slot};
+use std::alloc::{AllocError, Global};
 use std::marker::Model;
 
 /// How many targets of a group aren't done, and whether the group is met.
@@ -94,6 +94,21 @@ impl Listed {
         ensures { (g : Group) → slice_get self.now.groups group ≡ Some g → result.now ≡ g.waiters }
     {
         self.groups.as_slice()[group as usize].waiters.as_slice()
+    }
+
+    /// The position of the group at a place.
+    pub(crate) fn position(&self, group: u32) -> u32
+        requires { group < length self.now.groups }
+        ensures { (g : Group) → slice_get self.now.groups group ≡ Some g → result ≡ g.position }
+    {
+        self.groups.as_slice()[group as usize].position
+    }
+
+    /// The marks that its groups have once they are met, in order.
+    pub(crate) fn marks(&self, alloc: Global) -> Result<Items<MetRow>, AllocError>
+        ensures { IfOk result (λ marks. marks ≡ map (mark_for self.now.depend) self.now.groups) }
+    {
+        marks_for(alloc, self.depend, self.groups.as_slice())
     }
 
     /// Whether the group at a place is met.
@@ -194,6 +209,20 @@ impl Listed {
         }
         self.unmet = self.unmet.saturating_sub(1);
     }
+}
+
+// The marks that groups of a depend have once they are met.
+fn marks_for(alloc: Global, depend: DependNo, groups: &[Group]) -> Result<Items<MetRow>, AllocError>
+    ensures { IfOk result (λ marks. marks ≡ map (mark_for depend) groups.now) }
+{
+    let mut marks = Items::new(alloc);
+    for group in groups {
+        marks.push(MetRow {
+            depend,
+            position: group.position,
+        })?;
+    }
+    Ok(marks)
 }
 
 // The edge at a place.

@@ -1,14 +1,15 @@
 //! What a change would open.
 
-ghost use Rattle.std.specs.Prelude.{◌≡◌, true, false, IfOk, All, nat_eq};
+ghost use Rattle.std.specs.Prelude.{◌≡◌, true, false, IfOk, All, map, nat_eq};
 ghost use Rattle.std.specs.List.{IsDistinct};
-ghost use Rattle.depend_graph.specs.Graph.{has_depend, is_flagged, opened_between, with_all_done, without_depend};
+ghost use Rattle.depend_graph.specs.Graph.{HasMet, group_mark, groups_at, has_depend, is_flagged, opened_between, with_all_done, without_depend};
 
-use crate::dropping::place_of;
+use crate::dropping::{find_place, place_of};
 use crate::graph::Graph;
+use crate::marks::Marks;
 use crate::opens::opened_by;
-use crate::trying::{free_left, freed_by};
-use farm_types::{DependNo, Items, Slot};
+use crate::trying::{free_left, freed_by, met_by};
+use farm_types::{DependNo, Items, MetRow, Slot};
 use std::alloc::{AllocError, Global};
 
 impl Graph {
@@ -27,6 +28,25 @@ impl Graph {
         }
         let freed = freed_by(alloc, self.first.as_slice(), self.depends.as_slice(), done)?;
         opened_by(alloc, self.unmet.as_slice(), freed.as_slice())
+    }
+
+    /// What would be met if these frames were done. Nothing changes.
+    pub fn would_meet(&self, alloc: Global, done: &[Slot]) -> Result<Marks, AllocError>
+        requires differ { IsDistinct nat_eq done.now }
+        requires undone { All (λ slot. is_flagged self.now.done slot ≡ false) done.now }
+        ensures { IfOk result (λ marks. HasMet self.now.depends (with_all_done self.now done.now).depends marks) }
+    {
+        met_by(alloc, self.first.as_slice(), self.depends.as_slice(), done)
+    }
+
+    /// The marks that the depend's groups have once they are met, in order, whether they are met yet or not, and none where the depend isn't there.
+    pub fn marks_of(&self, alloc: Global, depend: DependNo) -> Result<Items<MetRow>, AllocError>
+        ensures { IfOk result (λ marks. marks ≡ map (group_mark depend) (groups_at self.now.depends depend)) }
+    {
+        let Some(place) = find_place(self.depends.as_slice(), depend) else {
+            return Ok(Items::new(alloc));
+        };
+        self.depends[place as usize].marks(alloc)
     }
 
     /// The frames that would open if the depend was dropped, by slot, in order.

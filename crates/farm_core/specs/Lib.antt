@@ -1,3 +1,4 @@
 pub mod Answers
 pub mod Change
 pub mod Reads
+pub mod Restore

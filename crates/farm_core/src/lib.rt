@@ -9,6 +9,7 @@ mod following;
 mod look;
 mod read;
 mod record;
+mod restore;
 
 pub use change::Change;
 pub use demo::demo_farm;

@@ -34,7 +34,7 @@ rows_more [] (v ∷ vs) d w same = absurd (omega arith)
 rows_more (e ∷ es) [] d w same = absurd (omega arith)
 rows_more (e ∷ es) (v ∷ vs) d w same = ap (λ (rows : List DependRow). row_of e v ∷ rows) (rows_more es vs d w (omega arith))
 
-marks_more : (ws : List Watch) (w : Watch) → marks_of (ws ++ w ∷ []) ≡ marks_of ws ++ marks_in w
+pub marks_more : (ws : List Watch) (w : Watch) → marks_of (ws ++ w ∷ []) ≡ marks_of ws ++ marks_in w
 marks_more [] w = append-nil (marks_in w)
 marks_more (v ∷ vs) w = ap (λ (rows : List MetRow). marks_in v ++ rows) (marks_more vs w) ∙ sym (append_assoc (marks_in v) (marks_of vs) (marks_in w))
 

@@ -22,7 +22,7 @@ module _ (p q : ℕ → Bool) (same : (n : ℕ) → p n ≡ q n) where
   any_agree [] = refl
   any_agree (n ∷ ns) = ap (λ (b : Bool). b || list_any p ns) (same n) ∙ ap (λ (b : Bool). q n || b) (any_agree ns)
 
-  done_agree : (g : Group) → are_done p g ≡ are_done q g
+  pub done_agree : (g : Group) → are_done p g ≡ are_done q g
   done_agree g = ap (λ (b : Bool). cond g.any b (list_all p g.targets)) (any_agree g.targets) ∙ ap (λ (b : Bool). cond g.any (list_any q g.targets) b) (all_agree g.targets)
 
   -- groups that aren't done by two tests that agree

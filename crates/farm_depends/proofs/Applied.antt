@@ -114,7 +114,7 @@ module _ (f0 f : Farm) (b : DependLists) (w : Follow) (whole : IsWhole f0 b) (bo
     abbrev more : DependLists
     more = with_new_all b w.depends
 
-    takes : Takes f b w.depends
+    pub takes : Takes f b w.depends
     takes = takes_all f b w.depends fits_now book met_now follows.room
 
     numbered : Numbered (with_all beside w.depends)

@@ -16,7 +16,7 @@ use Rattle.depend_book.specs.Book.{DependLists, joined}
 -- ---- what is kept
 
 attempts_apart : (f : Farm) (b : DependLists) → KeepsAttempts (joined f b) → KeepsAttempts f
-attempts_apart f b k = record { hosted = k.hosted; measured = k.measured; billed = k.billed; subscribed = k.subscribed; since = k.since }
+attempts_apart f b k = record { hosted = k.hosted; measured = k.measured; billed = k.billed; subscribed = k.subscribed; since = k.since; versioned = k.versioned }
 
 sound_apart : (f : Farm) (b : DependLists) → IsSound (joined f b) → IsSound f
 sound_apart f b k = record { cores = k.cores; memory = k.memory; attempts = k.attempts }

@@ -34,7 +34,7 @@ flag_here flags s within =
     let there = slice_get_below flags s within in
     ap (λ (o : Option Bool). for_some o (λ flag. flag)) (slice_get-set_same flags s there.0 true there.1)
 
-flag_set : (flags : List Bool) (s slot : ℕ) → s < length flags → (slot ≡ s) ⊎ (slot ≢ s) → is_flagged (slice_set flags s true) slot ≡ (is_flagged flags slot || eqb s slot)
+pub flag_set : (flags : List Bool) (s slot : ℕ) → s < length flags → (slot ≡ s) ⊎ (slot ≢ s) → is_flagged (slice_set flags s true) slot ≡ (is_flagged flags slot || eqb s slot)
 flag_set flags s slot within (inl e) =
     ap (is_flagged (slice_set flags s true)) e ∙ (flag_here flags s within ∙ sym (or_right (is_flagged flags slot) (eqb s slot) (eq-eqb s slot (sym e))))
 flag_set flags s slot within (inr apart) =

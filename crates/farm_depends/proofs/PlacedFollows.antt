@@ -37,7 +37,7 @@ use Rattle.farm_depends.proofs.ToCome.{left_is, placed_farm, placed_groups, plac
 -- ---- rows without depends
 
 -- the rows are kept whatever the depends are
-rows_with : (f : Farm) (ds : List DependRow) (ms : List MetRow) (next : ℕ) → KeepsRows f → KeepsRows (record f { depends = ds; met = ms; next_depend = next })
+pub rows_with : (f : Farm) (ds : List DependRow) (ms : List MetRow) (next : ℕ) → KeepsRows f → KeepsRows (record f { depends = ds; met = ms; next_depend = next })
 rows_with f ds ms next k =
     record {
       moment_within = k.moment_within;
@@ -46,7 +46,7 @@ rows_with f ds ms next k =
       subs = k.subs;
       hosts = k.hosts;
       jobs = k.jobs;
-      attempts = record { hosted = k.attempts.hosted; measured = k.attempts.measured; billed = k.attempts.billed; subscribed = k.attempts.subscribed; since = k.attempts.since };
+      attempts = record { hosted = k.attempts.hosted; measured = k.attempts.measured; billed = k.attempts.billed; subscribed = k.attempts.subscribed; since = k.attempts.since; versioned = k.attempts.versioned };
       sound = record { cores = k.sound.cores; memory = k.sound.memory; attempts = k.sound.attempts };
     }
 

@@ -2,5 +2,7 @@ pub mod Coming
 pub mod Completing
 pub mod Fits
 pub mod Follow
+pub mod FollowRows
 pub mod Placed
+pub mod Restored
 pub mod Retrying

@@ -165,8 +165,8 @@ fn unmarked_among(alloc: Global, marks: &[bool], slots: &[Slot]) -> Result<Items
     Ok(unmarked)
 }
 
-// Whether the frame in the row is done.
-fn is_done(row: &SlotRow) -> bool
+/// Whether the frame in the row is done.
+pub(crate) fn is_done(row: &SlotRow) -> bool
     ensures { result ≡ is_done_row row.now }
 {
     match &row.frame {

@@ -105,7 +105,7 @@ module _ (f : Farm) (b : DependLists) (job : ℕ) (settled : IsSettled (joined f
 
   -- the farm is settled then too
   settled_one : IsSettled (finish_one job old)
-  settled_one = record { rows = kept_one job old settled.rows ends.0; depends = finish_keeps old settled.rows settled.depends job ends.0 ends.1 }
+  settled_one = record { rows = kept_one job old settled.rows ends; depends = finish_keeps old settled.rows settled.depends job ends.0 ends.1 }
 
 -- the others may end then
 can_after : (job : ℕ) (jobs : List ℕ) (f : Farm) (b : DependLists) → CanEnd (joined f b) (job ∷ jobs) → Fits f b → IsBook b → CanEnd (joined (finished_books job f) (depends_without job f.slots b)) jobs

@@ -85,7 +85,7 @@ may_one f job rows pending none =
 may_all : (low : ℕ) (jobs : List ℕ) (high : ℕ) (f : Farm) → IsRising number low jobs high → AllByRecursion (Ends f) jobs → KeepsRows f → CanFinishAll (lists_of f) jobs
 may_all low [] high f rise all rows = tt
 may_all low (n ∷ ns) high f rise all rows =
-    (may_one f n rows all.0.0 all.0.1, may_all (n + 1) ns high (finish_one n f) rise.1 (later_ends n f (n + 1) ns high (omega arith) rise.1 all.1) (kept_one n f rows all.0.0))
+    (may_one f n rows all.0.0 all.0.1, may_all (n + 1) ns high (finish_one n f) rise.1 (later_ends n f (n + 1) ns high (omega arith) rise.1 all.1) (kept_one n f rows all.0))
 
 -- jobs that may finish one after the other
 pub can_finish : (f : Farm) (jobs : List ℕ) → CanEnd f jobs → CanFinishAll (lists_of f) jobs

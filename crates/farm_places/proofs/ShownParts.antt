@@ -7,6 +7,7 @@ use Rattle.std.proofs.lemmas.List.Folds.{find_at}
 use Rattle.std.proofs.lemmas.Option.{none-some, same_Some}
 use Rattle.farm_types.specs.declared.depend.DependKind.{DependKind}
 use Rattle.farm_types.specs.declared.depend.DependKind.TheVariants.{FrameByFrame, PreviousFrame}
+use Rattle.farm_types.specs.declared.depend.DependRow.{DependRow}
 use Rattle.farm_types.specs.declared.depend.DependSpec.{DependSpec}
 use Rattle.farm_types.specs.declared.depend.LayerShape.{LayerShape}
 use Rattle.farm_types.specs.declared.depend.Place.{Place}
@@ -18,7 +19,7 @@ use Rattle.farm_types.specs.declared.slot_row.SlotRow.{SlotRow}
 use Rattle.farm_types.specs.DependActs.{end_of, end_refusal, job_missing, layer_refusal, new_groups, number_of, part_refusal, pending_named, place_refusal}
 use Rattle.farm_types.specs.Depends.{groups_of, layer_shape, shape_in, shape_of}
 use Rattle.farm_types.specs.Farm.{Farm, layers_of}
-use Rattle.farm_types.specs.Groups.{Part, all_slots, groups_by, groups_by_number, groups_of_previous, layer_named_by, layer_of_part, or_no_layer, part_of, slots_at, slots_of_layer, slots_of_part}
+use Rattle.farm_types.specs.Groups.{Part, all_slots, groups_by, groups_by_number, groups_of_previous, layer_named_by, layer_of_part, or_no_layer, part_at, part_of, slots_at, slots_of_layer, slots_of_part}
 use Rattle.farm_types.specs.Jobs.{JobLists}
 use Rattle.farm_types.proofs.Lists.{found_is}
 use Rattle.depend_law.proofs.Among.{kept_from}
@@ -95,6 +96,16 @@ groups_shown f spec waiters targets w t =
     let full_t = shape_of f (end_of f spec.target).job in
     groups_alike spec.any (part_of spec.waiter) (part_of spec.target) waiters targets full_w full_t (shown_slots full_w waiters spec.waiter.layer spec.waiter.frame w) (shown_slots full_t targets spec.target.layer spec.target.frame t)
     (shown_layer full_w waiters spec.waiter.layer w) (shown_layer full_t targets spec.target.layer t) spec.kind
+
+-- so do shapes that show what the ends of a row name
+pub row_groups_shown : (f : Farm) (d : DependRow) (waiters targets : Shape) → ShowsPart (shape_of f d.waiter.job) waiters d.waiter.layer → ShowsPart (shape_of f d.target.job) targets d.target.layer
+    → groups_by d.kind d.any (part_at d.waiter) (part_at d.target) waiters targets ≡ groups_of f d
+unfolding groups_of
+row_groups_shown f d waiters targets w t =
+    let full_w = shape_of f d.waiter.job in
+    let full_t = shape_of f d.target.job in
+    groups_alike d.any (part_at d.waiter) (part_at d.target) waiters targets full_w full_t (shown_slots full_w waiters d.waiter.layer d.waiter.frame w) (shown_slots full_t targets d.target.layer d.target.frame t)
+    (shown_layer full_w waiters d.waiter.layer w) (shown_layer full_t targets d.target.layer t) d.kind
 
 -- ---- refusals
 

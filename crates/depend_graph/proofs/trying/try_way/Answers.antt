@@ -1,5 +1,6 @@
 use Rattle.std.proofs.Common.{◌<◌, ℕ, Option, Some, nat_eq, sym, ◌∙◌, subst, arith}
 use Rattle.indexmap.specs.IndexMap.{get}
+use Rattle.depend_graph.specs.Meeting.{met_lists}
 use Rattle.depend_graph.specs.Trial.{IsFollowing}
 use Rattle.depend_graph.specs.Ways.{IsEdgeOf, edge_lists}
 use Rattle.depend_graph.specs.declared.links.EdgeAt.{EdgeAt}
@@ -14,7 +15,7 @@ pub loop-next-init : goal.loop-next-init
 loop-next-init c =
     record {
       on_way = c.requires.first.one;
-      following = λ unmet g undone t. start_following c.args.depends.now unmet (get nat_eq c.args.lacking.now) c.args.freed.now.items g c.args.slot c.args.first t undone c.requires.first;
+      following = λ unmet g undone t. start_following c.args.depends.now unmet (get nat_eq c.args.lacking.now) c.args.freed.now.items (met_lists c.args.meeting.now) g c.args.slot c.args.first t undone c.requires.first;
     }
 
 pub try_edge-requires : goal.try_edge-requires
@@ -41,9 +42,9 @@ loop-next-preserved c =
           subst (λ (s : ℕ). IsEdgeOf (edge_lists depends) s a) on.slot_is
           ((c.requires.next at.depend at.edge on.edge on.there).one a (sym (c.in_ok-next.ensures.next d.0 on.edge d.1 d.2) ∙ is));
       following = λ unmet g undone t.
-          step_following depends unmet (get nat_eq c.loop-next.lacking) (get nat_eq c.try_edge.new.lacking) c.loop-next.freed.items c.try_edge.new.freed.items g.done c.args.slot t.news t.structure c.loop-next.next at
+          step_following depends unmet (get nat_eq c.loop-next.lacking) (get nat_eq c.try_edge.new.lacking) c.loop-next.freed.items c.try_edge.new.freed.items (met_lists c.loop-next.meeting) (met_lists c.try_edge.new.meeting) g.done c.args.slot t.news t.structure c.loop-next.next at
           (c.loop-next.invariant.following unmet g undone t) c.in-Some.is (omega (arith, c.requires.slot, t.done_counted)) c.requires.depends.listed c.requires.next c.in_ok-next.next c.in_ok-next.ensures.next
-          c.in_ok-next.ensures.hit;
+          c.in_ok-next.ensures.hit c.in_ok-next.ensures.met;
     }
 
 pub returns : goal.returns
@@ -51,6 +52,7 @@ returns c = λ unmet g undone t.
     let depends = c.args.depends.now in
     let over = get nat_eq c.loop-next.lacking in
     let freed = c.loop-next.freed.items in
-    end_following depends unmet (get nat_eq c.args.lacking.now) over c.args.freed.now.items freed g c.args.slot t
-    (subst (λ (o : Option EdgeAt). IsFollowing depends unmet g.done c.args.slot t.news o over freed) c.in_default.is (c.loop-next.invariant.following unmet g undone t))
+    let m = met_lists c.loop-next.meeting in
+    end_following depends unmet (get nat_eq c.args.lacking.now) over c.args.freed.now.items freed (met_lists c.args.meeting.now) m g c.args.slot t
+    (subst (λ (o : Option EdgeAt). IsFollowing depends unmet g.done c.args.slot t.news o over freed m) c.in_default.is (c.loop-next.invariant.following unmet g undone t))
     (omega (arith, c.requires.slot, t.done_counted))

@@ -23,7 +23,7 @@ returns c =
     let layers : c.in_ok-layers.layers ≡ own_shapes spec.layers lists =
     c.in_ok-layers.ensures ∙ (ap (λ (ls : List LayerSpec). own_shapes ls c.as_slice-2.result.now) c.as_slice.ensures ∙ ap (own_shapes spec.layers) c.as_slice-2.ensures) in
     record {
-      number = c.next_number-number.ensures ∙ ap (λ (b : JobLists). b.next_job) c.jobs.ensures;
+      number = c.next_number-number.ensures.value ∙ ap (λ (b : JobLists). b.next_job) c.jobs.ensures;
       shape_is = ap as_shape layers
           ∙ own_shape_is f spec (placed f spec) (placed_is f spec c.requires.accepted) (length f.shows) c.requires.rows.jobs c.requires.formed.each_layer lists found c.in_ok-places.ensures.counts;
     }

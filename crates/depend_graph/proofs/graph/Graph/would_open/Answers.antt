@@ -5,7 +5,7 @@ use Rattle.farm_types.specs.Sums.{total_at}
 use Rattle.depend_graph.specs.Graph.{GraphLists, groups_left, is_flagged, unmet_of, with_all_done}
 use Rattle.depend_graph.specs.Inside.{watches}
 use Rattle.depend_graph.specs.Listed.{ListedLists}
-use Rattle.depend_graph.specs.Trial.{IsTried, is_at, nothing_laid}
+use Rattle.depend_graph.specs.Trial.{IsTried, is_at, nothing_laid, nothing_met}
 use Rattle.depend_graph.proofs.Following.{start_tried}
 use Rattle.depend_graph.proofs.NothingOpens.{none_done, none_unmet}
 use Rattle.depend_graph.proofs.Thinned.{there_done, there_left, there_unmet}
@@ -30,8 +30,8 @@ returns c =
     let g = c.args.self.now in
     let last = with_all_done g c.args.done.now in
     let all : GraphLists = record { done = a.done.items; depends = watches ds } in
-    let tried : IsTried c.as_slice-2.result.now a.unmet.items nothing_laid [] all =
-    subst (λ (xs : List ListedLists). IsTried xs a.unmet.items nothing_laid [] all) (sym c.as_slice-2.ensures.value) (start_tried ds a.unmet.items a.left a.done.items kept.depends kept.sums kept.counts kept.done_counted) in
+    let tried : IsTried c.as_slice-2.result.now a.unmet.items nothing_laid [] nothing_met all =
+    subst (λ (xs : List ListedLists). IsTried xs a.unmet.items nothing_laid [] nothing_met all) (sym c.as_slice-2.ensures.value) (start_tried ds a.unmet.items a.left a.done.items kept.depends kept.sums kept.counts kept.done_counted) in
     let undone : All (λ slot. is_flagged a.done.items slot ≡ false) c.args.done.now =
     subst (λ (h : GraphLists). All (λ slot. is_flagged h.done slot ≡ false) c.args.done.now) (sym c.self.view_is) c.requires.undone in
     let was : (slot : ℕ) → unmet_of g.depends slot ≡ total_at c.as_slice-3.result.now slot =
