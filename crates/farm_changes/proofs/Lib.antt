@@ -1,6 +1,6 @@
 mod CountedHosts
 mod DraftedRows
-pub mod FreeSlots
+mod FramesPut
 mod HeardAlone
 mod HostsStay
 mod KilledAttempts
@@ -10,3 +10,5 @@ mod OperatedFrames
 mod OperatedJobs
 mod OwnAttempts
 mod PlannedBoots
+mod RowsPut
+pub mod FreeSlots

@@ -11,6 +11,9 @@ mod prepare_slots;
 mod preparing;
 mod refused;
 mod reports;
+mod row_boot;
+mod row_changes;
+mod row_job;
 mod rows_of;
 
 pub use applying::{apply, record, reserve};
