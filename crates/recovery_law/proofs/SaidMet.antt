@@ -64,7 +64,8 @@ module _ (f : Farm) where
 
   -- ---- whose marks they are
 
-  abbrev MarksOf : DependRow → MetRow → Type 0
+  -- a mark of a group of the depend, which isn't satisfied
+  abbrev pub MarksOf : DependRow → MetRow → Type 0
   MarksOf d r = ((settled_row f d).met_all ≡ false) × (n : ℕ) × (g : Group) × (slice_get (groups_of f d) n ≡ Some g) × (met_row d g ≡ r)
 
   own_mark : (d : DependRow) (b : Bool) (n : ℕ) (r : MetRow) → (settled_row f d).met_all ≡ b → slice_get (cond b [] (map (met_row d) (filter (is_met_now f d) (groups_of f d)))) n ≡ Some r → MarksOf d r
@@ -74,7 +75,8 @@ module _ (f : Farm) where
       let there = at_kept (is_met_now f d) (groups_of f d) n g.0 g.1 in
       (is, there.0, g.0, there.1, g.2)
 
-  mark_of : (ds : List DependRow) (n : ℕ) (r : MetRow) → slice_get (met_rows f ds) n ≡ Some r → (m : ℕ) × (d : DependRow) × (slice_get ds m ≡ Some d) × MarksOf d r
+  -- each mark is of a group of one of the depends
+  pub mark_of : (ds : List DependRow) (n : ℕ) (r : MetRow) → slice_get (met_rows f ds) n ≡ Some r → (m : ℕ) × (d : DependRow) × (slice_get ds m ≡ Some d) × MarksOf d r
   mark_of [] n r at = absurd (none-some r at)
   mark_of (d ∷ ds) n r at = elim (in_either (met_rows_of f d) (met_rows f ds) n r at) [
     | inl here ↦ (0, d, refl, own_mark d (settled_row f d).met_all n r refl here)
@@ -86,7 +88,8 @@ module _ (f : Farm) where
   met_groups done d = refl
 
 module _ (f : Farm) (k : IsKeptFarm f) where
-  rows_are : met_rows f f.depends ≡ f.met
+  -- what is marked is what is met
+  pub rows_are : met_rows f f.depends ≡ f.met
   rows_are = ap (λ (g : Farm). g.met) k.depends.met
 
   rising_own : (n : ℕ) (d : DependRow) → slice_get f.depends n ≡ Some d → (b : Bool) → d.met_all ≡ b → IsRising met_key (GROUP_IDS * d.depend) (cond b [] (map (met_row d) (filter (is_met_now f d) (groups_of f d)))) (GROUP_IDS * (d.depend + 1))

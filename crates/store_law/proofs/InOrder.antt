@@ -1,0 +1,68 @@
+-- The rows of a farm are in the order of their kinds and ids.
+use Rattle.std.proofs.Common.{◌≡◌, ◌<◌, Bool, true, false, cond, ◌&&◌, List, [], ◌∷◌, map, Option, Some, None, Result, Ok, Err, Less, Equal, refl, ap, sym, ◌∙◌, inl, inr, ◌⊎◌}
+use Rattle.std.specs.Cmp.{nat_cmp_is}
+use Rattle.std.specs.List.{AllByRecursion}
+use Rattle.std.specs.List.Sorted.{IsStrictlySortedBy}
+use Rattle.std.specs.Ordering.{nat_cmp, ordering_then}
+use Rattle.farm_types.specs.Farm.{Farm, empty_farm}
+use Rattle.farm_types.specs.Kept.{IsKeptFarm}
+use Rattle.farm_types.proofs.Lists.{and_both}
+use Rattle.farm_rows.specs.declared.farm_row.FarmRow.{FarmRow}
+use Rattle.farm_rows.specs.Recovery.{RowKey, comes_after, farm_with, is_before, row_fits, with_stored}
+use Rattle.farm_rows.specs.Rows.{rows_of}
+use Rattle.farm_keeper.specs.Rows.{Key, key_cmp, key_of}
+use Rattle.farm_keeper.proofs.RowLaws.{key_total}
+use Rattle.recovery_law.proofs.Said.{rows_say}
+use Rattle.recovery_law.proofs.Steps.{before_parts}
+use Rattle.store_law.proofs.Keys.{pair_of}
+use Rattle.store_law.specs.Stored.{stored_row, stored_rows}
+
+less_by : (a b : Key) → (a.0 < b.0) ⊎ ((a.0 ≡ b.0) × (a.1 < b.1)) → key_cmp a b ≡ Less
+less_by a b (inl kind) = ap (λ o. ordering_then o (nat_cmp a.1 b.1)) (sym (nat_cmp_is a.0 b.0 Less kind))
+less_by a b (inr same) =
+    ap (λ o. ordering_then o (nat_cmp a.1 b.1)) (sym (nat_cmp_is a.0 b.0 Equal same.0)) ∙ sym (nat_cmp_is a.1 b.1 Less same.1)
+
+-- the order of recovery is that of stores
+pub less_before : (a b : Key) → is_before a b ≡ true → key_cmp a b ≡ Less
+less_before a b h = less_by a b (before_parts a b h)
+
+abbrev pub pairs : List FarmRow → List Key
+pairs rows = map key_of (map stored_row rows)
+
+-- ---- rows that say a farm
+
+err_ok : {X : Type 0} (key : RowKey) (x : X) → ◌≡◌ {A = Result X RowKey} (Err key) (Ok x) → ⊥
+err_ok key x e = cc
+
+taken_by : (b : Bool) (key : RowKey) (rest : Result Farm RowKey) (g : Farm) → cond b rest (Err key) ≡ Ok g → (b ≡ true) × (rest ≡ Ok g)
+taken_by true key rest g e = (refl, e)
+taken_by false key rest g e = absurd (err_ok key g e)
+
+-- a row is taken where it comes after the last one, and those behind it are taken after it
+taken : (last : Option RowKey) (f : Farm) (r : FarmRow) (rs : List FarmRow) (g : Farm) → farm_with last f (r ∷ rs) ≡ Ok g
+    → (comes_after last (pair_of r) ≡ true) × (farm_with (Some (pair_of r)) (with_stored f r) rs ≡ Ok g)
+taken last f r rs g e =
+    let both = taken_by (comes_after last (pair_of r) && row_fits f r) (pair_of r) (farm_with (Some (pair_of r)) (with_stored f r) rs) g e in
+    ((and_both (comes_after last (pair_of r)) (row_fits f r) both.0).0, both.1)
+
+later_all : (first next : Key) (keys : List Key) → key_cmp first next ≡ Less → AllByRecursion (λ key. key_cmp next key ≡ Less) keys → AllByRecursion (λ key. key_cmp first key ≡ Less) keys
+later_all first next [] less all = tt
+later_all first next (key ∷ keys) less all = (key_total.trans first next key less all.0, later_all first next keys less all.1)
+
+after_last : (last : Key) (f : Farm) (rows : List FarmRow) (g : Farm) → farm_with (Some last) f rows ≡ Ok g → AllByRecursion (λ key. key_cmp last key ≡ Less) (pairs rows)
+after_last last f [] g e = tt
+after_last last f (r ∷ rs) g e =
+    let step = taken (Some last) f r rs g e in
+    let less = less_before last (pair_of r) step.0 in
+    (less, later_all last (pair_of r) (pairs rs) less (after_last (pair_of r) (with_stored f r) rs g step.1))
+
+rise_with : (last : Option RowKey) (f : Farm) (rows : List FarmRow) (g : Farm) → farm_with last f rows ≡ Ok g → IsStrictlySortedBy key_cmp (pairs rows)
+unfolding IsStrictlySortedBy
+rise_with last f [] g e = tt
+rise_with last f (r ∷ rs) g e =
+    let step = taken last f r rs g e in
+    (after_last (pair_of r) (with_stored f r) rs g step.1, rise_with (Some (pair_of r)) (with_stored f r) rs g step.1)
+
+-- the rows of a farm rise by kind and id
+pub rows_rise : (f : Farm) → IsKeptFarm f → IsStrictlySortedBy key_cmp (map key_of (stored_rows f))
+rows_rise f kept = rise_with None empty_farm (rows_of f) f (rows_say f kept)

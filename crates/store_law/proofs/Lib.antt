@@ -1,0 +1,9 @@
+pub mod Batches
+pub mod FieldsFit
+pub mod InOrder
+pub mod Keys
+pub mod Members
+pub mod RangesFit
+pub mod RowsFit
+pub mod RowsThere
+pub mod StoredRows
