@@ -1,0 +1,15 @@
+pub mod Finishes
+pub mod FoundFrames
+pub mod FrameFits
+pub mod FrameKept
+pub mod Frames
+pub mod Kept
+pub mod KnownEnds
+pub mod LayerKept
+pub mod Layers
+pub mod Named
+pub mod Numbers
+pub mod Once
+pub mod RangeTexts
+pub mod Shapes
+pub mod Until

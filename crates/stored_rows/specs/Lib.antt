@@ -1,0 +1,5 @@
+pub mod Inside
+pub mod Known
+pub mod Ranges
+pub mod SoFar
+pub mod Told
