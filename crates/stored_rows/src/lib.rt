@@ -20,5 +20,6 @@ mod show_row;
 mod stored_rows;
 mod sub_row;
 mod subs;
+mod within;
 
 pub use stored_rows::{MOST_BASE, StoredRows};

@@ -1,0 +1,110 @@
+//! The forms of a depend's row.
+
+ghost use Rattle.std.specs.Prelude.{◌≡◌};
+ghost use Rattle.farm_types.specs.Formed.{is_frame_named, is_layer_name, names_frame, names_layer, names_target_frame, names_target_layer};
+ghost use Rattle.farm_types.specs.Kept.{is_formed_depend, is_formed_end, is_given};
+
+use farm_types::{DependEnd, DependKind, DependRow, Text, is_name};
+
+/// Whether each end has a job's number, and a layer and a frame where the depend's kind names them, each of its form.
+pub(crate) fn is_formed(depend: &DependRow) -> bool
+    ensures { result ≡ is_formed_depend depend.now }
+{
+    let kind = depend.kind;
+    is_formed_end(&depend.waiter, names_layer(kind), names_frame(kind))
+        && is_formed_end(
+            &depend.target,
+            names_target_layer(kind),
+            names_target_frame(kind),
+        )
+}
+
+// Whether the end has a job's number, and what it is to have.
+fn is_formed_end(end: &DependEnd, layered: bool, framed: bool) -> bool
+    ensures { result ≡ is_formed_end layered framed end.now }
+{
+    1 <= end.job.0
+        && (is_layer_given(layered, &end.layer)
+            && (is_layer_name(&end.layer)
+                && (is_frame_given(framed, end.frame) && is_frame_named(end.frame))))
+}
+
+// There is a layer exactly where the flag says so.
+fn is_layer_given(layered: bool, layer: &Option<Text>) -> bool
+    ensures { result ≡ is_given layered layer.now }
+{
+    if layered {
+        layer.is_some()
+    } else {
+        layer.is_none()
+    }
+}
+
+// There is a frame exactly where the flag says so.
+fn is_frame_given(framed: bool, frame: Option<i32>) -> bool
+    ensures { result ≡ is_given framed frame }
+{
+    if framed {
+        frame.is_some()
+    } else {
+        frame.is_none()
+    }
+}
+
+// A name of a layer, where there is one.
+fn is_layer_name(layer: &Option<Text>) -> bool
+    ensures { result ≡ is_layer_name layer.now }
+{
+    match layer {
+        None => true,
+        Some(name) => is_name(name.as_str()),
+    }
+}
+
+// A number of a frame, where there is one.
+fn is_frame_named(frame: Option<i32>) -> bool
+    ensures { result ≡ is_frame_named frame }
+{
+    match frame {
+        None => true,
+        Some(number) => -9_999_999 <= number && number <= 9_999_999,
+    }
+}
+
+// Whether a kind of depend names a layer of the waiting end, and a frame in it.
+fn names_layer(kind: DependKind) -> bool
+    ensures { result ≡ names_layer kind }
+{
+    !matches!(
+        kind,
+        DependKind::JobOnJob | DependKind::JobOnLayer | DependKind::JobOnFrame
+    )
+}
+
+fn names_frame(kind: DependKind) -> bool
+    ensures { result ≡ names_frame kind }
+{
+    matches!(
+        kind,
+        DependKind::FrameOnJob | DependKind::FrameOnLayer | DependKind::FrameOnFrame
+    )
+}
+
+// Whether it names a layer of the other end, and a frame in it.
+fn names_target_layer(kind: DependKind) -> bool
+    ensures { result ≡ names_target_layer kind }
+{
+    !matches!(
+        kind,
+        DependKind::JobOnJob | DependKind::LayerOnJob | DependKind::FrameOnJob
+    )
+}
+
+fn names_target_frame(kind: DependKind) -> bool
+    ensures { result ≡ names_target_frame kind }
+{
+    matches!(
+        kind,
+        DependKind::JobOnFrame | DependKind::LayerOnFrame | DependKind::FrameOnFrame
+    )
+}
