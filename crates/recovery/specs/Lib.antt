@@ -1,0 +1,3 @@
+-- Recovery: the farm of rows of bytes.
+pub mod Drafts
+pub mod Recovered

@@ -1,0 +1,81 @@
+-- The farm of rows of bytes, or why there is none.
+use Rattle.std.specs.Prelude.{◌≡◌, ◌==◌, ◌&&◌, Bool, true, false, List, [], ◌∷◌, Option, None, Some, Result, Ok, Err, if◌then◌else◌}
+use Rattle.farm_keeper.specs.declared.row.Row.{Row}
+use Rattle.farm_types.specs.Farm.{Farm}
+use Rattle.farm_rows.specs.declared.farm_row.FarmRow.{FarmRow}
+use Rattle.farm_rows.specs.Recovery.{RowKey, end_fault, is_before, key_of, row_fits, with_stored}
+use Rattle.farm_rows.specs.Rows.{row_id, row_kind}
+use Rattle.recovery.specs.declared.fault.RecoverFault.{RecoverFault}
+use Rattle.recovery.specs.declared.fault.RecoverFault.TheVariants.{BadBytes, BreaksFarm, NoMemory}
+use Rattle.row_codec.specs.RowFields.{row_text}
+use Rattle.row_codec.specs.RowReading.{row_from}
+use Rattle.stored_rows.specs.Told.{Takes, Told, none_told}
+
+abbrev pub given_key : Row → RowKey
+given_key r = (r.kind, r.id)
+
+abbrev pub bad_bytes : RowKey → RecoverFault
+bad_bytes key = BadBytes key.0 key.1
+
+abbrev pub breaks_farm : RowKey → RecoverFault
+breaks_farm key = BreaksFarm key.0 key.1
+
+-- the first row is the farm's own, and each other one comes after the one before it
+abbrev pub may_follow : Option RowKey → RowKey → Bool
+may_follow None key = key.0 == 1 && key.1 == 0
+may_follow (Some last) key = is_before last key
+
+-- after the last row none may be at fault
+abbrev pub all_ended : Farm → Option RowKey → Result Farm RecoverFault
+all_ended f None = Ok f
+all_ended f (Some key) = Err (breaks_farm key)
+
+-- the bytes are a row, which fits the farm so far
+abbrev pub read_with : Option FarmRow → Farm → RowKey → (FarmRow → Result Farm RecoverFault) → Result Farm RecoverFault
+read_with None f key rest = Err (bad_bytes key)
+read_with (Some r) f key rest = if row_fits f r then rest r else Err (breaks_farm key)
+
+-- the farm that rows say with those before them, or the first one at fault
+abbrev pub recovered_with : Option RowKey → Farm → List Row → Result Farm RecoverFault
+recovered_with last f [] = all_ended f (end_fault f)
+recovered_with last f (r ∷ rs) =
+    if may_follow last (given_key r) then read_with (row_from r.kind r.id r.bytes) f (given_key r) (λ row. recovered_with (Some (given_key r)) (with_stored f row) rs)
+    else Err (breaks_farm (given_key r))
+
+abbrev pub recovered_from : Told → List Row → Result Farm RecoverFault
+recovered_from t rows = recovered_with t.last t.farm rows
+
+abbrev pub recovered : List Row → Result Farm RecoverFault
+recovered rows = recovered_from none_told rows
+
+-- what was answered is what was said, unless memory ran out
+abbrev pub IsRecovered : {X : Type 0} → Result X RecoverFault → Result X RecoverFault → Type 0
+IsRecovered said (Ok x) = said ≡ Ok x
+IsRecovered said (Err (BadBytes kind id)) = said ≡ Err (BadBytes kind id)
+IsRecovered said (Err (BreaksFarm kind id)) = said ≡ Err (BreaksFarm kind id)
+IsRecovered said (Err NoMemory) = Unit {0}
+
+-- a row was taken, so that what the rows after it say is what they say with it, or it is at fault, unless memory ran out
+abbrev pub IsTaken : Told → Row → Told → Result (Unit {0}) RecoverFault → Type 0
+IsTaken old r new (Ok done) = (rest : List Row) → recovered_from old (r ∷ rest) ≡ recovered_from new rest
+IsTaken old r new (Err (BadBytes kind id)) = (rest : List Row) → recovered_from old (r ∷ rest) ≡ Err (BadBytes kind id)
+IsTaken old r new (Err (BreaksFarm kind id)) = (rest : List Row) → recovered_from old (r ∷ rest) ≡ Err (BreaksFarm kind id)
+IsTaken old r new (Err NoMemory) = Unit {0}
+
+-- the row that the bytes are, or there is none, unless memory ran out
+abbrev pub IsRead : Row → Result FarmRow RecoverFault → Type 0
+IsRead r (Ok x) = row_from r.kind r.id r.bytes ≡ Some x
+IsRead r (Err (BadBytes kind id)) = (row_from r.kind r.id r.bytes ≡ None) × (kind ≡ r.kind) × (id ≡ r.id)
+IsRead r (Err (BreaksFarm kind id)) = ⊥
+IsRead r (Err NoMemory) = Unit {0}
+
+-- the row was added, or breaks the farm, unless memory ran out
+abbrev pub IsJoined : Told → FarmRow → Told → Result (Unit {0}) RecoverFault → Type 0
+IsJoined old r new (Ok done) = Takes true old r new
+IsJoined old r new (Err (BreaksFarm kind id)) = Takes false old r new × ((kind, id) ≡ key_of r)
+IsJoined old r new (Err (BadBytes kind id)) = ⊥
+IsJoined old r new (Err NoMemory) = Unit {0}
+
+-- a row with its kind, its id and its bytes
+abbrev pub spelled_row : FarmRow → Row
+spelled_row r = record { kind = row_kind r; id = row_id r; bytes = row_text r }

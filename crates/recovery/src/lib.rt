@@ -1,0 +1,12 @@
+//! Recovery: the farm of a store's rows, or the first row at fault.
+#![tactic(auto)]
+
+mod draft;
+mod fault;
+mod laws;
+mod recovering;
+
+pub use draft::FarmDraft;
+pub use fault::{DraftFault, RecoverFault};
+pub use laws::{farms_are_recovered, no_rows_are_the_empty_farm, rows_recovered_are_the_farms};
+pub use recovering::recover;

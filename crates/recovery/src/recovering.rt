@@ -1,0 +1,94 @@
+//! The farm of a store's rows.
+
+ghost use Rattle.std.specs.Prelude.{◌≡◌, [], true};
+ghost use Rattle.recovery.specs.Recovered.{IsJoined, IsRead, IsRecovered, IsTaken, given_key, may_follow, recovered, recovered_from};
+
+use crate::draft::FarmDraft;
+use crate::fault::{DraftFault, RecoverFault};
+use farm_core::Farm;
+use farm_keeper::Row;
+use farm_rows::FarmRow;
+use row_codec::{RowFault, decode};
+use std::alloc::Global;
+
+/// The farm of these rows, which are taken as they are given, or the first row at fault. Of each in turn: one that doesn't come after the one before it by
+/// its kind, then its id, or that is the first one and isn't the farm's own, breaks the farm; then one whose bytes are no row is bad; then one that doesn't
+/// fit those before it breaks the farm. After the last row one may break the farm that all are there of. No rows at all are the empty farm.
+pub fn recover(alloc: Global, rows: &[Row]) -> Result<Farm, RecoverFault>
+    ensures { IsRecovered (recovered rows.now) result }
+{
+    let mut draft = FarmDraft::make(alloc)?;
+    for row in rows {
+        if let Err(fault) = take(alloc, &mut draft, row) {
+            return Err(fault);
+        }
+    }
+    finish(alloc, draft)
+}
+
+// Takes the next row.
+fn take(alloc: Global, draft: &mut FarmDraft, row: &Row) -> Result<(), RecoverFault>
+    ensures { IsTaken draft.old row.now draft.new result }
+{
+    let kind = row.kind;
+    let id = row.id;
+    if may_follow(draft.last(), (kind, id)) {
+        return take_next(alloc, draft, row);
+    }
+    Err(RecoverFault::BreaksFarm { kind, id })
+}
+
+// Takes a row that is in order.
+fn take_next(alloc: Global, draft: &mut FarmDraft, row: &Row) -> Result<(), RecoverFault>
+    requires { may_follow draft.old.last (given_key row.now) ≡ true }
+    ensures { IsTaken draft.old row.now draft.new result }
+{
+    row_codec::rows_are_read_as_spelled();
+    match read(alloc, row) {
+        Ok(row) => add(alloc, draft, row),
+        Err(fault) => Err(fault),
+    }
+}
+
+// Whether the row is the farm's own, where it is the first, or comes after the last one.
+fn may_follow(last: Option<(u8, u64)>, key: (u8, u64)) -> bool
+    ensures { result ≡ may_follow last key }
+{
+    match last {
+        None => key.0 == 1 && key.1 == 0,
+        Some(last) => last.0 < key.0 || (last.0 == key.0 && last.1 < key.1),
+    }
+}
+
+// The row that the bytes are.
+fn read(alloc: Global, row: &Row) -> Result<FarmRow, RecoverFault>
+    ensures { IsRead row.now result }
+{
+    match decode(alloc, row.kind, row.id, row.bytes.as_slice()) {
+        Ok(row) => Ok(row),
+        Err(RowFault::BadBytes { kind, id }) => Err(RecoverFault::BadBytes { kind, id }),
+        Err(RowFault::NoMemory) => Err(RecoverFault::NoMemory),
+    }
+}
+
+// Adds a row to the draft.
+fn add(alloc: Global, draft: &mut FarmDraft, row: FarmRow) -> Result<(), RecoverFault>
+    ensures { IsJoined draft.old row draft.new result }
+{
+    match draft.add(alloc, row) {
+        Ok(()) => Ok(()),
+        Err(DraftFault::Breaks { kind, id }) => Err(RecoverFault::BreaksFarm { kind, id }),
+        Err(DraftFault::NoMemory) => Err(RecoverFault::NoMemory),
+    }
+}
+
+// The farm of the draft's rows.
+fn finish(alloc: Global, draft: FarmDraft) -> Result<Farm, RecoverFault>
+    ensures { IsRecovered (recovered_from draft []) result }
+{
+    match draft.finish(alloc) {
+        Ok(farm) => Ok(farm),
+        Err(DraftFault::Breaks { kind, id }) => Err(RecoverFault::BreaksFarm { kind, id }),
+        Err(DraftFault::NoMemory) => Err(RecoverFault::NoMemory),
+    }
+}
