@@ -2,9 +2,11 @@ pub mod Added
 pub mod Chained
 pub mod Forgotten
 pub mod Kept
+pub mod MarkedAt
 pub mod MarksLeft
 pub mod Older
 pub mod PlaceChanged
 pub mod Restored
 pub mod RowsThere
 pub mod Satisfied
+pub mod WaitingDown

@@ -116,6 +116,14 @@ without_waiter_in b job = record b { rows = without_waiter job b.rows; graph = g
 abbrev pub row_in : DependLists → ℕ → Option DependRow
 row_in b depend = find (λ (d : DependRow). d.depend == depend) b.rows
 
+-- the numbers of the depends in which the job waits, the last one first, before those found so far
+abbrev pub waiting_from : ℕ → List ℕ → List DependRow → List ℕ
+waiting_from job found [] = found
+waiting_from job found (d ∷ ds) = waiting_from job (if waits_by job d then d.depend ∷ found else found) ds
+
+abbrev pub waiting_in : DependLists → ℕ → List ℕ
+waiting_in b job = waiting_from job [] b.rows
+
 -- the number of the depend with the least number above that one
 abbrev pub next_in : DependLists → ℕ → Option ℕ
 next_in b after = option_map (λ (d : DependRow). d.depend) (find (λ (d : DependRow). nat_lt after d.depend) b.rows)

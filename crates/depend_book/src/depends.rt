@@ -1,11 +1,11 @@
 //! The book, and what is read of it.
 
 ghost use Rattle.std.specs.Prelude.{◌≡◌, ◌≤◌, true, false, length, option_copied, All, IfOk, map, nat_eq};
-ghost use Rattle.std.specs.List.{IsDistinct};
+ghost use Rattle.std.specs.List.{IsDistinct, list_any};
 ghost use Rattle.farm_types.specs.Depends.{are_done};
 ghost use Rattle.farm_types.specs.declared.limits.TheConstants.{MOST_DEPENDS, MOST_GROUPS};
-ghost use Rattle.depend_graph.specs.Graph.{HasMet, groups_at, groups_left, has_depend, is_flagged, opened_between, unmet_of, with_all_done, without_depend};
-ghost use Rattle.depend_book.specs.Book.{IsBook, mark_of, next_in, no_depends, row_in};
+ghost use Rattle.depend_graph.specs.Graph.{HasMet, groups_at, groups_left, has_depend, is_flagged, is_mark, opened_between, unmet_of, with_all_done, without_depend};
+ghost use Rattle.depend_book.specs.Book.{IsBook, mark_of, marks_of, next_in, no_depends, row_in};
 
 use crate::row_list::RowList;
 use depend_graph::{Graph, Marks, Opened};
@@ -126,6 +126,14 @@ impl Depends {
         ensures { IfOk result (λ marks. marks ≡ map (mark_of depend) (groups_at self.now.graph.depends depend)) }
     {
         self.graph.marks_of(alloc, depend)
+    }
+
+    /// Whether there is a mark of that position of the depend: a group there is met, and another group of the depend isn't.
+    pub fn is_marked(&self, depend: DependNo, position: u32) -> bool
+        ensures { result ≡ list_any (is_mark depend position) (marks_of self.now.graph.depends) }
+    {
+        self.kept();
+        self.graph.is_marked(depend, position)
     }
 
     /// The frames that would open if the depend was dropped, by slot, in order.

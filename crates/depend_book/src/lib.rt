@@ -10,6 +10,7 @@ mod places;
 mod restoring;
 mod room;
 mod row_list;
+mod waiting;
 
 pub use depends::Depends;
 pub use new_depend::NewDepend;

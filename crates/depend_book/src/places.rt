@@ -123,8 +123,8 @@ pub(crate) fn empty(places: &mut Vec<RowPlace>, depend: DependNo) -> Option<Depe
     older_at(places.as_slice(), place)
 }
 
-// What came before the row at a place in its job.
-fn older_at(places: &[RowPlace], at: usize) -> Option<DependNo>
+/// What came before the row at a place in its job.
+pub(crate) fn older_at(places: &[RowPlace], at: usize) -> Option<DependNo>
     requires { at < length places.now }
     ensures { Some result ≡ option_map (λ x. x.older) (slice_get places.now at) }
 {

@@ -1,4 +1,5 @@
 pub mod AddedDepend
+pub mod AllMet
 pub mod Bared
 pub mod Before
 pub mod Closed

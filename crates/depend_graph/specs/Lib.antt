@@ -10,6 +10,7 @@ pub mod Listed
 pub mod ListedInside
 pub mod Marked
 pub mod Meeting
+pub mod MetAt
 pub mod OpenedInside
 pub mod Passing
 pub mod Spare

@@ -1,12 +1,14 @@
 //! A depend as the graph lists it.
 
 ghost use Rattle.std.specs.Prelude.{◌≡◌, ◌<◌, ◌-◌, ◌^◌, IfOk, Some, length, map, slice_get};
+ghost use Rattle.std.specs.List.{list_any};
 ghost use Rattle.farm_types.specs.declared.limits.TheConstants.{MOST_GROUPS};
 ghost use Rattle.farm_types.specs.declared.depend.Group.{Group};
 ghost use Rattle.farm_types.specs.Farm.{changed_at};
 ghost use Rattle.depend_graph.specs.Flow.{is_due, lowered, met_at, raised};
 ghost use Rattle.depend_graph.specs.Bare.{edge_changed, with_next, with_prev};
-ghost use Rattle.depend_graph.specs.Listed.{emptied, is_enough, is_there, mark_for};
+ghost use Rattle.depend_graph.specs.Listed.{IsListed, emptied, is_enough, is_there, mark_for, watched_by, watched_with};
+ghost use Rattle.depend_graph.specs.MetAt.{has_mark, is_met_at};
 ghost use Rattle.depend_graph.specs.Trial.{becomes_due};
 ghost use Rattle.depend_graph.specs.declared.listed.Count.{Count};
 
@@ -111,6 +113,17 @@ impl Listed {
         marks_for(alloc, self.depend, self.groups.as_slice())
     }
 
+    /// Whether a group at that position is marked: it is met, and another one isn't.
+    pub(crate) fn is_marked(&self, position: u32) -> bool
+        requires { IsListed self.now }
+        ensures { result ≡ has_mark position (watched_with self.now.groups self.now.counts) }
+    {
+        if self.unmet == 0 {
+            return false;
+        }
+        is_met_among(self.groups.as_slice(), self.counts.as_slice(), position)
+    }
+
     /// Whether the group at a place is met.
     pub(crate) fn is_met(&self, group: u32) -> bool
         requires { group < length self.now.counts }
@@ -209,6 +222,26 @@ impl Listed {
         }
         self.unmet = self.unmet.saturating_sub(1);
     }
+}
+
+// Whether a group at that position is met.
+fn is_met_among(groups: &[Group], counts: &[Count], position: u32) -> bool
+    requires { length counts.now ≡ length groups.now }
+    ensures { result ≡ list_any (is_met_at position) (watched_with groups.now counts.now) }
+{
+    for place in 0..groups.len() {
+        if is_met_there(&groups[place], counts[place], position) {
+            return true;
+        }
+    }
+    false
+}
+
+// Whether the group is met, and at that position.
+fn is_met_there(group: &Group, count: Count, position: u32) -> bool
+    ensures { result ≡ is_met_at position (watched_by group.now count) }
+{
+    count.met && group.position == position
 }
 
 // The marks that groups of a depend have once they are met.

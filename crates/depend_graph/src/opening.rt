@@ -3,6 +3,7 @@
 ghost use Rattle.std.specs.Prelude.{◌≡◌, true, false, IfOk, All, map, nat_eq};
 ghost use Rattle.std.specs.List.{IsDistinct};
 ghost use Rattle.depend_graph.specs.Graph.{HasMet, group_mark, groups_at, has_depend, is_flagged, opened_between, with_all_done, without_depend};
+ghost use Rattle.depend_graph.specs.MetAt.{has_mark};
 
 use crate::dropping::{find_place, place_of};
 use crate::graph::Graph;
@@ -47,6 +48,16 @@ impl Graph {
             return Ok(Items::new(alloc));
         };
         self.depends[place as usize].marks(alloc)
+    }
+
+    /// Whether a group of the depend at that position is marked: it is met, and another group of the depend isn't.
+    pub fn is_marked(&self, depend: DependNo, position: u32) -> bool
+        ensures { result ≡ has_mark position (groups_at self.now.depends depend) }
+    {
+        match find_place(self.depends.as_slice(), depend) {
+            None => false,
+            Some(place) => self.depends[place as usize].is_marked(position),
+        }
     }
 
     /// The frames that would open if the depend was dropped, by slot, in order.

@@ -73,6 +73,13 @@ impl Books {
         self.moment
     }
 
+    /// Whether an entry has made the farm.
+    pub fn is_recorded(&self) -> bool
+        ensures { result ≡ self.now.recorded }
+    {
+        self.recorded
+    }
+
     /// The slots, each at its number, up to the last that was ever used.
     pub fn slots(&self) -> &[SlotRow]
         ensures value { result.now ≡ self.now.slots }

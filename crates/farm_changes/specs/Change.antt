@@ -1,5 +1,5 @@
 -- Changes that were prepared: what each does to the farm, and what it needs of it.
-use Rattle.std.specs.Prelude.{ℕ, ◌≡◌, ◌<◌, ◌++◌, ◌∷◌, [], true, false, map, length, Option, None, Some, Result, Ok, Err}
+use Rattle.std.specs.Prelude.{ℕ, ◌≡◌, ◌<◌, ◌++◌, ◌∷◌, [], Bool, true, false, map, length, Option, None, Some, Result, Ok, Err}
 use Rattle.alloc_tags.specs.Book.{check_of}
 use Rattle.farm_types.specs.declared.answer.Answer.{Answer}
 use Rattle.farm_types.specs.declared.entry.Entry.{Entry}
@@ -46,6 +46,11 @@ with_rows f change = installed (at_moment f change.moment) change.rows
 -- the farm after the change
 abbrev pub after_change : Farm → Change → Farm
 after_change f change = with_more (with_rows f change) change.moment change.more
+
+-- a job is added
+abbrev pub adds_job : More → Bool
+adds_job (more.Job placing spec) = true
+adds_job other = false
 
 -- ---- what a change needs of the farm
 

@@ -1,6 +1,7 @@
 //! Changes of the farm that were prepared.
 
 ghost use Rattle.std.specs.Prelude.{◌≡◌};
+ghost use Rattle.farm_changes.specs.Change.{adds_job};
 
 use alloc_tags::Spare;
 use farm_draft::Rows;
@@ -73,6 +74,20 @@ impl Change {
         ensures { result ≡ self.now.answer }
     {
         self.answer
+    }
+
+    /// The moment (seconds) that the farm comes to with the change.
+    pub fn moment(&self) -> u64
+        ensures { result ≡ self.now.moment }
+    {
+        self.moment
+    }
+
+    /// Whether a job is added.
+    pub fn adds_job(&self) -> bool
+        ensures { result ≡ adds_job self.now.more }
+    {
+        matches!(self.more, More::Job { .. })
     }
 
     /// The host that a report is of, and none for another act.

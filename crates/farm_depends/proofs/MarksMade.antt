@@ -10,6 +10,7 @@ use Rattle.farm_rows.specs.declared.farm_row.FarmRow.TheVariants as row
 use Rattle.depend_graph.specs.declared.marks.Marks.{Marks}
 use Rattle.depend_graph.specs.Graph.{HasMet, Watch, Watched, groups_at, is_mark, is_met, is_satisfied, met_between, met_group, met_where, was_met, was_satisfied, with_all_done}
 use Rattle.depend_book.specs.Book.{DependLists, IsBook, all_done_in, dropped_in, mark_of, marks_in, marks_of, row_in, row_of, rows_of, watch_number}
+use Rattle.depend_book.proofs.MarkedAt.{AreNumbered, marks_at, none_below, numbered_book, numbered_head, said_at}
 use Rattle.depend_book.proofs.Satisfied.{Keeps, marked_by, rows_marked}
 use Rattle.farm_depends.proofs.BookChanges.{all_done_is}
 use Rattle.farm_depends.proofs.DependRows.{MarksChange, has_position, row_with}
@@ -108,82 +109,6 @@ module _ (become : Watched → Watched) (same : (x : Watched) → (become x).gro
       ∙ mark_by (list_all is_met gs) (list_all is_met (map become gs)) (any_at p gs) (met_between p gs (map become gs)) (place_at p gs) (any_stands p gs) (met_stands gs) (all_stay gs) (none_met gs)
 
 -- ---- the groups of one depend among all
-
-abbrev has_mark : ℕ → ℕ → Watch → Bool
-has_mark n p w = eqb w.depend n && mark_in p w.groups
-
-and_none : (b : Bool) → (b && false) ≡ false
-and_none true = refl
-and_none false = refl
-
-marked_groups : (d n p : ℕ) (gs : List Watched) → list_any (is_mark n p) (map (mark_of d) (filter is_met gs)) ≡ (eqb d n && any_at p gs)
-marked_groups d n p [] = sym (and_none (eqb d n))
-marked_groups d n p (x ∷ xs) = by x.met (marked_groups d n p xs)
-  where
-    by_number : (e q a : Bool) → ((e && q) || (e && a)) ≡ (e && (q || a))
-    by_number true q a = refl
-    by_number false q a = refl
-
-    by : (m : Bool) → list_any (is_mark n p) (map (mark_of d) (filter is_met xs)) ≡ (eqb d n && any_at p xs)
-        → list_any (is_mark n p) (map (mark_of d) (cond m (x ∷ filter is_met xs) (filter is_met xs))) ≡ (eqb d n && ((m && eqb x.group.position p) || any_at p xs))
-    by true more = ap (λ (b : Bool). (eqb d n && eqb x.group.position p) || b) more ∙ by_number (eqb d n) (eqb x.group.position p) (any_at p xs)
-    by false more = more
-
-marks_any : (n p : ℕ) (ws : List Watch) → list_any (is_mark n p) (marks_of ws) ≡ list_any (has_mark n p) ws
-marks_any n p [] = refl
-marks_any n p (w ∷ ws) =
-    list_any-append (is_mark n p) (marks_in w) (marks_of ws)
-    ∙ λ i. by (is_satisfied w) i || marks_any n p ws i
-  where
-    by : (b : Bool) → list_any (is_mark n p) (cond b [] (map (mark_of w.depend) (filter is_met w.groups))) ≡ (eqb w.depend n && (not b && any_at p w.groups))
-    by true = sym (and_none (eqb w.depend n))
-    by false = marked_groups w.depend n p w.groups
-
--- the numbers of the graph's depends are those of rows that rise
-record AreNumbered (low : ℕ) (ws : List Watch) : Type 0 where
-  rows : List DependRow
-  high : ℕ
-  rise : IsRising depend_key low rows high
-  numbers : map depend_key rows ≡ map watch_number ws
-
-numbered_book : (b : DependLists) → IsBook b → AreNumbered 1 b.graph.depends
-numbered_book b book = record { rows = b.rows; high = b.next; rise = book.rise; numbers = book.numbers }
-
-numbered_head : (low : ℕ) (w : Watch) (ws : List Watch) → AreNumbered low (w ∷ ws) → (low ≤ w.depend) × AreNumbered (w.depend + 1) ws
-numbered_head low w ws k = by k.rows k.rise k.numbers
-  where
-    by : (rows : List DependRow) → IsRising depend_key low rows k.high → map depend_key rows ≡ map watch_number (w ∷ ws) → (low ≤ w.depend) × AreNumbered (w.depend + 1) ws
-    by [] rise numbers = absurd (nil-cons w.depend (map watch_number ws) numbers)
-    by (d ∷ ds) rise numbers =
-        let first : d.depend ≡ w.depend = same_head d.depend w.depend (map depend_key ds) (map watch_number ws) numbers in
-        (omega (arith, rise.0, first), record { rows = ds; high = k.high; rise = subst (λ (m : ℕ). IsRising depend_key (m + 1) ds k.high) first rise.1; numbers = same_tail d.depend w.depend (map depend_key ds) (map watch_number ws) numbers })
-
--- what is said of the depend of a number, one after the other, is said of its groups
-module _ (said : ℕ → Watch → Bool) (of : List Watched → Bool) (n : ℕ) (is : (w : Watch) → said n w ≡ (eqb w.depend n && of w.groups)) (nothing : of [] ≡ false) where
-  none_below : (low : ℕ) (ws : List Watch) → AreNumbered low ws → n < low → list_any (said n) ws ≡ false
-  none_below low [] k below = refl
-  none_below low (w ∷ ws) k below =
-      let next = numbered_head low w ws k in
-      let other : eqb w.depend n ≡ false = ne_eqb w.depend n (λ e. absurd (omega (arith, next.0, e, below))) in
-      (λ i. is w i || list_any (said n) ws) ∙ ((λ i. (other i && of w.groups) || list_any (said n) ws) ∙ none_below (w.depend + 1) ws next.1 (omega (arith, next.0, below)))
-
-  said_at : (low : ℕ) (ws : List Watch) → AreNumbered low ws → list_any (said n) ws ≡ of (groups_at ws n)
-  said_at low [] k = sym nothing
-  said_at low (w ∷ ws) k = by (eqb w.depend n) refl (said_at (w.depend + 1) ws next.1)
-    where
-      next : (low ≤ w.depend) × AreNumbered (w.depend + 1) ws
-      next = numbered_head low w ws k
-
-      by : (b : Bool) → eqb w.depend n ≡ b → list_any (said n) ws ≡ of (groups_at ws n) → (said n w || list_any (said n) ws) ≡ of (cond (eqb w.depend n) w.groups (groups_at ws n))
-      by true here more =
-          let none = none_below (w.depend + 1) ws next.1 (let e : w.depend ≡ n = eqb-true w.depend n here in omega (arith, e)) in
-          (λ i. is w i || none i) ∙ ((λ i. (here i && of w.groups) || false) ∙ (or_none (of w.groups) ∙ sym (ap (λ (b : Bool). of (cond b w.groups (groups_at ws n))) here)))
-      by false here more =
-          (λ i. is w i || list_any (said n) ws) ∙ ((λ i. (here i && of w.groups) || list_any (said n) ws) ∙ (more ∙ sym (ap (λ (b : Bool). of (cond b w.groups (groups_at ws n))) here)))
-
--- marks
-marks_at : (n p : ℕ) (ws : List Watch) → AreNumbered 1 ws → list_any (is_mark n p) (marks_of ws) ≡ mark_in p (groups_at ws n)
-marks_at n p ws k = marks_any n p ws ∙ said_at (λ m w. has_mark m p w) (mark_in p) n (λ w. refl) refl 1 ws k
 
 places_of : (n p : ℕ) (gs : List Watched) → list_any (is_mark n p) (map (mark_of n) gs) ≡ place_at p gs
 places_of n p [] = refl

@@ -79,7 +79,7 @@ row_in layers job (Some s) (Some x) kept =
     ap (λ (q : Option Frame). for_some q (λ (y : Frame). eqb y.job job && list_any (λ (l : LayerRow). eqb l.place y.layer) (layers_of layers job))) k.0
     ∙ (frame_in layers job x (eqb x.job job) refl good ∙ sym (ap (λ (q : Option Frame). for_some q (λ (y : Frame). eqb y.job job)) k.0))
 
-all_in : (layers : List LayerRow) (slots : List SlotRow) (job n : ℕ) → list_all (is_kept_slot layers) slots ≡ true → is_in_layers slots job (layers_of layers job) n ≡ for_some (slice_get slots n) (is_frame_of job)
+pub all_in : (layers : List LayerRow) (slots : List SlotRow) (job n : ℕ) → list_all (is_kept_slot layers) slots ≡ true → is_in_layers slots job (layers_of layers job) n ≡ for_some (slice_get slots n) (is_frame_of job)
 all_in layers slots job n kept = by_row (slice_get slots n) refl where
   by_row : (o : Option SlotRow) → slice_get slots n ≡ o → for_some o (λ (s : SlotRow). for_some s.frame (λ (x : Frame). eqb x.job job && list_any (λ (l : LayerRow). eqb l.place x.layer) (layers_of layers job))) ≡ for_some o (is_frame_of job)
   by_row None at = refl

@@ -95,16 +95,16 @@ has_its f rows slot x there =
 
 module _ (f : Farm) (b : DependLists) (e : Entry) (change : Change) (w : Follow) (whole : IsWhole f b) (made : Makes f e change)
     (follows : Follows (joined f b) (joined (after_change f change) b) e.act w) (c : IsCompleting e.act) where
-  abbrev old : Farm
+  abbrev pub old : Farm
   old = joined f b
 
-  abbrev now : Farm
+  abbrev pub now : Farm
   now = joined (after_change f change) b
 
-  made_farm : now ≡ acted old e
+  pub made_farm : now ≡ acted old e
   made_farm = ap (λ (g : Farm). joined g b) made.farm ∙ joined_acted b f e
 
-  completes : CompletesFrames old now
+  pub completes : CompletesFrames old now
   completes =
       let moment = moment_of old e.moment in
       let there = kept_hosts old whole.kept.rows in
@@ -130,10 +130,10 @@ module _ (f : Farm) (b : DependLists) (e : Entry) (change : Change) (w : Follow)
       let there = for_some-there (slice_get now.slots slot) (is_frame_of x.0.job) t.0 t.1 mine in
       has_its old whole.kept.rows slot x.0 (sym (frames_of_same old.slots now.slots stands.1 x.0.job slot) ∙ there)))
 
-  abbrev then : Farm
+  abbrev pub then : Farm
   then = after_follow now w
 
-  frames : (job slot : ℕ) → for_some (slice_get then.slots slot) (is_frame_of job) ≡ for_some (slice_get f.slots slot) (is_frame_of job)
+  pub frames : (job slot : ℕ) → for_some (slice_get then.slots slot) (is_frame_of job) ≡ for_some (slice_get f.slots slot) (is_frame_of job)
   frames = frames_of_same f.slots then.slots (frames_then f.slots now.slots then.slots stands.1 (follow_stand now.slots w))
 
   done_then : (slot : ℕ) → is_done then.slots slot ≡ (is_done f.slots slot || is_listed w.done slot)
@@ -145,7 +145,7 @@ module _ (f : Farm) (b : DependLists) (e : Entry) (change : Change) (w : Follow)
   long : length f.slots ≡ length then.slots
   long = zip_length SamePlace f.slots now.slots stands.1 ∙ zip_length SamePlace now.slots then.slots (follow_stand now.slots w)
 
-  jobs_then : then.jobs ≡ f.jobs
+  pub jobs_then : then.jobs ≡ f.jobs
   jobs_then = ap (λ (g : Farm). g.jobs) follows.farm ∙ (followed_jobs now e.act c ∙ stands.0)
 
   -- exactly those finish of which no frame is left

@@ -1,7 +1,7 @@
 -- The jobs that finish may, each at its turn.
-use Rattle.std.proofs.Common.{◌≡◌, ◌≤◌, ℕ, zero, suc, ◌+◌, Bool, true, false, ◌&&◌, not, eqb, ltb, List, [], ◌∷◌, length, Option, Some, None, refl, sym, ap, ◌∙◌, arith, length-append}
+use Rattle.std.proofs.Common.{◌≡◌, ℕ, zero, suc, ◌+◌, Bool, true, false, ◌&&◌, not, eqb, ltb, List, [], ◌∷◌, Option, Some, None, refl, sym, ◌∙◌, arith}
 use Rattle.std.specs.Prelude.{is_some}
-use Rattle.std.specs.List.{AllByRecursion, filter, list_any, slice_get}
+use Rattle.std.specs.List.{AllByRecursion, list_any, slice_get}
 use Rattle.std.proofs.lemmas.Bool.{false≢true, lt-ltb}
 use Rattle.farm_types.specs.declared.attempt.ProcRow.{ProcRow}
 use Rattle.farm_types.specs.declared.slot_row.Frame.{Frame}
@@ -10,7 +10,7 @@ use Rattle.farm_types.specs.declared.states.FrameState.{FrameState}
 use Rattle.farm_types.specs.declared.states.FrameState.TheVariants as frame_state
 use Rattle.farm_types.specs.Depends.{is_done_state}
 use Rattle.farm_types.specs.Farm.{Farm, for_some}
-use Rattle.farm_types.specs.Kept.{KeepsRows, is_of_pending, is_pending_job}
+use Rattle.farm_types.specs.Kept.{KeepsRows, is_of_pending}
 use Rattle.farm_types.specs.Operators.{is_left_of}
 use Rattle.farm_types.specs.Rising.{IsRising}
 use Rattle.farm_types.specs.Run.{HasItsAttempt, IsAttemptOf}
@@ -19,14 +19,13 @@ use Rattle.farm_types.proofs.Lists.{list_all-from_at}
 use Rattle.depend_law.specs.Ending.{CanEnd, Ends}
 use Rattle.depend_law.proofs.FinishesAll.{later_ends}
 use Rattle.depend_law.proofs.Without.{any_at}
-use Rattle.farm_law.proofs.Filtered.{filter_among}
-use Rattle.farm_law.proofs.FinishedOne.{is_among}
 use Rattle.farm_law.proofs.FinishedKept.{kept_one, number}
 use Rattle.farm_books.specs.Finish.{has_ended}
 use Rattle.farm_finish.specs.Closing.{left_in}
 use Rattle.farm_finish.specs.Finishing.{CanFinishAll, MayFinish}
 use Rattle.farm_finish.proofs.EndsLaw.{any_left}
 use Rattle.farm_finish.proofs.LeftFrames.{left_sum}
+use Rattle.farm_finish.proofs.Turns.{pending_some}
 
 -- ---- attempts
 
@@ -51,12 +50,6 @@ none_at test slots n s none at = by_test (test s) refl where
   by_test false is = is
 
 -- ---- one job
-
-pending_some : (job : ℕ) (f : Farm) → KeepsRows f → is_of_pending f.jobs job ≡ true → 1 ≤ length (filter is_pending_job f.jobs)
-pending_some job f rows pending =
-    let among = is_among job 1 f.jobs f.next_job rows.jobs.jobs_rise pending in
-    let is = ap (filter is_pending_job) among.are ∙ filter_among is_pending_job among.before among.itself among.behind true among.pending in
-    omega (arith, ap length is, length-append (filter is_pending_job among.before) (among.itself ∷ filter is_pending_job among.behind))
 
 pub may_one : (f : Farm) (job : ℕ) → KeepsRows f → is_of_pending f.jobs job ≡ true → list_any (is_left_of job) f.slots ≡ false → MayFinish (lists_of f) job
 may_one f job rows pending none =

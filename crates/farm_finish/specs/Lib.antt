@@ -1,3 +1,7 @@
+pub mod Adding
+pub mod AfterAct
 pub mod Cleared
 pub mod Closing
 pub mod Finishing
+pub mod Gone
+pub mod Versions

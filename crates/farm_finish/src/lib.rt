@@ -5,6 +5,11 @@ mod applying;
 mod clearing;
 mod counting;
 mod preparing;
+mod rows;
+mod rows_gone;
+mod rows_job;
+mod versions;
 
 pub use applying::apply_finish;
 pub use preparing::prepare_finish;
+pub use rows::finish_rows;

@@ -16,7 +16,7 @@ pub use examples::{every_kind_has_its_rows, new_farms_have_one_row, unused_slots
 pub use farm_row::FarmRow;
 pub use frame_row::{FrameRow, StoredFrame, StoredState};
 pub use head_row::HeadRow;
-pub use ids::{GROUP_IDS, LAYER_IDS};
+pub use ids::{GROUP_IDS, LAYER_IDS, group_id, layer_id};
 pub use recovering::{rows_at_fault_are_named, rows_give_the_farm_back};
 pub use row_change::RowChange;
 pub use row_key::RowKey;

@@ -1,8 +1,8 @@
 -- Where more jobs are finished than are kept: the one that finished first.
-use Rattle.std.proofs.Common.{◌≡◌, ℕ, zero, suc, ◌+◌, ◌*◌, ◌≤◌, ◌<◌, ◌||◌, Bool, true, false, not, eqb, ltb, List, [], ◌∷◌, map, filter, length, Option, Some, refl, sym, ap, subst, ◌∙◌, arith}
+use Rattle.std.proofs.Common.{◌≡◌, ℕ, zero, suc, ◌+◌, ◌*◌, ◌≤◌, ◌<◌, ◌||◌, Bool, true, false, not, cond, eqb, ltb, List, [], ◌∷◌, map, filter, length, drop, Option, Some, refl, sym, ap, subst, ◌∙◌, arith}
 use Rattle.std.specs.Prelude.{get_or, nat_eq, nat_le, nat_lt}
 use Rattle.std.specs.List.{AllByRecursion, IsDistinct, find, list_all, slice_get}
-use Rattle.std.proofs.lemmas.Bool.{false≢true, eqb-true, eqb-false, and_from, ltb-true, ltb-false, le-leb, leb-true, lt-ltb, le-ltb}
+use Rattle.std.proofs.lemmas.Bool.{false≢true, eq-eqb, eqb-true, eqb-false, and_from, ltb-true, ltb-false, le-leb, leb-true, lt-ltb, le-ltb}
 use Rattle.std.proofs.lemmas.List.{length-map}
 use Rattle.std.proofs.lemmas.Map.Keys.{IsDistinct-head, IsDistinct-tail}
 use Rattle.std.proofs.lemmas.Option.{none-some, same_Some}
@@ -15,9 +15,9 @@ use Rattle.farm_types.specs.Kept.{finish_of}
 use Rattle.farm_types.specs.Rising.{IsRising, job_key}
 use Rattle.farm_types.proofs.Lists.{and_both, list_all-at, list_all-from_at}
 use Rattle.job_book.specs.declared.ready_jobs.TheConstants.{JOB_NUMBERS}
-use Rattle.job_book.specs.Finished.{finish_key}
-use Rattle.job_book.specs.Ready.{job_of, put_key, sorted}
-use Rattle.job_book.proofs.LeftJobs.{find_numbered, not_true}
+use Rattle.job_book.specs.Finished.{KeepsFinished, finish_key, finished_of}
+use Rattle.job_book.specs.Ready.{drop_key, job_of, put_key, sorted}
+use Rattle.job_book.proofs.LeftJobs.{find_numbered, finished_left, not_true}
 use Rattle.job_book.proofs.ReadyLists.{at_bounds, length-put, length-sorted, number_of_key, one_of, same_filter}
 
 abbrev keys_of : List JobRow → List ℕ
@@ -186,6 +186,9 @@ first_key : (keys : List ℕ) → 0 < length keys → HasFirst keys
 first_key [] some = absurd (omega (arith, some))
 first_key (k ∷ ks) some = record { key = k; rest = ks; is = refl }
 
+dropped : (key : ℕ) (ks : List ℕ) → drop_key key (key ∷ ks) ≡ ks
+dropped key ks = ap (λ (b : Bool). cond b ks (key ∷ drop_key key ks)) (eq-eqb key key refl)
+
 module _ (jobs : List JobRow) (high : ℕ) (most : high ≤ JOB_NUMBERS) (rise : IsRising job_key 0 jobs high) (keys numbers : List ℕ) (keys_are : keys ≡ keys_of jobs) (numbers_are : numbers ≡ map job_of keys) where
   as_many : length numbers ≡ length (filter is_finished jobs)
   as_many = ap (λ (ns : List ℕ). length ns) numbers_are ∙ length-map keys job_of ∙ ap (λ (ns : List ℕ). length ns) keys_are ∙ length-keys_of jobs
@@ -211,3 +214,12 @@ module _ (jobs : List JobRow) (high : ℕ) (most : high ≤ JOB_NUMBERS) (rise :
     goes differ =
         ap (λ (n : ℕ). filter (λ (j : JobRow). not (eqb j.job n)) jobs) its_number
         ∙ first_goes jobs high most rise f.key itself differ (lt-ltb MOST_FINISHED (length (filter is_finished jobs)) (omega (arith, more, as_many)))
+
+    -- the later ones are left
+    pub later_left : KeepsFinished jobs keys → finished_of (filter (λ (j : JobRow). not (eqb j.job first)) jobs) ≡ drop 1 numbers
+    later_left keeps =
+        let kept = finished_left itself.row itself.finished jobs high itself.place keys most rise itself.at keeps in
+        let number : first ≡ itself.row.job = its_number ∙ number_is jobs high most rise f.key itself in
+        let rest : drop_key (finish_key itself.row) keys ≡ f.rest = (λ i. drop_key (itself.its i) (f.is i)) ∙ dropped f.key f.rest in
+        ap (λ (n : ℕ). finished_of (filter (λ (j : JobRow). not (eqb j.job n)) jobs)) number
+        ∙ (ap (map job_of) (sym kept.keys_are ∙ rest) ∙ sym (ap (drop 1) (numbers_are ∙ ap (map job_of) f.is)))

@@ -29,6 +29,7 @@ pub mod ReadyKept
 pub mod ReadyLists
 pub mod InState
 pub mod FreePlaces
+pub mod FinishOrder
 pub mod RestoredBook
 pub mod RestoredCounts
 pub mod RestoredIndex

@@ -22,6 +22,13 @@ impl Jobs {
         self.entries.next()
     }
 
+    /// The number of the next job that finishes.
+    pub fn next_finish(&self) -> u64
+        ensures { result ≡ self.now.next_finish }
+    {
+        self.next_finish
+    }
+
     /// The number of the pending job of that name.
     pub fn pending(&self, name: &str) -> Option<JobNo>
         ensures { result ≡ option_map (λ j. j.job) (find (is_pending_named name.now) self.now.jobs) }

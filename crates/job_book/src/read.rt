@@ -4,6 +4,7 @@ ghost use Rattle.std.specs.Prelude.{◌≡◌, ◌==◌, ◌&&◌, ◌≤◌, �
 ghost use Rattle.farm_types.specs.Farm.{is_placed, slot_from};
 ghost use Rattle.farm_types.specs.declared.limits.TheConstants.{MOST_SHOWS, SLOT_LIMIT};
 ghost use Rattle.job_book.specs.Book.{job_named, job_after, IsLeastAbove, frame_at, frame_view, state_at, has_frame, has_job, counts_of};
+ghost use Rattle.job_book.specs.Finished.{finished_of};
 ghost use Rattle.job_book.specs.Index.{WaitsFirst, ready_of};
 
 use crate::counts::Counts;
@@ -106,6 +107,13 @@ impl Jobs {
         ensures { show < MOST_SHOWS → result.now ≡ ready_of self.now show }
     {
         jobs_in(self.ready.as_slice(), show.0 as usize)
+    }
+
+    /// The finished jobs, in the order of their finish.
+    pub fn finished(&self) -> &[JobNo]
+        ensures { result.now ≡ finished_of self.now.jobs }
+    {
+        self.finished.jobs()
     }
 
     /// How many frames of a job are in each state.

@@ -4,6 +4,11 @@
 mod key_parts;
 mod last_changes;
 mod old_rows;
+mod same_rows;
 
 pub use last_changes::exactly;
 pub use old_rows::OldRows;
+pub use same_rows::{
+    is_same_alloc, is_same_depend, is_same_frame, is_same_host, is_same_job, is_same_layer,
+    is_same_show,
+};

@@ -1,0 +1,26 @@
+-- Rows of slots that are put in one after the other, and the versions that are laid over the slots.
+use Rattle.std.proofs.Common.{◌≡◌, ◌≢◌, ◌<◌, ℕ, Bool, cond, eqb, List, [], ◌∷◌, ◌++◌, length, Option, Some, refl, sym, ap, ◌∙◌, ◌⊎◌, inl, inr, arith}
+use Rattle.std.specs.List.{slice_get, slice_set}
+use Rattle.std.proofs.lemmas.Bool.{eq-eqb, ne_eqb}
+use Rattle.farm_types.specs.declared.slot_row.SlotRow.{SlotRow}
+use Rattle.farm_types.proofs.Changed.{places, slice_get-set_other, slice_get-set_same}
+use Rattle.farm_types.proofs.Lists.{slice_get_below}
+use Rattle.farm_draft.specs.Rows.{put_slots}
+use Rattle.farm_depends.proofs.NewlyDone.{length-put_slots}
+use Rattle.farm_finish.specs.Gone.{version_in}
+use Rattle.farm_finish.specs.Versions.{AreLaid, version_or}
+
+pub put_more : (slots : List SlotRow) (es : List (ℕ × SlotRow)) (e : ℕ × SlotRow) → put_slots slots (es ++ e ∷ []) ≡ slice_set (put_slots slots es) e.0 e.1
+put_more slots [] e = refl
+put_more slots (x ∷ xs) e = put_more (slice_set slots x.0 x.1) xs e
+
+pub laid_more : (slots : List SlotRow) (es : List (ℕ × SlotRow)) (e : ℕ × SlotRow) (over next : ℕ → Option ℕ) → e.0 < length slots → AreLaid slots es over → ((n : ℕ) → next n ≡ cond (eqb n e.0) (Some e.1.version) (over n)) → AreLaid slots (es ++ e ∷ []) next
+laid_more slots es e over next within laid is n = by_place (places n e.0) where
+  by_place : (n ≡ e.0) ⊎ (n ≢ e.0) → version_or (next n) (slice_get slots n) ≡ version_in (slice_get (put_slots slots (es ++ e ∷ [])) n)
+  by_place (inl same) =
+      let old = slice_get_below (put_slots slots es) e.0 (omega (arith, within, length-put_slots slots es)) in
+      ap (λ (o : Option ℕ). version_or o (slice_get slots n)) (is n ∙ ap (λ (b : Bool). cond b (Some e.1.version) (over n)) (eq-eqb n e.0 same))
+      ∙ sym (ap version_in (ap (λ (ss : List SlotRow). slice_get ss n) (put_more slots es e) ∙ (ap (slice_get (slice_set (put_slots slots es) e.0 e.1)) same ∙ slice_get-set_same (put_slots slots es) e.0 old.0 e.1 old.1)))
+  by_place (inr apart) =
+      ap (λ (o : Option ℕ). version_or o (slice_get slots n)) (is n ∙ ap (λ (b : Bool). cond b (Some e.1.version) (over n)) (ne_eqb n e.0 apart))
+      ∙ (laid n ∙ sym (ap version_in (ap (λ (ss : List SlotRow). slice_get ss n) (put_more slots es e) ∙ slice_get-set_other (put_slots slots es) e.0 n e.1 apart)))
