@@ -1,6 +1,14 @@
+pub mod ActApart
 pub mod Amounts
 pub mod Applying
+pub mod BookedRows
 pub mod Bookings
+pub mod HeadAfter
 pub mod Kept
+pub mod MarksTold
 pub mod Numbers
 pub mod Prepared
+pub mod PushedAll
+pub mod RowsTold
+pub mod SameRow
+pub mod StagesMade

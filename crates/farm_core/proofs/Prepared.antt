@@ -113,6 +113,12 @@ module _ (f : Farm) (b : DependLists) (e : Entry) (done : act_change.Change) (m 
                   kept = subst IsKeptFarm (sym makes_farm) (kept_step beside e step whole.kept);
                 };
             unreserved = record { act = m.unreserved; follow = follows.unreserved };
+            staged =
+                record {
+                  act = sym (joined_change f b done) ∙ (ap (λ (g : Farm). joined g b) m.farm ∙ joined_acted b f e);
+                  follows = subst (λ (g : Farm). Follows beside g e.act w) (joined_change f b done) follows;
+                  jobs = closes_here;
+                };
             farm = makes_farm;
             answer = told_by f b (moment_of f e.moment) w.count e.act done.answer m.answer follows.counts;
           }

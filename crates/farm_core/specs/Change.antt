@@ -4,13 +4,14 @@ use Rattle.farm_types.specs.declared.entry.Entry.{Entry}
 use Rattle.farm_types.specs.EntryAnswers.{answer_of as entry_answer}
 use Rattle.farm_types.specs.Farm.{Farm}
 use Rattle.farm_types.specs.Kept.{IsKeptFarm}
-use Rattle.farm_types.specs.Step.{refusal_of, after, finish_each}
+use Rattle.farm_types.specs.Step.{refusal_of, acted, after, finish_each}
 use Rattle.depend_law.specs.Ending.{CanEnd}
 use Rattle.farm_changes.specs.Change as books
 use Rattle.farm_changes.specs.Change.{HasHeard}
 use Rattle.farm_places.specs.declared.fault.PrepareFault.{PrepareFault}
 use Rattle.farm_places.specs.declared.fault.PrepareFault.TheVariants.{Refused, NoMemory}
-use Rattle.farm_depends.specs.Follow.{FollowFits, after_follow, follow_reserved, spare_for}
+use Rattle.farm_depends.specs.Follow.{FollowFits, Follows, after_follow, follow_reserved, spare_for}
+use Rattle.farm_finish.specs.Closing.{closing}
 use Rattle.farm_core.specs.declared.change.Change.{Change}
 
 -- ---- what a change does
@@ -49,6 +50,12 @@ pub record IsReserved (change : Change) : Type 0 where
 abbrev pub reserved_of : Change → Change
 reserved_of change = record { act = books.reserved_of change.act; follow = follow_reserved change.follow; finish = change.finish }
 
+-- each part of the change makes what its stage of the entry makes: the act, what follows of depends, and the jobs that finish
+pub record IsStaged (f : Farm) (e : Entry) (change : Change) : Type 0 where
+  pub act : after_act f change ≡ acted f e
+  pub follows : Follows f (after_act f change) e.act change.follow
+  pub jobs : change.finish ≡ closing e.act (followed_by f change)
+
 -- The farm doesn't refuse the entry. The change fits the farm, makes the farm that the entry makes, and has the entry's answer.
 -- Its memory isn't taken yet.
 pub record Makes (f : Farm) (e : Entry) (change : Change) : Type 0 where
@@ -56,6 +63,7 @@ pub record Makes (f : Farm) (e : Entry) (change : Change) : Type 0 where
   pub heard : HasHeard f e.act change.act.heard
   pub ready : IsReady f change
   pub unreserved : IsUnreserved change
+  pub staged : IsStaged f e change
   pub farm : after_change f change ≡ after f e
   pub answer : change.act.answer ≡ entry_answer f e
 

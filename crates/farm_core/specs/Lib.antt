@@ -1,3 +1,4 @@
+pub mod AllRows
 pub mod Answers
 pub mod Change
 pub mod Reads

@@ -3,15 +3,16 @@
 
 mod booking;
 mod change;
-mod demo;
+mod changes;
 mod farm;
 mod following;
 mod look;
+mod old_rows;
 mod read;
 mod record;
 mod restore;
+mod rows;
 
 pub use change::Change;
-pub use demo::demo_farm;
 pub use farm::Farm;
 pub use farm_places::PrepareFault;

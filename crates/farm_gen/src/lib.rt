@@ -1,0 +1,6 @@
+//! Stated farms: the entries that make them.
+#![tactic(auto)]
+
+mod demo;
+
+pub use demo::demo_entries;

@@ -1,0 +1,16 @@
+use Rattle.std.proofs.Common.{sym, ◌∙◌}
+use Rattle.recorder.proofs.Stays.{empty_list, filled_list, told_stays, untold_stays}
+use Rattle.recorder.proofs.keeping.keep.Goals as goal
+
+pub returns-then-is_empty-clause-kept : goal.returns-then-is_empty-clause-kept
+returns-then-is_empty-clause-kept g c =
+    λ f e kept legal names.
+    untold_stays c.batches_make_the_rows.ensures.rows c.farms_differ_in_their_stores.ensures c.legal_runs_keep_farms.ensures.runs f e kept legal c.args.changes.now names
+    (empty_list c.args.changes.now (sym c.is_empty.ensures ∙ c.if-is_empty.true)) (g.K.Keeper.holds c.args.keeper.now) (g.K.Keeper.left c.args.keeper.now)
+
+pub returns-clause-kept : goal.returns-clause-kept
+returns-clause-kept g c =
+    λ f e kept legal names.
+    told_stays c.batches_make_the_rows.ensures.rows c.farms_differ_in_their_stores.ensures c.legal_runs_keep_farms.ensures.runs f e kept legal c.args.changes.now names
+    (filled_list c.args.changes.now (sym c.is_empty.ensures ∙ c.if-is_empty.false)) (g.K.Keeper.holds c.args.keeper.now) (g.K.Keeper.left c.args.keeper.now)
+    (g.K.Keeper.holds c.tell.new.keeper) (g.K.Keeper.left c.tell.new.keeper) c.tell.result c.tell.ensures.taken c.tell.ensures.kept c.tell.ensures.left_ok c.tell.ensures.left_err

@@ -1,0 +1,14 @@
+use Rattle.recorder.proofs.Recorded.{names_then, unchanged}
+use Rattle.recorder.proofs.keeping.make_ready.Goals as goal
+
+pub changes-requires : goal.changes-requires
+changes-requires g c = c.requires.makes
+
+pub returns-in_err-rows-clause-kept : goal.returns-in_err-rows-clause-kept
+returns-in_err-rows-clause-kept g c =
+    unchanged (g.K.Keeper.holds c.args.keeper.now) (g.K.Keeper.left c.args.keeper.now) c.args.farm.now c.args.entry.now c.from_residual.result c.from_residual.ensures.1
+
+pub returns-clause-kept : goal.returns-clause-kept
+returns-clause-kept g c =
+    c.reserve_and_keep.ensures.kept c.args.farm.now c.args.entry.now c.kept.ensures c.requires.legal
+    (names_then c.args.farm.now c.args.entry.now c.args.change.now c.requires.makes c.in_ok-rows.rows c.as_slice.result.now c.as_slice.ensures c.in_ok-rows.ensures)

@@ -1,0 +1,13 @@
+use Rattle.recorder.proofs.Recorded.{on_ok, unchanged}
+use Rattle.recorder.proofs.keeping.reserve_and_keep.Goals as goal
+
+pub returns-in_err-reserve-clause-kept : goal.returns-in_err-reserve-clause-kept
+returns-in_err-reserve-clause-kept g c =
+    λ f e kept legal names.
+    unchanged (g.K.Keeper.holds c.args.keeper.now) (g.K.Keeper.left c.args.keeper.now) f e c.from_residual.result c.from_residual.ensures.1
+
+pub returns-clause-ok : goal.returns-clause-ok
+returns-clause-ok g c = on_ok c.keep.result c.in_ok-reserve.ensures.ok
+
+pub returns-clause-kept : goal.returns-clause-kept
+returns-clause-kept g c = c.keep.ensures.kept

@@ -1,0 +1,193 @@
+//! A farm and a keeper of its rows, changed together.
+
+ghost use Rattle.std.specs.Prelude.{◌≡◌, ◌≤◌, true, Err, OnErr, OnOk};
+ghost use Rattle.std.specs.Result.{IsErrOf};
+ghost use Rattle.farm_types.specs.declared.entry.Entry.{Entry};
+ghost use Rattle.farm_types.specs.Booking.{may_book};
+ghost use Rattle.farm_types.specs.Farm as farms;
+ghost use Rattle.farm_types.specs.Kept.{IsKeptFarm};
+ghost use Rattle.farm_types.specs.Run.{IsLegalStep};
+ghost use Rattle.farm_types.specs.Step.{after};
+ghost use Rattle.farm_rows.specs.Changes.{NamesExactly};
+ghost use Rattle.farm_keeper.specs.Faults.{HasRisen};
+ghost use Rattle.farm_keeper.specs.Keeping.{Keeps, LeavesTaken, MayLeave, Takes};
+ghost use Rattle.farm_core.specs.Change.{after_change, reserved_of};
+ghost use Rattle.store_law.specs.Stored.{batch_of as stored_batch};
+ghost use Rattle.recorder.specs.declared.refusal.RecordFault.TheVariants as fault;
+ghost use Rattle.recorder.specs.Recording.{booking, Books, HasRecorded, IsOfEntry, Records, StaysRecorded};
+
+use crate::batch::batch_of;
+use crate::refusal::RecordFault;
+use depend_law::legal_runs_keep_farms;
+use farm_core::{Change, Farm};
+use farm_keeper::Keeper;
+use farm_rows::RowChange;
+use farm_types::{Entry, HostNo, Slot};
+use std::alloc::Global;
+use store_law::{batches_make_the_rows, farms_differ_in_their_stores};
+
+/// Records a change in the keeper and in the farm, or in neither.
+pub(crate) fn record_in<K: Keeper>(
+    alloc: Global,
+    farm: &mut Farm,
+    keeper: &mut K,
+    entry: &Entry,
+    change: Change,
+) -> Result<(), RecordFault>
+    requires { IsOfEntry farm.old entry.now change }
+    ensures farm { Records farm.old (after_change farm.old change) result farm.new }
+    ensures kept { HasRecorded (K.holds keeper.old) (K.left keeper.old) farm.old → HasRecorded (K.holds keeper.new) (K.left keeper.new) farm.new }
+    ensures told { K.tells keeper.new → K.tells keeper.old }
+    ensures cause { IsErrOf result fault.Store → HasRisen (K.faults keeper.old) (K.faults keeper.new) }
+    ensures rises { K.faults keeper.old ≤ K.faults keeper.new }
+{
+    let mut change = change;
+    match make_ready(alloc, farm, keeper, entry, &mut change) {
+        Ok(()) => {
+            farm.apply(change);
+            Ok(())
+        }
+        Err(fault) => refused(change, fault),
+    }
+}
+
+// The fault, for a change that isn't recorded.
+fn refused(_change: Change, fault: RecordFault) -> Result<(), RecordFault>
+    ensures { result ≡ Err fault }
+{
+    Err(fault)
+}
+
+// Takes the memory that the change needs, and tells the keeper of it. The farm is as before.
+fn make_ready<K: Keeper>(
+    alloc: Global,
+    farm: &mut Farm,
+    keeper: &mut K,
+    entry: &Entry,
+    change: &mut Change,
+) -> Result<(), RecordFault>
+    requires { IsOfEntry farm.old entry.now change.old }
+    ensures farm { farm.new ≡ farm.old }
+    ensures ok { OnOk result (change.new ≡ reserved_of change.old) }
+    ensures kept { StaysRecorded (K.holds keeper.old) (K.left keeper.old) (K.holds keeper.new) (K.left keeper.new) farm.old entry.now result }
+    ensures told { K.tells keeper.new → K.tells keeper.old }
+    ensures cause { IsErrOf result fault.Store → HasRisen (K.faults keeper.old) (K.faults keeper.new) }
+    ensures rises { K.faults keeper.old ≤ K.faults keeper.new }
+{
+    farm.kept();
+    let rows = farm.changes(alloc, entry, change)?;
+    reserve_and_keep(alloc, farm, keeper, change, rows.as_slice())
+}
+
+// Takes the memory that the change needs, and tells the keeper the changes of rows.
+fn reserve_and_keep<K: Keeper>(
+    alloc: Global,
+    farm: &mut Farm,
+    keeper: &mut K,
+    change: &mut Change,
+    rows: &[RowChange],
+) -> Result<(), RecordFault>
+    ensures farm { farm.new ≡ farm.old }
+    ensures ok { OnOk result (change.new ≡ reserved_of change.old) }
+    ensures kept { (f : farms.Farm) (e : Entry) → IsKeptFarm f → IsLegalStep f e → NamesExactly f (after f e) rows.now
+        → StaysRecorded (K.holds keeper.old) (K.left keeper.old) (K.holds keeper.new) (K.left keeper.new) f e result }
+    ensures told { K.tells keeper.new → K.tells keeper.old }
+    ensures cause { IsErrOf result fault.Store → HasRisen (K.faults keeper.old) (K.faults keeper.new) }
+    ensures rises { K.faults keeper.old ≤ K.faults keeper.new }
+{
+    farm.reserve(alloc, change)?;
+    keep(alloc, keeper, rows)
+}
+
+/// Books the slot's frame on the host, where it may be, in the keeper and in the farm, or in neither.
+pub(crate) fn book_in<K: Keeper>(
+    alloc: Global,
+    farm: &mut Farm,
+    keeper: &mut K,
+    slot: Slot,
+    host: HostNo,
+    moment: u64,
+) -> Result<bool, RecordFault>
+    ensures farm { Books farm.old slot host moment result farm.new }
+    ensures kept { HasRecorded (K.holds keeper.old) (K.left keeper.old) farm.old → HasRecorded (K.holds keeper.new) (K.left keeper.new) farm.new }
+    ensures told { K.tells keeper.new → K.tells keeper.old }
+    ensures cause { IsErrOf result fault.Store → HasRisen (K.faults keeper.old) (K.faults keeper.new) }
+    ensures rises { K.faults keeper.old ≤ K.faults keeper.new }
+{
+    if farm.may_book(slot, host) {
+        return book_there(alloc, farm, keeper, slot, host, moment);
+    }
+    Ok(false)
+}
+
+// Books a frame that may be booked.
+fn book_there<K: Keeper>(
+    alloc: Global,
+    farm: &mut Farm,
+    keeper: &mut K,
+    slot: Slot,
+    host: HostNo,
+    moment: u64,
+) -> Result<bool, RecordFault>
+    requires { may_book farm.old slot host ≡ true }
+    ensures farm { Books farm.old slot host moment result farm.new }
+    ensures kept { HasRecorded (K.holds keeper.old) (K.left keeper.old) farm.old → HasRecorded (K.holds keeper.new) (K.left keeper.new) farm.new }
+    ensures told { K.tells keeper.new → K.tells keeper.old }
+    ensures cause { IsErrOf result fault.Store → HasRisen (K.faults keeper.old) (K.faults keeper.new) }
+    ensures rises { K.faults keeper.old ≤ K.faults keeper.new }
+{
+    keep_booking(alloc, farm, keeper, slot, host, moment)?;
+    Ok(farm.book_if(slot, host, moment))
+}
+
+// Tells the keeper of a booking that may be.
+fn keep_booking<K: Keeper>(
+    alloc: Global,
+    farm: &Farm,
+    keeper: &mut K,
+    slot: Slot,
+    host: HostNo,
+    moment: u64,
+) -> Result<(), RecordFault>
+    requires { may_book farm.now slot host ≡ true }
+    ensures kept { StaysRecorded (K.holds keeper.old) (K.left keeper.old) (K.holds keeper.new) (K.left keeper.new) farm.now (booking slot host moment) result }
+    ensures told { K.tells keeper.new → K.tells keeper.old }
+    ensures cause { IsErrOf result fault.Store → HasRisen (K.faults keeper.old) (K.faults keeper.new) }
+    ensures rises { K.faults keeper.old ≤ K.faults keeper.new }
+{
+    farm.kept();
+    let rows = farm.booking_changes(alloc, slot, host, moment)?;
+    keep(alloc, keeper, rows.as_slice())
+}
+
+// Tells the keeper the changes, where there are any.
+fn keep<K: Keeper>(alloc: Global, keeper: &mut K, changes: &[RowChange]) -> Result<(), RecordFault>
+    ensures kept { (f : farms.Farm) (e : Entry) → IsKeptFarm f → IsLegalStep f e → NamesExactly f (after f e) changes.now
+        → StaysRecorded (K.holds keeper.old) (K.left keeper.old) (K.holds keeper.new) (K.left keeper.new) f e result }
+    ensures told { K.tells keeper.new → K.tells keeper.old }
+    ensures cause { IsErrOf result fault.Store → HasRisen (K.faults keeper.old) (K.faults keeper.new) }
+    ensures rises { K.faults keeper.old ≤ K.faults keeper.new }
+{
+    batches_make_the_rows();
+    farms_differ_in_their_stores();
+    legal_runs_keep_farms();
+    if changes.is_empty() {
+        return Ok(());
+    }
+    tell(alloc, keeper, changes)
+}
+
+// Commits the changes to the keeper as one batch.
+fn tell<K: Keeper>(alloc: Global, keeper: &mut K, changes: &[RowChange]) -> Result<(), RecordFault>
+    ensures taken { OnOk result (Takes (stored_batch changes.now) (K.holds keeper.old) (K.holds keeper.new)) }
+    ensures kept { OnErr result (Keeps (K.holds keeper.old) (K.holds keeper.new)) }
+    ensures left_ok { OnOk result (LeavesTaken (stored_batch changes.now) (K.holds keeper.old) (K.left keeper.new)) }
+    ensures left_err { OnErr result (MayLeave (stored_batch changes.now) (K.holds keeper.old) (K.left keeper.old) (K.left keeper.new)) }
+    ensures told { K.tells keeper.new → K.tells keeper.old }
+    ensures cause { IsErrOf result fault.Store → HasRisen (K.faults keeper.old) (K.faults keeper.new) }
+    ensures rises { K.faults keeper.old ≤ K.faults keeper.new }
+{
+    let batch = batch_of(alloc, changes)?;
+    keeper.commit(alloc, &batch)?;
+    Ok(())
+}
