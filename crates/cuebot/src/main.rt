@@ -1,11 +1,12 @@
 //! The scheduler's program. It reads requests from standard input, a line each, and answers them: `cuebot demo` over the farm of the
-//! demonstration, and `cuebot script :memory:` over a farm that begins empty.
+//! demonstration, and `cuebot script :memory:` over a farm that begins empty. Its store is in memory, and goes with it.
 #![tactic(auto)]
 
 ghost use Rattle.std.specs.Prelude.{◌≡◌};
 ghost use Rattle.std.specs.Process.{exit_status};
 
 use cue_io::{InputSource, OutputSink, SystemClock};
+use farm_keeper::MemoryKeeper;
 use farm_types::{Items, Text};
 use session::{Status, run_program};
 use std::env;
@@ -28,7 +29,7 @@ fn exit_code(status: Status) -> ExitCode
     ExitCode::from(status)
 }
 
-// Runs the program over the standard streams and the machine's clock.
+// Runs the program over the standard streams, the machine's clock, and a store in memory.
 fn run<R: Runtime + AllocGlobal, E: Write + Drop>(rt: &R, at_terminal: bool, stderr: E) -> Status {
     let Ok(words) = words_of(rt) else {
         return NO_MEMORY;
@@ -36,19 +37,24 @@ fn run<R: Runtime + AllocGlobal, E: Write + Drop>(rt: &R, at_terminal: bool, std
     let Ok(clock_rt) = rt.clone() else {
         return NO_MEMORY;
     };
+    let Ok(keeper) = MemoryKeeper::make(rt.alloc(), &[]) else {
+        return NO_MEMORY;
+    };
     let mut source = InputSource::make(rt.reader());
     let mut sink = OutputSink::make(io::writer(rt));
     let mut errors = OutputSink::make(stderr);
     let mut clock = SystemClock::make(clock_rt);
-    run_program(
+    let (status, _keeper) = run_program(
         rt.alloc(),
         words.as_slice(),
         at_terminal,
         &mut source,
         &mut sink,
         &mut errors,
+        keeper,
         &mut clock,
-    )
+    );
+    status
 }
 
 // The words after the program's name.

@@ -8,5 +8,6 @@ mod Plans
 mod Ranks
 mod Steps
 mod SubList
+mod UnderWay
 mod Views
 mod Waiting

@@ -1,17 +1,33 @@
 -- What a round of bookings does.
-use Rattle.std.specs.Prelude.{ℕ, ◌≡◌, List, take}
+use Rattle.std.specs.Prelude.{ℕ, ◌≡◌, ◌<◌, ◌++◌, true, List, ◌∷◌, length, take}
+use Rattle.farm_types.specs.Booking.{may_book}
 use Rattle.farm_types.specs.declared.dispatch.Candidate.{Candidate}
 use Rattle.farm_types.specs.declared.dispatch.Cut.{Cut}
 use Rattle.farm_types.specs.declared.dispatch.Cut.TheVariants as cut
+use Rattle.farm_types.specs.declared.entry.Entry.{Entry}
 use Rattle.farm_types.specs.Dispatch.{round_for, round_from}
 use Rattle.farm_types.specs.Farm.{Farm}
 use Rattle.farm_types.specs.Run.{run_of}
+use Rattle.recorder.specs.declared.refusal.RecordFault.{RecordFault}
+use Rattle.recorder.specs.declared.refusal.RecordFault.TheVariants as fault
 
--- the farm once the candidates were offered in turn, with so many bookings left
-abbrev pub after_offers : ℕ → Farm → ℕ → List Candidate → Farm
-after_offers left f moment cs = run_of f (round_from left f moment cs)
+-- the candidate is booked, or passed over: with these bookings, and so many left then, the round goes on as it goes from here
+pub record IsOffered (left : ℕ) (f : Farm) (moment : ℕ) (c : Candidate) (left_then : ℕ) (new : Farm) : Type 0 where
+  pub booked : List Entry
+  pub made : new ≡ run_of f booked
+  pub goes_on : (later : List Candidate) → booked ++ round_from left_then new moment later ≡ round_from left f moment (c ∷ later)
 
--- a round was walked to its end, or it ended after some of its bookings because memory ran out
+-- the candidate isn't booked: the store failed, which it does only at a booking that is due; or memory ran out
+abbrev pub FailsToOffer : ℕ → Farm → Candidate → RecordFault → Farm → Type 0
+FailsToOffer left f c fault.Store new = (0 < left) × (may_book f c.slot c.host ≡ true) × (new ≡ f)
+FailsToOffer left f c fault.NoMemory new = new ≡ f
+
+-- of these bookings all were made; or those before one that the store refused; or, as memory ran out, some of the first
+abbrev pub Ends : Farm → List Entry → Cut → Farm → Type 0
+Ends old bookings cut.Whole new = new ≡ run_of old bookings
+Ends old bookings cut.Store new = (k : ℕ) × (k < length bookings) × (new ≡ run_of old (take k bookings))
+Ends old bookings cut.Memory new = (k : ℕ) × (new ≡ run_of old (take k bookings))
+
+-- how a round that follows a report of the host ends
 abbrev pub IsRound : Farm → ℕ → ℕ → Cut → Farm → Type 0
-IsRound old host moment cut.Whole new = new ≡ run_of old (round_for old host moment)
-IsRound old host moment cut.Memory new = (k : ℕ) × (new ≡ run_of old (take k (round_for old host moment)))
+IsRound old host moment ended new = Ends old (round_for old host moment) ended new

@@ -1,5 +1,5 @@
 -- What is replied to lines, and the replies as JSON values with their keys in byte order.
-use Rattle.std.specs.Prelude.{ℕ, ◌==◌, ◌&&◌, ◌||◌, List, [], map, take, filter, filter_map, codes, Bool, true, false, not, Option, None, option_map, option_and_then, if◌then◌else◌}
+use Rattle.std.specs.Prelude.{ℕ, ◌==◌, ◌&&◌, ◌||◌, ◌++◌, ◌∷◌, List, [], map, take, filter, filter_map, codes, Bool, true, false, not, Option, None, option_map, option_and_then, if◌then◌else◌}
 use Rattle.std.specs.List.{list_any}
 use Rattle.serde_json.specs.Data.{Data, boolean, number, unsigned, string, array, object, no_members, member}
 use Rattle.serde_json.specs.View.{items_of}
@@ -41,7 +41,18 @@ whole n = number (unsigned n)
 
 -- ---- refusals
 
+-- the first row of the store at fault, by its kind and id
+unfoldable pub bad_store : ℕ → ℕ → Data
+bad_store kind id =
+    object (member (codes "id") (whole id) (member (codes "kind") (whole kind) (member (codes "ok") (boolean false) (member (codes "why") (string (codes "bad_store")) no_members))))
+
+abbrev pub bad_store_line : ℕ → ℕ → List ℕ
+bad_store_line kind id = compact_text (bad_store kind id) ++ 10 ∷ []
+
 -- a refusal without keys of its own
+unfoldable pub store_fault : Data
+store_fault = object (member (codes "code") (whole 15) (member (codes "ok") (boolean false) (member (codes "why") (string (codes "store")) no_members)))
+
 unfoldable pub no_memory : Data
 no_memory = object (member (codes "code") (whole 16) (member (codes "ok") (boolean false) (member (codes "why") (string (codes "memory")) no_members)))
 
@@ -247,6 +258,7 @@ report_reply f host report ended =
 -- the word of a reply for what ended its round
 abbrev pub cut_text : Cut → List ℕ
 cut_text cut.Whole = []
+cut_text cut.Store = codes "store"
 cut_text cut.Memory = codes "memory"
 
 -- ---- every reply
@@ -266,6 +278,7 @@ reply_data reply.TooLong = too_long
 reply_data (reply.BadRange layer fault) = bad_range layer fault
 reply_data (reply.BadAmount field) = bad_amount field
 reply_data (reply.Refused why) = refusal_data why
+reply_data reply.Store = store_fault
 reply_data reply.NoMemory = no_memory
 
 -- the text of a reply

@@ -1,5 +1,5 @@
 -- What is answered to lines: the entries that a line makes, its reply, and the bytes of a whole session.
-use Rattle.std.specs.Prelude.{ℕ, List, [], ◌∷◌, ◌++◌, map, take, length, nat_lt, Option, None, Some, Result, Ok, Err, if◌then◌else◌}
+use Rattle.std.specs.Prelude.{ℕ, Bool, true, false, List, [], ◌∷◌, ◌++◌, map, take, length, nat_lt, Option, None, Some, Result, Ok, Err, if◌then◌else◌}
 use Rattle.farm_types.specs.declared.entry.Entry.{Entry}
 use Rattle.farm_types.specs.declared.entry.Act.{Act}
 use Rattle.farm_types.specs.declared.entry.Act.TheVariants as act
@@ -20,14 +20,25 @@ use Rattle.farm_types.specs.EntryAnswers.{answer_of}
 use Rattle.farm_lines.specs.Reply.{reply_text, error_reply, ok_reply, report_reply}
 use Rattle.farm_lines.specs.declared.limits.TheConstants.{LINE_LIMIT}
 
--- Where memory ran out while a line was answered: nowhere; before anything was recorded; after so many bookings of the round; or for the
--- reply's text, after the whole round or after so many bookings.
+-- What the outside did while a line was answered: nothing; memory ran out before anything was recorded, or the store failed there; memory ran out
+-- after so many bookings of the round, or the store failed there; or memory ran out for the reply's text, after the whole round, or after so many
+-- bookings where one of the two had ended it.
 pub data Mark : Type 0 where
   Plain : Mark
   Memory : Mark
+  Store : Mark
   CutAfter : ℕ → Mark
+  StoreAfter : ℕ → Mark
   LatePlain : Mark
   LateCut : ℕ → Mark
+  LateStore : ℕ → Mark
+
+-- the store failed
+abbrev pub is_store_mark : Mark → Bool
+is_store_mark Store = true
+is_store_mark (StoreAfter k) = true
+is_store_mark (LateStore k) = true
+is_store_mark mark = false
 
 -- what a line makes: the entries recorded, in order, and the reply
 pub record Answered : Type 0 where
@@ -52,9 +63,12 @@ late entries = record { entries = entries; reply = reply.NoMemory }
 abbrev pub marked_answer : Farm → ℕ → Report → Entry → List Entry → Mark → Answered
 marked_answer f host report heard round Plain = with_round f host report heard round cut.Whole
 marked_answer f host report heard round Memory = only_reply reply.NoMemory
+marked_answer f host report heard round Store = only_reply reply.Store
 marked_answer f host report heard round (CutAfter k) = with_round f host report heard (take k round) cut.Memory
+marked_answer f host report heard round (StoreAfter k) = with_round f host report heard (take k round) cut.Store
 marked_answer f host report heard round LatePlain = late (heard ∷ round)
 marked_answer f host report heard round (LateCut k) = late (heard ∷ take k round)
+marked_answer f host report heard round (LateStore k) = late (heard ∷ take k round)
 
 -- a report that the farm accepts is of a host that is there
 abbrev pub accepted_answer : Farm → Report → ℕ → Mark → Option ℕ → Answered
@@ -89,17 +103,18 @@ act_of request.Tick = act.Tick
 abbrev pub entry_of : Request → ℕ → Entry
 entry_of asked moment = record { moment = moment; act = act_of asked }
 
--- one entry, and the reply of its numbers; or its refusal
-abbrev pub entry_answer : Farm → Entry → Option Refusal → Answered
-entry_answer f e (Some why) = only_reply (reply.Refused why)
-entry_answer f e None = record { entries = e ∷ []; reply = ok_reply e.act (answer_of f e) }
+-- one entry, and the reply of its numbers; or its refusal; or that the store failed
+abbrev pub entry_answer : Farm → Entry → Mark → Option Refusal → Answered
+entry_answer f e mark (Some why) = only_reply (reply.Refused why)
+entry_answer f e Store None = only_reply reply.Store
+entry_answer f e mark None = record { entries = e ∷ []; reply = ok_reply e.act (answer_of f e) }
 
 -- ---- a line
 
 -- what a request makes
 abbrev pub asked_answer : Farm → ℕ → Mark → Request → Answered
 asked_answer f moment mark (request.Report report) = report_answer f report moment mark (refusal_of f (heard_entry report moment))
-asked_answer f moment mark asked = entry_answer f (entry_of asked moment) (refusal_of f (entry_of asked moment))
+asked_answer f moment mark asked = entry_answer f (entry_of asked moment) mark (refusal_of f (entry_of asked moment))
 
 -- a malformed line, and a request
 abbrev pub request_answer : Farm → ℕ → Mark → Result Request RequestError → Answered
@@ -110,7 +125,7 @@ abbrev pub unless_memory : Mark → Answered → Answered
 unless_memory Memory answered = only_reply reply.NoMemory
 unless_memory mark answered = answered
 
--- what a line makes of the farm at a moment, by where memory ran out
+-- what a line makes of the farm at a moment, by what the outside did
 unfoldable pub answer_to : Farm → List ℕ → ℕ → Mark → Answered
 answer_to f line moment mark =
     if nat_lt LINE_LIMIT (length line) then only_reply reply.TooLong

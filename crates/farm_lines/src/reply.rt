@@ -52,6 +52,7 @@ pub enum Reply {
         field: Text,
     },
     Refused(Refusal),
+    Store,
     NoMemory,
 }
 

@@ -25,9 +25,10 @@ pub struct Candidate {
     pub host: HostNo,
 }
 
-/// What ended a round of bookings: its last candidate, or that memory ran out.
+/// What ended a round of bookings: its last candidate, a fault of the store, or that memory ran out.
 #[derive(Clone, Copy, Debug, PartialEq, Eq)]
 pub enum Cut {
     Whole,
+    Store,
     Memory,
 }

@@ -1,11 +1,7 @@
 -- The answer to a line, by cases.
-use Rattle.std.proofs.Common.{◌≡◌, ℕ, ◌<◌, ◌≤◌, cond, List, [], ◌∷◌, ◌++◌, length, take, refl, sym, ap, ◌∙◌, subst, Option, None, Some, Result, Err, inl, inr}
-use Rattle.std.proofs.lemmas.Bool.{le-ltb, lt-ltb}
-use Rattle.dispatch_plan.specs.Rounds.{IsRound}
+use Rattle.std.proofs.Common.{◌≡◌, ℕ, ◌<◌, ◌≤◌, cond, List, [], ◌∷◌, ◌++◌, length, refl, sym, ap, ◌∙◌, subst, None, Result, Ok, Err, inl, inr}
+use Rattle.std.proofs.lemmas.Bool.{le-ltb, lt-ltb, false≢true}
 use Rattle.farm_types.specs.declared.entry.Entry.{Entry}
-use Rattle.farm_types.specs.declared.refusal.Refusal.{Refusal}
-use Rattle.farm_types.specs.declared.dispatch.Cut.{Cut}
-use Rattle.farm_types.specs.declared.dispatch.Cut.TheVariants as cut
 use Rattle.farm_lines.specs.declared.reply.Reply.{Reply}
 use Rattle.farm_lines.specs.declared.reply.Reply.TheVariants as reply
 use Rattle.farm_lines.specs.declared.report.Report.{Report}
@@ -16,21 +12,22 @@ use Rattle.farm_lines.specs.declared.request.RequestFault.TheVariants as fault
 use Rattle.farm_core.specs.Change.{after_change}
 use Rattle.farm_core.specs.Change.{Makes, Prepares}
 use Rattle.farm_core.specs.declared.change.Change.{Change}
-use Rattle.farm_changes.specs.Change.{HasHeard}
+use Rattle.farm_keeper.specs.Faults.{HasRisen}
 use Rattle.farm_places.specs.declared.fault.PrepareFault.{PrepareFault}
 use Rattle.farm_places.specs.declared.fault.PrepareFault.TheVariants as prepare
 use Rattle.farm_types.specs.EntryAnswers.{answer_of}
-use Rattle.farm_types.specs.Dispatch.{round_for}
-use Rattle.farm_types.specs.Farm.{Farm, host_named}
-use Rattle.farm_lines.specs.Reply.{ok_reply, reply_text, report_reply}
+use Rattle.farm_types.specs.Farm.{Farm}
+use Rattle.farm_types.specs.Formed.{IsFormed}
+use Rattle.farm_lines.specs.Reply.{ok_reply, reply_text}
 use Rattle.farm_lines.specs.Request.{RequestError, request_of}
-use Rattle.farm_types.specs.Run.{run_of}
 use Rattle.farm_types.specs.Step.{HasCondition, refusal_of, after}
-use Rattle.farm_lines.specs.Transcript.{Mark, Plain, Memory, CutAfter, LatePlain, LateCut, Answered, accepted_answer, act_of, answer_to, asked_answer, entry_answer, entry_of, heard_entry, marked_answer, only_reply, report_answer, request_answer, unless_memory}
+use Rattle.farm_lines.specs.Transcript.{Mark, Plain, Memory, Store, StoreAfter, LateStore, Answered, act_of, answer_to, asked_answer, entry_answer, entry_of, only_reply, request_answer, unless_memory}
 use Rattle.report_codec.specs.Reads.{Fails}
-use Rattle.line_answers.specs.LineAnswers.{AnswersEntry, AnswersReport, IsAnswer, IsRecorded, IsRoundAnswer, IsUnprepared, fault_reply}
-use Rattle.line_answers.specs.Lines.{IsLineOf}
-use Rattle.line_answers.specs.Reports.{IsTold}
+use Rattle.recorder.specs.Recording.{ChangesRows, IsOfEntry}
+use Rattle.line_answers.specs.LineAnswers.{AnswersAsked, AnswersEntry, AnswersLine, IsAnswer, IsMarked, IsMarkedAnswer, IsRecorded, IsUnprepared, MayFail, MayStore, MayStoreEntry, fault_reply}
+use Rattle.line_answers.specs.declared.reply_line.ReplyLine.{ReplyLine}
+use Rattle.line_answers.specs.declared.reply_line.ReplyLine.TheVariants as reply_line
+use Rattle.line_answers.specs.Lines.{IsLineOf, shown}
 use Rattle.farm_lines.specs.declared.limits.TheConstants.{LINE_LIMIT}
 
 -- a line within the limit is answered by what it asks
@@ -45,38 +42,68 @@ unfolding answer_to
 long_answer f line moment mark h =
     ap (λ b. cond b (only_reply reply.TooLong) (unless_memory mark (request_answer f moment mark (request_of line)))) (lt-ltb LINE_LIMIT (length line) h)
 
--- a line is answered by what was read of it
-pub answered_line : (f : Farm) (line : List ℕ) (moment : ℕ) (new : Farm) (text : List ℕ) (read : Result Request RequestError) → length line ≤ LINE_LIMIT
-    → request_of line ≡ read → (mark : Mark) × IsAnswer f (unless_memory mark (request_answer f moment mark read)) new text
-    → (mark : Mark) × IsAnswer f (answer_to f line moment mark) new text
-answered_line f line moment new text read fits asks answered =
-    let mark = answered.0 in
-    let is : answer_to f line moment mark ≡ unless_memory mark (request_answer f moment mark read) =
-    line_within f line moment mark fits ∙ ap (λ r. unless_memory mark (request_answer f moment mark r)) asks in
-    (mark, subst (λ (a : Answered). IsAnswer f a new text) (sym is) answered.1)
+-- what is answered by a mark is answered by it in other words
+retold : (f new : Farm) (text : List ℕ) (before now : ℕ) (one other : Mark → Answered) (may later : Mark → Type 0)
+    → ((mark : Mark) → one mark ≡ other mark) → ((mark : Mark) → may mark → later mark)
+    → IsMarkedAnswer f one may new text before now → IsMarkedAnswer f other later new text before now
+retold f new text before now one other may later same stands answered = record {
+  mark = answered.mark;
+  answer = subst (λ (a : Answered). IsAnswer f a new text) (same answered.mark) answered.answer;
+  may_stand = stands answered.mark answered.may_stand;
+  cause = answered.cause;
+}
+
+-- a line is answered by what is asked
+pub answered_line : (f : Farm) (line : List ℕ) (moment : ℕ) (new : Farm) (text : List ℕ) (before now : ℕ) (asked : Request) → length line ≤ LINE_LIMIT
+    → request_of line ≡ Ok asked → AnswersAsked f asked moment new text before now → AnswersLine f line moment new text before now
+answered_line f line moment new text before now asked fits asks answered =
+    retold f new text before now (λ mark. unless_memory mark (asked_answer f moment mark asked)) (answer_to f line moment) (MayStore f moment asked) (IsMarked f line moment)
+    (λ mark. sym (line_within f line moment mark fits ∙ ap (λ r. unless_memory mark (request_answer f moment mark r)) asks)) (λ mark may is. (asked, asks, may)) answered
 
 -- ---- a reply alone
 
--- what is only replied, or that memory ran out
-replied : (f : Farm) (told : Reply) (text : List ℕ) (answers : Mark → Answered) → answers Plain ≡ only_reply told → IsLineOf told text
-    → (mark : Mark) × IsAnswer f (unless_memory mark (answers mark)) f text
-replied f told text answers is (inl e) = (Plain, subst (λ (a : Answered). IsAnswer f a f text) (sym is) (record { farm = refl; text = e }))
-replied f told text answers is (inr e) = (Memory, record { farm = refl; text = e })
+-- memory ran out before anything was recorded
+pub unreplied : (f : Farm) (text : List ℕ) (before now : ℕ) (answers : Mark → Answered) (may : Mark → Type 0) → may Memory → text ≡ reply_text reply.NoMemory ++ 10 ∷ []
+    → IsMarkedAnswer f (λ mark. unless_memory mark (answers mark)) may f text before now
+unreplied f text before now answers may stands line =
+    record { mark = Memory; answer = record { farm = refl; text = line }; may_stand = stands; cause = λ is. absurd (false≢true is) }
 
--- memory ran out, in any form
-unreplied : (f : Farm) (text : List ℕ) (answers : Mark → Answered) → IsLineOf reply.NoMemory text → (mark : Mark) × IsAnswer f (unless_memory mark (answers mark)) f text
-unreplied f text answers (inl e) = (Memory, record { farm = refl; text = e })
-unreplied f text answers (inr e) = (Memory, record { farm = refl; text = e })
+-- what is only replied, or that memory ran out
+pub replied : (f : Farm) (told : Reply) (text : List ℕ) (before now : ℕ) (answers : Mark → Answered) (may : Mark → Type 0) → may Plain → may Memory
+    → answers Plain ≡ only_reply told → IsLineOf told text → IsMarkedAnswer f (λ mark. unless_memory mark (answers mark)) may f text before now
+replied f told text before now answers may plain memory is (inl e) = record {
+  mark = Plain;
+  answer = subst (λ (a : Answered). IsAnswer f a f text) (sym is) (record { farm = refl; text = e });
+  may_stand = plain;
+  cause = λ store. absurd (false≢true store);
+}
+replied f told text before now answers may plain memory is (inr e) = unreplied f text before now answers may memory e
 
 -- ---- a malformed line
 
+-- memory ran out, in any form
+no_memory : (text : List ℕ) → IsLineOf reply.NoMemory text → text ≡ reply_text reply.NoMemory ++ 10 ∷ []
+no_memory text (inl e) = e
+no_memory text (inr e) = e
+
+faulted : (f : Farm) (moment : ℕ) (found : RequestFault) (read : Result Request RequestError) (text : List ℕ) (before now : ℕ) (may : Mark → Type 0) → may Plain → may Memory
+    → Fails found read → IsLineOf (fault_reply found) text → IsMarkedAnswer f (λ mark. unless_memory mark (request_answer f moment mark read)) may f text before now
+faulted f moment (fault.BadLine field) read text before now may plain memory fails line =
+    replied f (reply.BadLine field) text before now (λ mark. request_answer f moment mark read) may plain memory (ap (request_answer f moment Plain) fails) line
+faulted f moment (fault.BadRange layer found) read text before now may plain memory fails line =
+    replied f (reply.BadRange layer found) text before now (λ mark. request_answer f moment mark read) may plain memory (ap (request_answer f moment Plain) fails) line
+faulted f moment (fault.BadAmount field) read text before now may plain memory fails line =
+    replied f (reply.BadAmount field) text before now (λ mark. request_answer f moment mark read) may plain memory (ap (request_answer f moment Plain) fails) line
+faulted f moment fault.NoMemory read text before now may plain memory fails line =
+    unreplied f text before now (λ mark. request_answer f moment mark read) may memory (no_memory text line)
+
 -- its reply tells the fault, or that memory ran out
-pub faulted : (f : Farm) (moment : ℕ) (found : RequestFault) (read : Result Request RequestError) (text : List ℕ) → Fails found read → IsLineOf (fault_reply found) text
-    → (mark : Mark) × IsAnswer f (unless_memory mark (request_answer f moment mark read)) f text
-faulted f moment (fault.BadLine field) read text fails line = replied f (reply.BadLine field) text (λ mark. request_answer f moment mark read) (ap (request_answer f moment Plain) fails) line
-faulted f moment (fault.BadRange layer found) read text fails line = replied f (reply.BadRange layer found) text (λ mark. request_answer f moment mark read) (ap (request_answer f moment Plain) fails) line
-faulted f moment (fault.BadAmount field) read text fails line = replied f (reply.BadAmount field) text (λ mark. request_answer f moment mark read) (ap (request_answer f moment Plain) fails) line
-faulted f moment fault.NoMemory read text fails line = unreplied f text (λ mark. request_answer f moment mark read) line
+pub faulted_line : (f : Farm) (line : List ℕ) (moment : ℕ) (found : RequestFault) (text : List ℕ) (before now : ℕ) → length line ≤ LINE_LIMIT
+    → Fails found (request_of line) → IsLineOf (fault_reply found) text → AnswersLine f line moment f text before now
+faulted_line f line moment found text before now fits fails told =
+    retold f f text before now (λ mark. unless_memory mark (request_answer f moment mark (request_of line))) (answer_to f line moment) (IsMarked f line moment) (IsMarked f line moment)
+    (λ mark. sym (line_within f line moment mark fits)) (λ mark may. may)
+    (faulted f moment found (request_of line) text before now (IsMarked f line moment) (λ is. absurd (false≢true is)) (λ is. absurd (false≢true is)) fails told)
 
 -- ---- a request of one entry
 
@@ -86,126 +113,67 @@ asked_condition f request.Tick = tt
 asked_condition f asked = tt
 
 asked_entry : (f : Farm) (moment : ℕ) (mark : Mark) (asked : Request) → ((report : Report) → asked ≡ request.Report report → ⊥)
-    → asked_answer f moment mark asked ≡ entry_answer f (entry_of asked moment) (refusal_of f (entry_of asked moment))
+    → asked_answer f moment mark asked ≡ entry_answer f (entry_of asked moment) mark (refusal_of f (entry_of asked moment))
 asked_entry f moment mark (request.Report report) other = absurd (other report refl)
 asked_entry f moment mark asked other = refl
 
+asked_may : (f : Farm) (moment : ℕ) (asked : Request) (e : Entry) → e ≡ entry_of asked moment → (mark : Mark) → MayStoreEntry f e mark → MayStore f moment asked mark
+asked_may f moment asked e is Store may = subst (MayFail f) is may
+asked_may f moment asked e is (StoreAfter k) may = absurd may
+asked_may f moment asked e is (LateStore k) may = absurd may
+asked_may f moment asked e is mark may = tt
+
 -- a request but a report is answered by its entry
-pub answered_entry : (f new : Farm) (moment : ℕ) (text : List ℕ) (asked : Request) (e : Entry) → ((report : Report) → asked ≡ request.Report report → ⊥)
-    → e ≡ entry_of asked moment → AnswersEntry f e new text
-    → (mark : Mark) × IsAnswer f (unless_memory mark (asked_answer f moment mark asked)) new text
-answered_entry f new moment text asked e other is answered = (
-  answered.0,
-  subst (λ (a : Answered). IsAnswer f (unless_memory answered.0 a) new text)
-      (ap (λ d. entry_answer f d (refusal_of f d)) is ∙ sym (asked_entry f moment answered.0 asked other)) answered.1,
-)
-
--- the farm refuses the entry
-refused_entry : (f : Farm) (e : Entry) (why : Refusal) (text : List ℕ) → refusal_of f e ≡ Some why → IsLineOf (reply.Refused why) text
-    → AnswersEntry f e f text
-refused_entry f e why text refuses line = replied f (reply.Refused why) text (λ mark. entry_answer f e (refusal_of f e)) (ap (entry_answer f e) refuses) line
-
--- the farm took the entry
-taken_entry : (f new : Farm) (e : Entry) (text : List ℕ) → refusal_of f e ≡ None → new ≡ after f e → text ≡ reply_text (ok_reply e.act (answer_of f e)) ++ 10 ∷ []
-    → AnswersEntry f e new text
-taken_entry f new e text accepts is line =
-    (Plain, subst (λ (a : Answered). IsAnswer f a new text) (sym (ap (entry_answer f e) accepts)) (record { farm = is; text = line }))
+pub answered_entry : (f new : Farm) (moment : ℕ) (text : List ℕ) (before now : ℕ) (asked : Request) (e : Entry) → ((report : Report) → asked ≡ request.Report report → ⊥)
+    → e ≡ entry_of asked moment → AnswersEntry f e new text before now → AnswersAsked f asked moment new text before now
+answered_entry f new moment text before now asked e other is answered =
+    retold f new text before now (λ mark. unless_memory mark (entry_answer f e mark (refusal_of f e))) (λ mark. unless_memory mark (asked_answer f moment mark asked))
+    (MayStoreEntry f e) (MayStore f moment asked)
+    (λ mark. ap (unless_memory mark) (ap (λ d. entry_answer f d mark (refusal_of f d)) is ∙ sym (asked_entry f moment mark asked other))) (asked_may f moment asked e is) answered
 
 -- no change was prepared for the entry
-pub unprepared_entry : (f : Farm) (e : Entry) (found : PrepareFault) (text : List ℕ) → Prepares f e (Err found) → IsUnprepared found text
-    → AnswersEntry f e f text
-unprepared_entry f e (prepare.Refused why) text refuses line = refused_entry f e why text refuses line
-unprepared_entry f e prepare.NoMemory text fails line = (Memory, record { farm = refl; text = line })
+pub unprepared_entry : (f : Farm) (e : Entry) (found : PrepareFault) (text : List ℕ) (before now : ℕ) → Prepares f e (Err found) → IsUnprepared found text
+    → AnswersEntry f e f text before now
+unprepared_entry f e (prepare.Refused why) text before now refuses line =
+    replied f (reply.Refused why) text before now (λ mark. entry_answer f e mark (refusal_of f e)) (MayStoreEntry f e) tt tt (ap (entry_answer f e Plain) refuses) line
+unprepared_entry f e prepare.NoMemory text before now fails line = unreplied f text before now (λ mark. entry_answer f e mark (refusal_of f e)) (MayStoreEntry f e) tt line
 
--- a change of the entry was recorded, or memory ran out for it
-pub recorded_entry : (f new : Farm) (e : Entry) (change : Change) (written text : List ℕ) → Makes f e change
-    → written ≡ reply_text (ok_reply e.act (answer_of f e)) ++ 10 ∷ [] → IsRecorded f (after_change f change) written new text
-    → AnswersEntry f e new text
-recorded_entry f new e change written text makes line (inl recorded) = taken_entry f new e text makes.accepted (recorded.0 ∙ makes.farm) (recorded.1 ∙ line)
-recorded_entry f new e change written text makes line (inr unrecorded) = (Memory, record { farm = unrecorded.0; text = unrecorded.1 })
+-- the farm took the entry
+taken_entry : (f new : Farm) (e : Entry) (text : List ℕ) (before now : ℕ) → refusal_of f e ≡ None → new ≡ after f e
+    → text ≡ reply_text (ok_reply e.act (answer_of f e)) ++ 10 ∷ [] → AnswersEntry f e new text before now
+taken_entry f new e text before now accepts is line = record {
+  mark = Plain;
+  answer = subst (λ (a : Answered). IsAnswer f a new text) (sym (ap (entry_answer f e Plain) accepts)) (record { farm = is; text = line });
+  may_stand = tt;
+  cause = λ store. absurd (false≢true store);
+}
 
--- ---- a report
+-- the store failed at the entry
+failed_entry : (f : Farm) (e : Entry) (text : List ℕ) (before now : ℕ) → refusal_of f e ≡ None → ChangesRows f (after f e) → text ≡ reply_text reply.Store ++ 10 ∷ []
+    → HasRisen before now → AnswersEntry f e f text before now
+failed_entry f e text before now accepts changes line risen = record {
+  mark = Store;
+  answer = subst (λ (a : Answered). IsAnswer f a f text) (sym (ap (entry_answer f e Store) accepts)) (record { farm = refl; text = line });
+  may_stand = record { accepted = accepts; changes = changes };
+  cause = λ store. risen;
+}
 
--- a report is answered as one
-pub answered_report : (f new : Farm) (moment : ℕ) (text : List ℕ) (asked : Request) (report : Report) → asked ≡ request.Report report
-    → AnswersReport f report moment new text
-    → (mark : Mark) × IsAnswer f (unless_memory mark (asked_answer f moment mark asked)) new text
-answered_report f new moment text asked report is answered =
-    (answered.0, subst (λ (a : Request). IsAnswer f (unless_memory answered.0 (asked_answer f moment answered.0 a)) new text) (sym is) answered.1)
+-- a change of the entry was recorded, or the store failed or memory ran out for it
+pub recorded_entry : (f new : Farm) (e : Entry) (change : Change) (written : List ℕ) (told : ReplyLine) (before now : ℕ) → Makes f e change
+    → written ≡ reply_text (ok_reply e.act (answer_of f e)) ++ 10 ∷ [] → IsRecorded f (after_change f change) written new told
+    → (told ≡ reply_line.Store → HasRisen before now) → AnswersEntry f e new (shown told) before now
+recorded_entry f new e change written (reply_line.Written line) before now makes is recorded cause =
+    taken_entry f new e line before now makes.accepted (recorded.0 ∙ makes.farm) (recorded.1 ∙ is)
+recorded_entry f new e change written reply_line.Store before now makes is recorded cause =
+    subst (λ (g : Farm). AnswersEntry f e g (shown reply_line.Store) before now) (sym recorded.0)
+    (failed_entry f e (shown reply_line.Store) before now makes.accepted (subst (ChangesRows f) makes.farm recorded.1) refl (cause refl))
+recorded_entry f new e change written reply_line.NoMemory before now makes is recorded cause =
+    subst (λ (g : Farm). AnswersEntry f e g (shown reply_line.NoMemory) before now) (sym recorded.1)
+    (unreplied f (shown reply_line.NoMemory) before now (λ mark. entry_answer f e mark (refusal_of f e)) (MayStoreEntry f e) tt refl)
+recorded_entry f new e change written reply_line.TooLong before now makes is recorded cause =
+    subst (λ (g : Farm). AnswersEntry f e g (shown reply_line.TooLong) before now) (sym recorded.1)
+    (unreplied f (shown reply_line.TooLong) before now (λ mark. entry_answer f e mark (refusal_of f e)) (MayStoreEntry f e) tt (ap shown recorded.0))
 
--- the farm refuses it
-refused_report : (f : Farm) (report : Report) (moment : ℕ) (why : Refusal) (text : List ℕ) → refusal_of f (heard_entry report moment) ≡ Some why
-    → IsLineOf (reply.Refused why) text
-    → AnswersReport f report moment f text
-refused_report f report moment why text refuses line =
-    replied f (reply.Refused why) text (λ mark. report_answer f report moment mark (refusal_of f (heard_entry report moment))) (ap (report_answer f report moment Plain) refuses) line
-
--- no change was prepared for it
-pub unprepared_report : (f : Farm) (report : Report) (moment : ℕ) (found : PrepareFault) (text : List ℕ) → Prepares f (heard_entry report moment) (Err found)
-    → IsUnprepared found text
-    → AnswersReport f report moment f text
-unprepared_report f report moment (prepare.Refused why) text refuses line = refused_report f report moment why text refuses line
-unprepared_report f report moment prepare.NoMemory text fails line = (Memory, record { farm = refl; text = line })
-
-accepted_unless : (mark : Mark) (f : Farm) (host : ℕ) (report : Report) (heard : Entry) (round : List Entry) (answered : Answered)
-    → answered ≡ marked_answer f host report heard round mark → unless_memory mark answered ≡ marked_answer f host report heard round mark
-accepted_unless Plain f host report heard round answered e = e
-accepted_unless Memory f host report heard round answered e = refl
-accepted_unless (CutAfter k) f host report heard round answered e = e
-accepted_unless LatePlain f host report heard round answered e = e
-accepted_unless (LateCut k) f host report heard round answered e = e
-
--- the host of a report is told
-pub told_there : (f : Farm) (report : Report) (moment : ℕ) (told : Option ℕ) → HasHeard f (heard_entry report moment).act told → IsTold told
-told_there f report moment None there = there
-told_there f report moment (Some host) there = tt
-
-pub told_host : (f : Farm) (report : Report) (moment : ℕ) (told : Option ℕ) (host : ℕ) → HasHeard f (heard_entry report moment).act told → told ≡ Some host → host_named f report.host ≡ Some host
-told_host f report moment None host there is = absurd there
-told_host f report moment (Some named) host there is = there ∙ is
-
--- the farm accepts it: it is answered by what the mark says
-pub accepted_is : (f : Farm) (report : Report) (moment host : ℕ) (mark : Mark) → refusal_of f (heard_entry report moment) ≡ None → host_named f report.host ≡ Some host
-    → unless_memory mark (report_answer f report moment mark (refusal_of f (heard_entry report moment)))
-    ≡ marked_answer f host report (heard_entry report moment) (round_for (after f (heard_entry report moment)) host moment) mark
-accepted_is f report moment host mark accepts named =
-    accepted_unless mark f host report (heard_entry report moment) (round_for (after f (heard_entry report moment)) host moment) (report_answer f report moment mark (refusal_of f (heard_entry report moment)))
-    (ap (report_answer f report moment mark) accepts ∙ ap (accepted_answer f report moment mark) named)
-
--- the answer after the round is that of the report
-pub taken_report : (f next : Farm) (report : Report) (moment host : ℕ) (new : Farm) (text : List ℕ)
-    → refusal_of f (heard_entry report moment) ≡ None → host_named f report.host ≡ Some host → next ≡ after f (heard_entry report moment)
-    → (mark : Mark) × IsRoundAnswer next host report moment mark new text
-    → AnswersReport f report moment new text
-taken_report f next report moment host new text accepts named is answered = (
-  answered.0,
-  subst (λ (a : Answered). IsAnswer f a new text) (sym (accepted_is f report moment host answered.0 accepts named))
-      (subst (λ (g : Farm). IsAnswer f (marked_answer f host report (heard_entry report moment) (round_for g host moment) answered.0) new text) is
-      (answered.1 f (heard_entry report moment) (sym is))),
-)
-
--- ---- the round's marks
-
-pub round_replied : (old : Farm) (host : ℕ) (report : Report) (moment : ℕ) (ended : Cut) (new : Farm) (text : List ℕ) → IsRound old host moment ended new
-    → text ≡ reply_text (report_reply new host report ended) ++ 10 ∷ [] → (mark : Mark) × IsRoundAnswer old host report moment mark new text
-round_replied old host report moment cut.Whole new text walked line = (
-  Plain,
-  λ f heard e. record {
-    farm = walked ∙ ap (λ g. run_of g (round_for old host moment)) (sym e);
-    text = line ∙ ap (λ g. reply_text (report_reply g host report cut.Whole) ++ 10 ∷ []) (walked ∙ ap (λ g. run_of g (round_for old host moment)) (sym e));
-  },
-)
-round_replied old host report moment cut.Memory new text walked line = (
-  CutAfter walked.0,
-  λ f heard e. record {
-    farm = walked.1 ∙ ap (λ g. run_of g (take walked.0 (round_for old host moment))) (sym e);
-    text = line ∙ ap (λ g. reply_text (report_reply g host report cut.Memory) ++ 10 ∷ []) (walked.1 ∙ ap (λ g. run_of g (take walked.0 (round_for old host moment))) (sym e));
-  },
-)
-
-pub round_unreplied : (old : Farm) (host : ℕ) (report : Report) (moment : ℕ) (ended : Cut) (new : Farm) (text : List ℕ) → IsRound old host moment ended new
-    → text ≡ reply_text reply.NoMemory ++ 10 ∷ [] → (mark : Mark) × IsRoundAnswer old host report moment mark new text
-round_unreplied old host report moment cut.Whole new text walked line =
-    (LatePlain, λ f heard e. record { farm = walked ∙ ap (λ g. run_of g (round_for old host moment)) (sym e); text = line })
-round_unreplied old host report moment cut.Memory new text walked line =
-    (LateCut walked.0, λ f heard e. record { farm = walked.1 ∙ ap (λ g. run_of g (take walked.0 (round_for old host moment))) (sym e); text = line })
+-- the change of an entry that is no booking is that of a legal entry
+pub entry_made : (f : Farm) (e : Entry) (change : Change) → HasCondition f e.act → IsFormed e → Makes f e change → IsOfEntry f e change
+entry_made f e change condition formed makes = record { legal = record { formed = formed; accepted = makes.accepted; condition = condition }; makes = makes }

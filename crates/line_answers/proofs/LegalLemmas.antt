@@ -17,7 +17,7 @@ use Rattle.farm_types.specs.Dispatch.{book_entry, round_from, round_for, plan_fo
 use Rattle.farm_lines.specs.declared.request.Request.{Request}
 use Rattle.farm_lines.specs.declared.request.Request.TheVariants as request
 use Rattle.farm_lines.specs.Request.{RequestError, request_of}
-use Rattle.farm_lines.specs.Transcript.{Mark, Plain, Memory, CutAfter, LatePlain, LateCut, Answered, Exchange, heard_entry, entry_of, marked_answer, accepted_answer, report_answer, entry_answer, asked_answer, request_answer, unless_memory, answer_to, answer_at, farm_next, entries_in, only_reply}
+use Rattle.farm_lines.specs.Transcript.{Mark, Plain, Memory, Store, CutAfter, StoreAfter, LatePlain, LateCut, LateStore, Answered, Exchange, heard_entry, entry_of, marked_answer, accepted_answer, report_answer, entry_answer, asked_answer, request_answer, unless_memory, answer_to, answer_at, farm_next, entries_in, only_reply}
 use Rattle.farm_lines.specs.declared.reply.Reply.TheVariants as reply
 use Rattle.farm_lines.proofs.RequestLemmas.{requests_formed}
 use Rattle.line_answers.proofs.AnswerLemmas.{asked_condition}
@@ -67,13 +67,20 @@ module _ (f : Farm) (report : Report) (moment : ℕ) (formed : IsFormed (heard_e
   round_legal : (host : ℕ) → IsLegal (after f (heard_entry report moment)) (round_for (after f (heard_entry report moment)) host moment)
   round_legal host = legal_round BOOKINGS_EACH (after f (heard_entry report moment)) moment (plan_for (after f (heard_entry report moment)) host) formed.moment_within
 
+  cut_legal : (host k : ℕ) → refusal_of f (heard_entry report moment) ≡ None
+      → IsLegal f (heard_entry report moment ∷ take k (round_for (after f (heard_entry report moment)) host moment))
+  cut_legal host k h = heard_legal h _ (legal_take (after f (heard_entry report moment)) k _ (round_legal host))
+
   marked_legal : (host : ℕ) (mark : Mark) → refusal_of f (heard_entry report moment) ≡ None
       → IsLegal f (marked_answer f host report (heard_entry report moment) (round_for (after f (heard_entry report moment)) host moment) mark).entries
   marked_legal host Plain h = heard_legal h _ (round_legal host)
   marked_legal host Memory h = tt
-  marked_legal host (CutAfter k) h = heard_legal h _ (legal_take (after f (heard_entry report moment)) k _ (round_legal host))
+  marked_legal host Store h = tt
+  marked_legal host (CutAfter k) h = cut_legal host k h
+  marked_legal host (StoreAfter k) h = cut_legal host k h
   marked_legal host LatePlain h = heard_legal h _ (round_legal host)
-  marked_legal host (LateCut k) h = heard_legal h _ (legal_take (after f (heard_entry report moment)) k _ (round_legal host))
+  marked_legal host (LateCut k) h = cut_legal host k h
+  marked_legal host (LateStore k) h = cut_legal host k h
 
   accepted_legal : (mark : Mark) (host : Option ℕ) → refusal_of f (heard_entry report moment) ≡ None → IsLegal f (accepted_answer f report moment mark host).entries
   accepted_legal mark None h = tt
@@ -84,16 +91,17 @@ module _ (f : Farm) (report : Report) (moment : ℕ) (formed : IsFormed (heard_e
   report_legal mark None h = accepted_legal mark (host_named f report.host) h
 
 -- an entry that the farm accepts
-entry_legal : (f : Farm) (e : Entry) (why : Option Refusal) → IsFormed e → refusal_of f e ≡ why → HasCondition f e.act → IsLegal f (entry_answer f e why).entries
-entry_legal f e (Some why) formed h condition = tt
-entry_legal f e None formed h condition = (record { formed = formed; accepted = h; condition = condition }, tt)
+entry_legal : (f : Farm) (e : Entry) (mark : Mark) (why : Option Refusal) → IsFormed e → refusal_of f e ≡ why → HasCondition f e.act → IsLegal f (entry_answer f e mark why).entries
+entry_legal f e mark (Some why) formed h condition = tt
+entry_legal f e Store None formed h condition = tt
+entry_legal f e mark None formed h condition = (record { formed = formed; accepted = h; condition = condition }, tt)
 
-one : (f : Farm) (moment : ℕ) (asked : Request) → IsFormed (entry_of asked moment) → IsLegal f (entry_answer f (entry_of asked moment) (refusal_of f (entry_of asked moment))).entries
-one f moment asked formed = entry_legal f (entry_of asked moment) (refusal_of f (entry_of asked moment)) formed refl (asked_condition f asked)
+one : (f : Farm) (moment : ℕ) (mark : Mark) (asked : Request) → IsFormed (entry_of asked moment) → IsLegal f (entry_answer f (entry_of asked moment) mark (refusal_of f (entry_of asked moment))).entries
+one f moment mark asked formed = entry_legal f (entry_of asked moment) mark (refusal_of f (entry_of asked moment)) formed refl (asked_condition f asked)
 
 asked_legal : (f : Farm) (moment : ℕ) (mark : Mark) (asked : Request) → IsFormed (entry_of asked moment) → IsLegal f (asked_answer f moment mark asked).entries
 asked_legal f moment mark (request.Report report) formed = report_legal f report moment formed mark (refusal_of f (heard_entry report moment)) refl
-asked_legal f moment mark asked formed = one f moment asked formed
+asked_legal f moment mark asked formed = one f moment mark asked formed
 
 request_legal : (f : Farm) (moment : ℕ) (mark : Mark) (read : Result Request RequestError) → ((asked : Request) → read ≡ Ok asked → IsFormed (entry_of asked moment))
     → IsLegal f (request_answer f moment mark read).entries
@@ -102,10 +110,7 @@ request_legal f moment mark (Ok asked) formed = asked_legal f moment mark asked 
 
 unless_legal : (f : Farm) (mark : Mark) (answered : Answered) → IsLegal f answered.entries → IsLegal f (unless_memory mark answered).entries
 unless_legal f Memory answered l = tt
-unless_legal f Plain answered l = l
-unless_legal f (CutAfter k) answered l = l
-unless_legal f LatePlain answered l = l
-unless_legal f (LateCut k) answered l = l
+unless_legal f mark answered l = l
 
 -- what one line makes
 answer_legal : (f : Farm) (line : List ℕ) (moment : ℕ) (mark : Mark) → moment < 2 ^ 64 → IsLegal f (answer_to f line moment mark).entries

@@ -2,4 +2,5 @@ mod AnswerLemmas
 mod LegalLemmas
 mod LineLemmas
 mod OutcomeLemmas
+mod ReportLemmas
 mod WalkLemmas

@@ -1,41 +1,29 @@
--- What a line comes to where memory doesn't run out for it.
-use Rattle.std.proofs.Common.{◌≡◌, ℕ, List, ◌∷◌, length, cond, Bool, true, false, true≢false, refl, sym, ap, ◌∙◌, Option, None, Some, Result, Ok, Err}
-use Rattle.std.specs.Prelude.{nat_lt, is_some}
+-- What a line comes to where neither memory nor the store fails it.
+use Rattle.std.proofs.Common.{◌≡◌, ℕ, List, ◌∷◌, length, cond, Bool, true, false, refl, ap, ◌∙◌, Option, None, Some, Result, Ok, Err}
+use Rattle.std.specs.Prelude.{nat_lt}
 use Rattle.farm_types.specs.declared.entry.Entry.{Entry}
 use Rattle.farm_types.specs.declared.refusal.Refusal.{Refusal}
 use Rattle.farm_lines.specs.declared.report.Report.{Report}
 use Rattle.farm_lines.specs.declared.request.Request.{Request}
 use Rattle.farm_lines.specs.declared.request.Request.TheVariants as request
-use Rattle.farm_types.specs.DependActs.{or_else}
 use Rattle.farm_types.specs.Dispatch.{round_for}
 use Rattle.farm_types.specs.Farm.{Farm, host_named}
 use Rattle.farm_lines.specs.declared.reply.Reply.TheVariants as reply
 use Rattle.farm_lines.specs.Request.{RequestError, request_of}
-use Rattle.farm_types.specs.Step.{refusal_of, after, host_refusal}
-use Rattle.farm_lines.specs.Transcript.{Mark, Plain, Memory, CutAfter, LatePlain, LateCut, answer_to, heard_entry, marked_answer, accepted_answer, report_answer, request_answer, unless_memory, only_reply}
+use Rattle.farm_types.specs.Step.{refusal_of, after}
+use Rattle.farm_lines.specs.Transcript.{Mark, Plain, LatePlain, answer_to, heard_entry, marked_answer, accepted_answer, report_answer, request_answer, unless_memory, only_reply}
 use Rattle.line_answers.specs.Outcomes.{WalksWhole, IsTaken, HasWholeRound, IsAnsweredFully}
-use Rattle.line_answers.proofs.AnswerLemmas.{line_within, long_answer, accepted_is}
+use Rattle.line_answers.proofs.AnswerLemmas.{line_within, long_answer}
+use Rattle.line_answers.proofs.ReportLemmas.{accepted_is, host_of}
 use Rattle.farm_lines.specs.declared.limits.TheConstants.{LINE_LIMIT}
 
 -- ---- the round of a report
-
--- a report that is taken is of a host that is there
-host_of : (f : Farm) (report : Report) (moment : ℕ) (named : Option ℕ) → host_named f report.host ≡ named → refusal_of f (heard_entry report moment) ≡ None
-    → (host : ℕ) × (host_named f report.host ≡ Some host)
-host_of f report moment None is accepted =
-    absurd (unknown (sym (ap (λ n. or_else (host_refusal f (record { host = report.host; boot = report.boot; seq = report.seq; done = report.done }) n) None) is) ∙ accepted))
-  where
-    unknown : {why : Refusal} → Some why ≡ None → ⊥
-    unknown e = true≢false (ap is_some e)
-host_of f report moment (Some host) is accepted = (host, is)
 
 whole_entries : (f : Farm) (host : ℕ) (report : Report) (heard : Entry) (round : List Entry) (mark : Mark) → WalksWhole mark
     → (marked_answer f host report heard round mark).entries ≡ heard ∷ round
 whole_entries f host report heard round Plain whole = refl
 whole_entries f host report heard round LatePlain whole = refl
-whole_entries f host report heard round Memory whole = absurd whole
-whole_entries f host report heard round (CutAfter k) whole = absurd whole
-whole_entries f host report heard round (LateCut k) whole = absurd whole
+whole_entries f host report heard round mark whole = absurd whole
 
 pub whole_round : (f : Farm) (line : List ℕ) (moment : ℕ) (mark : Mark) (report : Report) → WalksWhole mark → IsTaken f line moment report
     → HasWholeRound f line moment mark report

@@ -1,4 +1,4 @@
--- What a line comes to where memory doesn't run out for it.
+-- What a line comes to where neither memory nor the store fails it.
 use Rattle.std.specs.Prelude.{◌≡◌, ◌≤◌, ◌<◌, ◌∷◌, ℕ, List, length, None, Some, Ok}
 use Rattle.farm_lines.specs.declared.report.Report.{Report}
 use Rattle.farm_lines.specs.declared.request.Request.TheVariants as request
@@ -28,8 +28,8 @@ pub record HasWholeRound (f : Farm) (line : List ℕ) (moment : ℕ) (mark : Mar
   pub named : host_named f report.host ≡ Some host
   pub recorded : (answer_to f line moment mark).entries ≡ heard_entry report moment ∷ round_for (after f (heard_entry report moment)) host moment
 
--- A line past the limit is told so, wherever memory runs out. Each other, where it doesn't run out, is answered by what it asks. Where it
--- runs out for nothing but the reply to a report, the same is recorded.
+-- A line past the limit is told so, wherever memory runs out or the store fails. Each other, where neither does, is answered by what it asks. Where
+-- memory runs out for nothing but the reply to a report, the same is recorded.
 pub record IsAnsweredFully (f : Farm) (line : List ℕ) (moment : ℕ) : Type 0 where
   pub long : LINE_LIMIT < length line → (mark : Mark) → answer_to f line moment mark ≡ only_reply reply.TooLong
   pub plain : length line ≤ LINE_LIMIT → answer_to f line moment Plain ≡ request_answer f moment Plain (request_of line)

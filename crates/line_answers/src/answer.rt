@@ -1,52 +1,73 @@
 //! Answering one line.
 
 ghost use Rattle.std.specs.Prelude.{◌≡◌, ◌≤◌, length};
-ghost use Rattle.farm_lines.specs.Transcript.{Mark, act_of, answer_to, asked_answer, entry_of, unless_memory};
+ghost use Rattle.farm_lines.specs.Transcript.{act_of, entry_of};
 ghost use Rattle.farm_types.specs.Formed.{IsFormed};
 ghost use Rattle.farm_types.specs.Step.{HasCondition};
 ghost use Rattle.report_codec.specs.Reads.{AsksWithin};
-ghost use Rattle.line_answers.specs.LineAnswers.{AnswersEntry, IsAnswer, fault_reply};
+ghost use Rattle.line_answers.specs.LineAnswers.{AnswersAsked, AnswersEntry, AnswersLine, fault_reply};
 ghost use Rattle.line_answers.specs.Lines.{IsLineOf, shown};
 ghost use Rattle.farm_lines.specs.declared.limits.TheConstants.{LINE_LIMIT};
 
 use crate::answer_entry::answer_entry;
 use crate::answer_report::answer_report;
 use crate::reply_line::{ReplyLine, line_of};
-use farm_core::Farm;
+use farm_keeper::Keeper;
 use farm_lines::{Reply, Request, RequestFault};
 use farm_types::{Act, Entry, HeardAct};
+use recorder::PlainRecorder;
 use report_codec::read_request;
 use std::alloc::Global;
 
-/// Answers a line at a moment (seconds): records what it asks in the farm, and gives the line of its reply.
-pub fn answer_line(alloc: Global, farm: &mut Farm, line: &[u8], moment: u64) -> ReplyLine
+/// Answers a line at a moment (seconds): records what it asks, in the farm and in its keeper, and gives the line of its reply.
+pub fn answer_line<K: Keeper>(
+    alloc: Global,
+    recorder: &mut PlainRecorder<K>,
+    line: &[u8],
+    moment: u64,
+) -> ReplyLine
     requires { length line.now ≤ LINE_LIMIT }
-    ensures { (mark : Mark) × IsAnswer farm.old (answer_to farm.old line.now moment mark) farm.new (shown result) }
+    ensures answer { AnswersLine recorder.old.farm line.now moment recorder.new.farm (shown result) (K.faults recorder.old.keeper) (K.faults recorder.new.keeper) }
+    ensures told { K.tells recorder.new.keeper → K.tells recorder.old.keeper }
+    ensures rises { K.faults recorder.old.keeper ≤ K.faults recorder.new.keeper }
 {
     match read_request(alloc, line) {
-        Ok(asked) => answer_request(alloc, farm, asked, moment),
+        Ok(asked) => answer_request(alloc, recorder, asked, moment),
         Err(fault) => fault_line(alloc, fault),
     }
 }
 
 // Answers what a line asks.
-fn answer_request(alloc: Global, farm: &mut Farm, asked: Request, moment: u64) -> ReplyLine
+fn answer_request<K: Keeper>(
+    alloc: Global,
+    recorder: &mut PlainRecorder<K>,
+    asked: Request,
+    moment: u64,
+) -> ReplyLine
     requires { AsksWithin asked }
-    ensures { (mark : Mark) × IsAnswer farm.old (unless_memory mark (asked_answer farm.old moment mark asked)) farm.new (shown result) }
+    ensures answer { AnswersAsked recorder.old.farm asked moment recorder.new.farm (shown result) (K.faults recorder.old.keeper) (K.faults recorder.new.keeper) }
+    ensures told { K.tells recorder.new.keeper → K.tells recorder.old.keeper }
+    ensures rises { K.faults recorder.old.keeper ≤ K.faults recorder.new.keeper }
 {
     match asked {
-        Request::Report(report) => answer_report(alloc, farm, report, moment),
-        asked => answer_taken(alloc, farm, entry_of(asked, moment)),
+        Request::Report(report) => answer_report(alloc, recorder, report, moment),
+        asked => answer_taken(alloc, recorder, entry_of(asked, moment)),
     }
 }
 
 // Answers a request of one entry, and lets the entry go.
-fn answer_taken(alloc: Global, farm: &mut Farm, entry: Entry) -> ReplyLine
-    requires condition { HasCondition farm.old entry.act }
+fn answer_taken<K: Keeper>(
+    alloc: Global,
+    recorder: &mut PlainRecorder<K>,
+    entry: Entry,
+) -> ReplyLine
+    requires condition { HasCondition recorder.old.farm entry.act }
     requires formed { IsFormed entry }
-    ensures { AnswersEntry farm.old entry farm.new (shown result) }
+    ensures answer { AnswersEntry recorder.old.farm entry recorder.new.farm (shown result) (K.faults recorder.old.keeper) (K.faults recorder.new.keeper) }
+    ensures told { K.tells recorder.new.keeper → K.tells recorder.old.keeper }
+    ensures rises { K.faults recorder.old.keeper ≤ K.faults recorder.new.keeper }
 {
-    answer_entry(alloc, farm, &entry)
+    answer_entry(alloc, recorder, &entry)
 }
 
 // The entry of a request.

@@ -1,51 +1,80 @@
 //! Answering a request of one entry.
 
-ghost use Rattle.std.specs.Prelude.{◌≡◌, ◌++◌, ◌∷◌, [], IfOk};
-ghost use Rattle.farm_core.specs.Change.{IsReady, Makes, Prepares, after_change};
+ghost use Rattle.std.specs.Prelude.{◌≡◌, ◌≤◌, ◌++◌, ◌∷◌, [], IfOk};
+ghost use Rattle.farm_core.specs.Change.{Makes, after_change};
 ghost use Rattle.farm_lines.specs.Reply.{job_named, ok_reply, reply_text};
 ghost use Rattle.farm_types.specs.Formed.{IsFormed};
 ghost use Rattle.farm_types.specs.Step.{HasCondition};
 ghost use Rattle.line_answers.specs.LineAnswers.{AnswersEntry, IsRecorded, IsUnprepared};
 ghost use Rattle.line_answers.specs.Lines.{shown};
+ghost use Rattle.farm_keeper.specs.Faults.{HasRisen};
+ghost use Rattle.recorder.specs.Recording.{IsOfEntry};
 
 use crate::reply_line::{ReplyLine, refusal_line, write_line};
-use farm_core::{Change, Farm, PrepareFault};
+use farm_core::{Change, PrepareFault};
+use farm_keeper::Keeper;
 use farm_lines::Reply;
 use farm_types::{Act, Answer, Entry, Text};
+use recorder::{PlainRecorder, RecordFault};
 use std::alloc::{AllocError, Global};
 
 /// Answers a request of one entry: records the entry, and gives the line of its reply. The line is written first, so that
-/// the farm stays as it was where memory runs out.
-pub fn answer_entry(alloc: Global, farm: &mut Farm, entry: &Entry) -> ReplyLine
-    requires condition { HasCondition farm.old entry.now.act }
+/// the farm stays as it was where memory runs out or the store fails.
+pub fn answer_entry<K: Keeper>(
+    alloc: Global,
+    recorder: &mut PlainRecorder<K>,
+    entry: &Entry,
+) -> ReplyLine
+    requires condition { HasCondition recorder.old.farm entry.now.act }
     requires formed { IsFormed entry.now }
-    ensures { AnswersEntry farm.old entry.now farm.new (shown result) }
+    ensures answer { AnswersEntry recorder.old.farm entry.now recorder.new.farm (shown result) (K.faults recorder.old.keeper) (K.faults recorder.new.keeper) }
+    ensures told { K.tells recorder.new.keeper → K.tells recorder.old.keeper }
+    ensures rises { K.faults recorder.old.keeper ≤ K.faults recorder.new.keeper }
 {
-    match farm.prepare(alloc, entry) {
-        Ok(change) => answer_change(alloc, farm, entry, change),
+    match recorder.prepare(alloc, entry) {
+        Ok(change) => answer_change(alloc, recorder, entry, change),
         Err(fault) => fault_line(alloc, fault),
     }
 }
 
 // Writes the reply's line, and then records the change that the entry makes.
-fn answer_change(alloc: Global, farm: &mut Farm, entry: &Entry, change: Change) -> ReplyLine
-    requires { Makes farm.old entry.now change }
-    ensures { AnswersEntry farm.old entry.now farm.new (shown result) }
+fn answer_change<K: Keeper>(
+    alloc: Global,
+    recorder: &mut PlainRecorder<K>,
+    entry: &Entry,
+    change: Change,
+) -> ReplyLine
+    requires condition { HasCondition recorder.old.farm entry.now.act }
+    requires formed { IsFormed entry.now }
+    requires makes { Makes recorder.old.farm entry.now change }
+    ensures answer { AnswersEntry recorder.old.farm entry.now recorder.new.farm (shown result) (K.faults recorder.old.keeper) (K.faults recorder.new.keeper) }
+    ensures told { K.tells recorder.new.keeper → K.tells recorder.old.keeper }
+    ensures rises { K.faults recorder.old.keeper ≤ K.faults recorder.new.keeper }
 {
     match write_ok(alloc, &entry.act, change.answer()) {
-        Ok(line) => record(alloc, farm, change, line),
+        Ok(line) => record(alloc, recorder, entry, change, line),
         Err(_) => without_memory(change),
     }
 }
 
-// Records the change, and gives the line that was written for it.
-fn record(alloc: Global, farm: &mut Farm, change: Change, line: Text) -> ReplyLine
-    requires { IsReady farm.old change }
-    ensures { IsRecorded farm.old (after_change farm.old change) line farm.new (shown result) }
+// Records the entry's change, and gives the line that was written for it.
+fn record<K: Keeper>(
+    alloc: Global,
+    recorder: &mut PlainRecorder<K>,
+    entry: &Entry,
+    change: Change,
+    line: Text,
+) -> ReplyLine
+    requires { IsOfEntry recorder.old.farm entry.now change }
+    ensures recorded { IsRecorded recorder.old.farm (after_change recorder.old.farm change) line recorder.new.farm result }
+    ensures cause { result ≡ ReplyLine.Store → HasRisen (K.faults recorder.old.keeper) (K.faults recorder.new.keeper) }
+    ensures told { K.tells recorder.new.keeper → K.tells recorder.old.keeper }
+    ensures rises { K.faults recorder.old.keeper ≤ K.faults recorder.new.keeper }
 {
-    match farm.record(alloc, change) {
+    match recorder.record(alloc, entry, change) {
         Ok(()) => ReplyLine::Written(line),
-        Err(_) => ReplyLine::NoMemory,
+        Err(RecordFault::Store) => ReplyLine::Store,
+        Err(RecordFault::NoMemory) => ReplyLine::NoMemory,
     }
 }
 
@@ -56,8 +85,8 @@ fn without_memory(_change: Change) -> ReplyLine
     ReplyLine::NoMemory
 }
 
-/// The line of the reply where no change was prepared.
-pub fn fault_line(alloc: Global, fault: PrepareFault) -> ReplyLine
+// The line of the reply where no change was prepared.
+fn fault_line(alloc: Global, fault: PrepareFault) -> ReplyLine
     ensures { IsUnprepared fault (shown result) }
 {
     match fault {

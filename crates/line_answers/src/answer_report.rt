@@ -1,66 +1,120 @@
 //! Answering a report.
 
-ghost use Rattle.std.specs.Prelude.{◌≡◌, ◌++◌, ◌∷◌, [], IfOk, Some};
-ghost use Rattle.farm_core.specs.Change.{Makes, Prepares};
+ghost use Rattle.std.specs.Prelude.{◌≡◌, ◌≤◌, ◌++◌, ◌∷◌, [], ℕ, IfOk, Some};
+ghost use Rattle.std.specs.Result.{IsErrOf};
 ghost use Rattle.farm_types.specs.declared.entry.Act.TheVariants as act;
-ghost use Rattle.farm_types.specs.Farm.{host_named};
+ghost use Rattle.farm_types.specs.Farm.{Farm};
+ghost use Rattle.farm_keeper.specs.Faults.{HasRisen};
+ghost use Rattle.recorder.specs.declared.refusal.CommitRefusal.TheVariants as refusal;
+ghost use Rattle.recorder.specs.Recording.{IsOfEntry};
 ghost use Rattle.farm_types.specs.Formed.{IsFormed};
 ghost use Rattle.farm_lines.specs.Reply.{reply_text, report_reply};
-ghost use Rattle.farm_lines.specs.Transcript.{Mark, heard_entry};
-ghost use Rattle.line_answers.specs.LineAnswers.{AnswersReport, IsRoundAnswer};
+ghost use Rattle.farm_lines.specs.Transcript.{heard_entry};
+ghost use Rattle.line_answers.specs.LineAnswers.{AnswersReport, Hears, IsRoundAnswer, IsUnrecorded};
 ghost use Rattle.line_answers.specs.Lines.{shown};
 ghost use Rattle.line_answers.specs.Reports.{IsHeard, IsTold, heard_of};
 
-use crate::answer_entry::fault_line;
 use crate::launches::{acks, kills, launches};
-use crate::reply_line::{ReplyLine, write_line};
+use crate::reply_line::{ReplyLine, refusal_line, write_line};
 use dispatch_plan::round;
-use farm_core::{Change, Farm, PrepareFault};
+use farm_core::{Change, Farm};
+use farm_keeper::Keeper;
 use farm_lines::{Reply, Report, ReportReply};
 use farm_types::{Act, Attempt, Cut, Entry, HeardAct, HostNo, Items, Text};
+use recorder::{CommitRefusal, PlainRecorder};
 use std::alloc::{AllocError, Global};
 
 /// Answers a report: records it and its round, and gives the line of its reply.
-pub fn answer_report(alloc: Global, farm: &mut Farm, report: Report, moment: u64) -> ReplyLine
+pub fn answer_report<K: Keeper>(
+    alloc: Global,
+    recorder: &mut PlainRecorder<K>,
+    report: Report,
+    moment: u64,
+) -> ReplyLine
     requires { IsFormed (heard_entry report moment) }
-    ensures { AnswersReport farm.old report moment farm.new (shown result) }
+    ensures answer { AnswersReport recorder.old.farm report moment recorder.new.farm (shown result) (K.faults recorder.old.keeper) (K.faults recorder.new.keeper) }
+    ensures told { K.tells recorder.new.keeper → K.tells recorder.old.keeper }
+    ensures rises { K.faults recorder.old.keeper ≤ K.faults recorder.new.keeper }
 {
-    let (prepared, report) = prepare_heard(alloc, farm, report, moment);
-    answer_prepared(alloc, farm, &report, moment, prepared)
+    let (heard, running) = parts_of(report);
+    let entry = Entry {
+        moment,
+        act: Act::Heard(heard),
+    };
+    let recorded = record_heard(alloc, recorder, &entry);
+    answer_recorded(
+        alloc,
+        recorder,
+        recorded,
+        &report_of(heard_in(entry), running),
+        moment,
+    )
 }
 
-// Answers the report by what was prepared for it.
-fn answer_prepared(
+// Records what a report tells, and says which host it is of.
+fn record_heard<K: Keeper>(
     alloc: Global,
-    farm: &mut Farm,
+    recorder: &mut PlainRecorder<K>,
+    entry: &Entry,
+) -> Result<HostNo, CommitRefusal>
+    requires formed { IsFormed entry.now }
+    requires heard { IsHeard entry.now.act }
+    ensures farm { Hears recorder.old.farm entry.now result recorder.new.farm }
+    ensures told { K.tells recorder.new.keeper → K.tells recorder.old.keeper }
+    ensures cause { IsErrOf result refusal.Store → HasRisen (K.faults recorder.old.keeper) (K.faults recorder.new.keeper) }
+    ensures rises { K.faults recorder.old.keeper ≤ K.faults recorder.new.keeper }
+{
+    let change = recorder.prepare(alloc, entry)?;
+    record_change(alloc, recorder, entry, change)
+}
+
+// Records the change that a report makes, and says which host it is of.
+fn record_change<K: Keeper>(
+    alloc: Global,
+    recorder: &mut PlainRecorder<K>,
+    entry: &Entry,
+    change: Change,
+) -> Result<HostNo, CommitRefusal>
+    requires of_entry { IsOfEntry recorder.old.farm entry.now change }
+    requires heard { IsHeard entry.now.act }
+    ensures farm { Hears recorder.old.farm entry.now result recorder.new.farm }
+    ensures told { K.tells recorder.new.keeper → K.tells recorder.old.keeper }
+    ensures cause { IsErrOf result refusal.Store → HasRisen (K.faults recorder.old.keeper) (K.faults recorder.new.keeper) }
+    ensures rises { K.faults recorder.old.keeper ≤ K.faults recorder.new.keeper }
+{
+    let host = host_of(&change);
+    recorder.record(alloc, entry, change)?;
+    Ok(host)
+}
+
+// Walks the round after a report that was recorded, and gives the line of the report's reply.
+fn answer_recorded<K: Keeper>(
+    alloc: Global,
+    recorder: &mut PlainRecorder<K>,
+    recorded: Result<HostNo, CommitRefusal>,
     report: &Report,
     moment: u64,
-    prepared: Result<Change, PrepareFault>,
 ) -> ReplyLine
-    requires { Prepares farm.old (heard_entry report.now moment) prepared }
-    ensures { AnswersReport farm.old report.now moment farm.new (shown result) }
+    ensures answer { (f : Farm) (before : ℕ) → Hears f (heard_entry report.now moment) recorded recorder.old.farm → before ≤ K.faults recorder.old.keeper
+        → (IsErrOf recorded refusal.Store → HasRisen before (K.faults recorder.old.keeper))
+        → AnswersReport f report.now moment recorder.new.farm (shown result) before (K.faults recorder.new.keeper) }
+    ensures told { K.tells recorder.new.keeper → K.tells recorder.old.keeper }
+    ensures rises { K.faults recorder.old.keeper ≤ K.faults recorder.new.keeper }
 {
-    match prepared {
-        Ok(change) => answer_change(alloc, farm, report, moment, change),
-        Err(fault) => fault_line(alloc, fault),
+    match recorded {
+        Ok(host) => line_after_round(alloc, recorder, host, report, moment),
+        Err(why) => unrecorded_line(alloc, why),
     }
 }
 
-// Records the change that the report makes, and then its round.
-fn answer_change(
-    alloc: Global,
-    farm: &mut Farm,
-    report: &Report,
-    moment: u64,
-    change: Change,
-) -> ReplyLine
-    requires { Makes farm.old (heard_entry report.now moment) change }
-    ensures { AnswersReport farm.old report.now moment farm.new (shown result) }
+// The line of the reply where the report wasn't recorded.
+fn unrecorded_line(alloc: Global, why: CommitRefusal) -> ReplyLine
+    ensures { IsUnrecorded why (shown result) }
 {
-    let host = host_of(&change);
-    match farm.record(alloc, change) {
-        Ok(()) => line_after_round(alloc, farm, host, report, moment),
-        Err(_) => ReplyLine::NoMemory,
+    match why {
+        CommitRefusal::Refused { why } => refusal_line(alloc, why),
+        CommitRefusal::Store => ReplyLine::Store,
+        CommitRefusal::NoMemory => ReplyLine::NoMemory,
     }
 }
 
@@ -73,26 +127,6 @@ fn host_of(change: &Change) -> HostNo
         Some(host) => host,
         None => unreachable!(),
     }
-}
-
-// Prepares what the report says, but for what it runs, and gives the report back: its texts and lists are moved, and not copied.
-fn prepare_heard(
-    alloc: Global,
-    farm: &Farm,
-    report: Report,
-    moment: u64,
-) -> (Result<Change, PrepareFault>, Report)
-    requires { IsFormed (heard_entry report moment) }
-    ensures prepared { Prepares farm.now (heard_entry report moment) result.0 }
-    ensures report { result.1 ≡ report }
-{
-    let (heard, running) = parts_of(report);
-    let entry = Entry {
-        moment,
-        act: Act::Heard(heard),
-    };
-    let prepared = farm.prepare(alloc, &entry);
-    (prepared, report_of(heard_in(entry), running))
 }
 
 // What the report's entry tells, and what the report says is running.
@@ -135,17 +169,19 @@ fn report_of(heard: HeardAct, running: Items<Attempt>) -> Report
 }
 
 // Walks the round that follows a report, and gives the line of the report's reply.
-fn line_after_round(
+fn line_after_round<K: Keeper>(
     alloc: Global,
-    farm: &mut Farm,
+    recorder: &mut PlainRecorder<K>,
     host: HostNo,
     report: &Report,
     moment: u64,
 ) -> ReplyLine
-    ensures { (mark : Mark) × IsRoundAnswer farm.old host report.now moment mark farm.new (shown result) }
+    ensures answer { IsRoundAnswer recorder.old.farm host report.now moment recorder.new.farm (shown result) (K.faults recorder.old.keeper) (K.faults recorder.new.keeper) }
+    ensures told { K.tells recorder.new.keeper → K.tells recorder.old.keeper }
+    ensures rises { K.faults recorder.old.keeper ≤ K.faults recorder.new.keeper }
 {
-    let cut = round(alloc, farm, host, moment);
-    match report_line(alloc, farm, host, report, cut) {
+    let cut = round(alloc, recorder, host, moment);
+    match report_line(alloc, recorder.read(), host, report, cut) {
         Ok(line) => ReplyLine::Written(line),
         Err(_) => ReplyLine::NoMemory,
     }

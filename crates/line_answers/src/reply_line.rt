@@ -12,25 +12,29 @@ use std::alloc::{AllocError, Global};
 
 const TOO_LONG: &str = "{\"code\":2,\"ok\":false,\"why\":\"too_long\"}\n";
 
+const STORE: &str = "{\"code\":15,\"ok\":false,\"why\":\"store\"}\n";
+
 const NO_MEMORY: &str = "{\"code\":16,\"ok\":false,\"why\":\"memory\"}\n";
 
-/// The line of a reply: one that was written for it, or one of the two that take no memory.
+/// The line of a reply: one that was written for it, or one of the three that take no memory.
 #[derive(Drop)]
 pub enum ReplyLine {
     Written(Text),
     TooLong,
+    Store,
     NoMemory,
 }
 
 impl ReplyLine {
     /// The line's bytes, its newline too.
-    #[tactic(auto, using(crate::proofs::LineLemmas::too_long_text, crate::proofs::LineLemmas::no_memory_text))]
+    #[tactic(auto, using(crate::proofs::LineLemmas::too_long_text, crate::proofs::LineLemmas::store_text, crate::proofs::LineLemmas::no_memory_text))]
     pub fn bytes(&self) -> &[u8]
         ensures { result.now ≡ shown self.now }
     {
         match self {
             ReplyLine::Written(line) => line.as_str().as_bytes(),
             ReplyLine::TooLong => TOO_LONG.as_bytes(),
+            ReplyLine::Store => STORE.as_bytes(),
             ReplyLine::NoMemory => NO_MEMORY.as_bytes(),
         }
     }

@@ -2,6 +2,8 @@
 use Rattle.std.proofs.Common.{◌≡◌, List, [], ◌∷◌, ◌++◌, refl, sym, ap, ◌∙◌, append_assoc, append-nil}
 use Rattle.json.specs.Print.{print}
 use Rattle.json.specs.Token.{Token}
+use Rattle.serde_json.specs.Data.{Data}
+use Rattle.serde_json.specs.Written.{compact_text}
 use Rattle.serde_json.proofs.Texts.{print-outline}
 use Rattle.farm_lines.specs.declared.reply.Reply.{Reply}
 use Rattle.farm_lines.specs.Reply.{reply_data, reply_text}
@@ -15,5 +17,8 @@ pub added_append : (before xs ys : List Token) → added before (xs ++ ys) ≡ a
 added_append before [] ys = refl
 added_append before (x ∷ xs) ys = added_append (before ++ x ∷ []) xs ys
 
+pub data_printed : (d : Data) → print (added [] (tokens_of d)) ≡ compact_text d
+data_printed d = ap print (added_is [] (tokens_of d)) ∙ print-outline d
+
 pub reply_printed : (r : Reply) → print (added [] (tokens_of (reply_data r))) ≡ reply_text r
-reply_printed r = ap print (added_is [] (tokens_of (reply_data r))) ∙ print-outline (reply_data r)
+reply_printed r = data_printed (reply_data r)

@@ -1,12 +1,14 @@
-//! The replies to malformed lines, and where memory ran out.
+//! The replies to malformed lines, and where the store failed or memory ran out.
 
-ghost use Rattle.std.specs.Prelude.{◌≡◌, OnOk};
-ghost use Rattle.farm_lines.specs.Reply.{bad_amount, bad_line, bad_range, fault_word, no_memory, section_of, too_long};
+ghost use Rattle.std.specs.Prelude.{◌≡◌, IfOk, OnOk};
+ghost use Rattle.farm_lines.specs.Reply.{bad_amount, bad_line, bad_range, bad_store, bad_store_line, fault_word, no_memory, section_of, store_fault, too_long};
 ghost use Rattle.report_codec.specs.Tokens.{added, tokens_of};
+ghost use Rattle.serde_json.specs.Written.{compact_text};
 
 use crate::reply_writer::ReplyWriter;
+use farm_types::Text;
 use frame_range::RangeFault;
-use std::alloc::AllocError;
+use std::alloc::{AllocError, Global};
 
 /// A line or a field that isn't of its form: `field` is the innermost key, empty for the whole line.
 #[tactic(auto, unfolding(farm_lines::specs::Reply::bad_line))]
@@ -64,6 +66,50 @@ pub fn write_bad_amount(out: &mut ReplyWriter, field: &str) -> Result<(), AllocE
     out.text("field", field)?;
     out.truth("ok", false)?;
     out.text("why", "bad_amount")?;
+    out.end_object()
+}
+
+/// The line that tells a row of the store at fault, with its newline.
+pub fn write_bad_store(alloc: Global, kind: u8, id: u64) -> Result<Text, AllocError>
+    ensures { IfOk result (λ line. line ≡ bad_store_line kind id) }
+{
+    let mut line = bad_store_text(alloc, kind, id)?.into_string();
+    line.push_str("\n")?;
+    Ok(Text::from_string(line))
+}
+
+// A row of the store at fault, as compact JSON.
+#[tactic(auto, using(crate::proofs::Printed::data_printed))]
+fn bad_store_text(alloc: Global, kind: u8, id: u64) -> Result<Text, AllocError>
+    ensures { IfOk result (λ text. text ≡ compact_text (bad_store kind id)) }
+{
+    let mut out = ReplyWriter::new(alloc)?;
+    write_bad_row(&mut out, u64::from(kind), id)?;
+    Ok(out.into_text())
+}
+
+// A row of the store at fault.
+#[tactic(auto, unfolding(farm_lines::specs::Reply::bad_store))]
+fn write_bad_row(out: &mut ReplyWriter, kind: u64, id: u64) -> Result<(), AllocError>
+    ensures { OnOk result (out.new ≡ added out.old (tokens_of (bad_store kind id))) }
+{
+    out.begin_object()?;
+    out.whole("id", id)?;
+    out.whole("kind", kind)?;
+    out.truth("ok", false)?;
+    out.text("why", "bad_store")?;
+    out.end_object()
+}
+
+/// A fault of the store.
+#[tactic(auto, unfolding(farm_lines::specs::Reply::store_fault))]
+pub fn write_store_fault(out: &mut ReplyWriter) -> Result<(), AllocError>
+    ensures { OnOk result (out.new ≡ added out.old (tokens_of store_fault)) }
+{
+    out.begin_object()?;
+    out.whole("code", 15)?;
+    out.truth("ok", false)?;
+    out.text("why", "store")?;
     out.end_object()
 }
 

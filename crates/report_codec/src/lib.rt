@@ -21,6 +21,7 @@ mod submit_line;
 mod tick_line;
 mod write;
 
+pub use fault_reply::write_bad_store;
 pub use laws::replies_are_single_lines;
 pub use read::read_request;
 pub use write::write_reply;

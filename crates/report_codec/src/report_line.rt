@@ -117,6 +117,7 @@ fn cut_text(cut: Cut) -> &'static str
 {
     match cut {
         Cut::Whole => "",
+        Cut::Store => "store",
         Cut::Memory => "memory",
     }
 }

@@ -8,7 +8,8 @@ use crate::boot_line::write_boot;
 use crate::depend_line::write_depend;
 use crate::drop_line::write_dropped;
 use crate::fault_reply::{
-    write_bad_amount, write_bad_line, write_bad_range, write_no_memory, write_too_long,
+    write_bad_amount, write_bad_line, write_bad_range, write_no_memory, write_store_fault,
+    write_too_long,
 };
 use crate::operator_line::write_ended;
 use crate::refusal_reply::write_refusal;
@@ -54,6 +55,7 @@ fn write_object(out: &mut ReplyWriter, reply: &Reply) -> Result<(), AllocError>
         Reply::BadRange { layer, fault } => write_bad_range(out, layer.as_str(), *fault),
         Reply::BadAmount { field } => write_bad_amount(out, field.as_str()),
         Reply::Refused(why) => write_refusal(out, why),
+        Reply::Store => write_store_fault(out),
         Reply::NoMemory => write_no_memory(out),
     }
 }

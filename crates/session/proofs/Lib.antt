@@ -1,4 +1,8 @@
 mod ExchangeLemmas
-mod OpeningLemmas
+pub mod NewKeepers
+mod OpenedLegal
+mod OpenedRun
+mod OpenedStore
+mod OpenedWays
 mod RunLemmas
 mod SessionLemmas

@@ -1,23 +1,30 @@
 -- What a call of the program did, by how it ended.
-use Rattle.std.proofs.Common.{◌≡◌, ◌↔◌, ◌<◌, ◌^◌, ℕ, List, [], ◌∷◌, length, inl, inr, refl, sym, ◌∙◌, subst, Option, None, Some, true≢false, ap, arith}
+use Rattle.std.proofs.Common.{◌≡◌, ◌↔◌, ◌<◌, ◌≤◌, ◌^◌, ◌⊎◌, ℕ, List, [], ◌∷◌, length, take, drop, length-drop, take-append-drop, inl, inr, refl, sym, ◌∙◌, subst, Option, None, Some, true≢false, ap, arith}
 use Rattle.std.specs.Prelude.{is_some, option_map}
 use Rattle.std.specs.List.{All}
 use Rattle.cue_io.specs.Faults.{HasRisen}
 use Rattle.cue_io.specs.Input.{Takes-none}
-use Rattle.cue_io.specs.Output.{Adds-none}
-use Rattle.cue_io.specs.Reader.{}
+use Rattle.cue_io.specs.Output.{Adds, Adds-none}
 use Rattle.cue_io.specs.declared.limits.TheConstants.{BYTE_LIMIT}
 use Rattle.cue_io.specs.Readings.{Tells, Tells-append}
 use Rattle.farm_types.specs.declared.entry.Entry.{Entry}
 use Rattle.farm_types.specs.Farm.{Farm}
+use Rattle.farm_types.specs.Kept.{IsKeptFarm}
 use Rattle.farm_types.specs.Run.{IsSound, HasItsHosts, IsLegal, IsSafe}
-use Rattle.farm_lines.specs.Transcript.{Exchange, entries_in}
+use Rattle.farm_law.proofs.KeptChanges.{kept_hosts}
+use Rattle.farm_keeper.specs.Rows.{Rows}
+use Rattle.farm_lines.specs.Transcript.{Exchange, entries_in, lines_in}
+use Rattle.farm_lines.specs.Reply.{bad_store_line}
+use Rattle.recovery.specs.declared.fault.RecoverFault.{RecoverFault}
+use Rattle.recovery.specs.declared.fault.RecoverFault.TheVariants.{BadBytes, BreaksFarm, NoMemory}
 use Rattle.session.specs.declared.exchanged.Exchanged.{Exchanged}
 use Rattle.session.specs.declared.words.Form.{Form}
 use Rattle.session.specs.declared.exchanged.Exchanged.TheVariants as exchanged
-use Rattle.session.specs.Sessions.{Call, Streams, Ends, HasMoved, IsCall, streams, status_of}
+use Rattle.session.specs.declared.opening.OpenFault.{OpenFault}
+use Rattle.session.specs.declared.opening.OpenFault.TheVariants as fault
+use Rattle.session.specs.Opening.{HasFailed, IsOpened, IsPartOpened, Says}
+use Rattle.session.specs.Sessions.{AnswersAll, Call, EndsWell, Ends, HasLines, HasMoved, HaveCauses, IsBadStore, IsCall, IsNoSession, IsOpening, IsSession, MayTell, Streams, TellsBad, TellsFault, TellsLine, status_of, streams}
 use Rattle.session.specs.Words.{WordForm, form_of, opened_farm, word_form}
-use Rattle.session.proofs.OpeningLemmas.{opened_sound, opened_hosted}
 
 -- the code found no form
 pub no_form : (found : Option Form) (formed : Option WordForm) → option_map word_form found ≡ formed → ((form : Form) → found ≡ Some form → ⊥) → formed ≡ None
@@ -26,107 +33,213 @@ no_form (Some form) formed is never = absurd (never form refl)
 
 -- ---- no session
 
--- nothing was taken or written, and the clock was read so
+-- nothing was taken, this was written, and the clock was read so
+abbrev pub told_call : List ℕ → List ℕ → Call
+told_call wrote seen = record { taken = []; written = wrote; readings = seen; exchanges = [] }
+
 abbrev pub idle : List ℕ → Call
-idle seen = record { taken = []; written = []; readings = seen; exchanges = [] }
+idle seen = told_call [] seen
 
 -- a status that isn't 8, with nothing taken
 unspent_idle : (status : ℕ) → (status ≡ 8 → ⊥) → (status ≡ 8) ↔ ((0 ≡ BYTE_LIMIT) × (status ≡ 5 → ⊥))
 unspent_idle status other = (λ is. absurd (other is), λ both. absurd (omega (arith, both.0)))
 
 -- the arguments are invalid
-pub called_for_usage : (words : List (List ℕ)) (left : Option (List ℕ)) (r : ℕ) (written : Option (List ℕ)) (w : ℕ) (readings : Option (List ℕ)) (seen : List ℕ)
-    → form_of words ≡ None → Tells readings readings seen
-    → IsCall words 2 (streams left r written w readings) (streams left r written w readings) (idle seen)
-called_for_usage words left r written w readings seen none tells = record {
+pub called_for_usage : (words : List (List ℕ)) (left : Option (List ℕ)) (r : ℕ) (written : Option (List ℕ)) (w : ℕ) (readings : Option (List ℕ)) (k : ℕ)
+    (says : Farm → Type 0) (bad : RecoverFault → Type 0) (untouched : Type 0) (holds : Farm → Type 0) → untouched → form_of words ≡ None → Tells readings readings []
+    → IsCall words 2 (streams left r written w readings k) (streams left r written w readings k) (idle []) says bad untouched holds
+called_for_usage words left r written w readings k says bad untouched holds kept none tells = record {
   moved = record { taken = Takes-none left; written = Adds-none written; readings = tells };
-  session = inl (record { status_is = inl refl; none_taken = refl; none_written = refl });
+  session = inl (record { status_is = inl refl; none_taken = refl; none_written = refl; kept = inl kept });
   spent = unspent_idle 2 (λ is. omega (arith, is));
-  complete = λ formed unread unwritten few. absurd (true≢false (sym formed ∙ ap is_some none));
+  complete = λ formed right unfailed unread unwritten few. absurd (true≢false (sym formed ∙ ap is_some none));
 }
 
--- memory ran out
-pub called_for_memory : (words : List (List ℕ)) (left : Option (List ℕ)) (r : ℕ) (written : Option (List ℕ)) (w : ℕ) (readings readings' : Option (List ℕ)) (seen : List ℕ)
-    → Tells readings readings' seen → IsCall words 7 (streams left r written w readings) (streams left r written w readings') (idle seen)
-called_for_memory words left r written w readings readings' seen tells = record {
+-- memory ran out before the store was read
+pub called_for_memory : (words : List (List ℕ)) (left : Option (List ℕ)) (r : ℕ) (written : Option (List ℕ)) (w : ℕ) (readings : Option (List ℕ)) (k : ℕ)
+    (says : Farm → Type 0) (bad : RecoverFault → Type 0) (untouched : Type 0) (holds : Farm → Type 0) → untouched → Tells readings readings []
+    → IsCall words 7 (streams left r written w readings k) (streams left r written w readings k) (idle []) says bad untouched holds
+called_for_memory words left r written w readings k says bad untouched holds kept tells = record {
   moved = record { taken = Takes-none left; written = Adds-none written; readings = tells };
-  session = inl (record { status_is = inr refl; none_taken = refl; none_written = refl });
+  session = inl (record { status_is = inr (inr refl); none_taken = refl; none_written = refl; kept = inl kept });
   spent = unspent_idle 7 (λ is. omega (arith, is));
-  complete = λ formed unread unwritten few. inr (refl, refl, refl);
+  complete = λ formed right unfailed unread unwritten few. inr (refl, refl, refl);
 }
+
+-- ---- no farm was opened
+
+-- a front of the line was written
+pub told_part : (text line : List ℕ) (count : ℕ) → text ≡ line → count < length text → MayTell (TellsLine line 5 (take count text)) 5 (take count text)
+told_part text line count is short =
+    let part : List ℕ = take count text in
+    subst (λ (whole : List ℕ). MayTell (TellsLine whole 5 part) 5 part) is (inl (inr (refl, drop count text, omega (arith, length-drop count text), take-append-drop count text)))
+
+-- the status is none that tells spent bytes
+line_low : (line : List ℕ) (status : ℕ) (wrote : List ℕ) → TellsLine line status wrote → status ≤ 7
+line_low line status wrote (inl six) = omega (arith, six.0)
+line_low line status wrote (inr five) = omega (arith, five.0)
+
+bad_low : (why : RecoverFault) (status : ℕ) (wrote : List ℕ) → TellsBad why status wrote → status ≤ 7
+bad_low (BadBytes kind id) status wrote told = line_low (bad_store_line kind id) status wrote told
+bad_low (BreaksFarm kind id) status wrote told = line_low (bad_store_line kind id) status wrote told
+bad_low NoMemory status wrote told = absurd told
+
+may_low : (why : RecoverFault) (status : ℕ) (wrote : List ℕ) → MayTell (TellsBad why status wrote) status wrote → status ≤ 7
+may_low why status wrote (inl told) = bad_low why status wrote told
+may_low why status wrote (inr seven) = omega (arith, seven.0)
+
+fault_low : (why : OpenFault) (status : ℕ) (wrote : List ℕ) → TellsFault why status wrote → status ≤ 7
+fault_low fault.Store status wrote told = omega (arith, told.0)
+fault_low (fault.Bad why) status wrote told = may_low why status wrote told
+fault_low fault.NoMemory status wrote told = omega (arith, told.0)
+
+module _ (words : List (List ℕ)) (form : WordForm) (opened : ℕ) (says : Farm → Type 0) (bad : RecoverFault → Type 0) (untouched : Type 0) (holds : Farm → Type 0)
+    (formed : form_of words ≡ Some form) where
+  -- the opening went so far
+  part_opened : (call : Call) → call.readings ≡ opened ∷ [] → untouched ⊎ IsPartOpened says holds form opened → untouched ⊎ IsOpening words call says holds
+  part_opened call reads (inl kept) = inl kept
+  part_opened call reads (inr part) =
+      inr (record {
+        form = form;
+        opened = opened;
+        first = part.first;
+        done = part.done;
+        formed = formed;
+        said = part.said;
+        readings = reads;
+        opening_legal = part.legal;
+        held = part.held;
+      })
+
+  -- a row at fault was told, or memory ran out for it
+  bad_told : (why : RecoverFault) (status : ℕ) (call : Call) (left : Option (List ℕ)) (k k' : ℕ) → call.taken ≡ [] → MayTell (TellsBad why status call.written) status call.written → bad why → untouched
+      → IsNoSession words status call says untouched holds ⊎ (IsBadStore status call bad untouched ⊎ IsSession words status call left k k' says holds)
+  bad_told why status call left k k' none (inl told) is_bad kept = inr (inl (record { fault = why; is_bad = is_bad; told = told; none_taken = none; kept = kept }))
+  bad_told why status call left k k' none (inr told) is_bad kept = inl (record { status_is = inr (inr told.0); none_taken = none; none_written = told.1; kept = inl kept })
+
+  -- how no farm was opened
+  failed_session : (why : OpenFault) (status : ℕ) (call : Call) (left : Option (List ℕ)) (k k' : ℕ) (risen : Type 0) → call.taken ≡ [] → call.readings ≡ opened ∷ []
+      → TellsFault why status call.written → HasFailed why bad untouched (IsPartOpened says holds form opened) risen
+      → IsNoSession words status call says untouched holds ⊎ (IsBadStore status call bad untouched ⊎ IsSession words status call left k k' says holds)
+  failed_session fault.Store status call left k k' risen none reads told failed =
+      inl (record { status_is = inr (inl told.0); none_taken = none; none_written = told.1; kept = part_opened call reads failed.1 })
+  failed_session (fault.Bad why) status call left k k' risen none reads told failed = bad_told why status call left k k' none told failed.0 failed.1
+  failed_session fault.NoMemory status call left k k' risen none reads told failed =
+      inl (record { status_is = inr (inr told.0); none_taken = none; none_written = told.1; kept = part_opened call reads failed })
+
+  -- it ends early by a fault of the store, a row at fault or memory alone
+  failed_complete : (why : OpenFault) (status : ℕ) (call : Call) (risen : Type 0) → call.taken ≡ [] → TellsFault why status call.written
+      → HasFailed why bad untouched (IsPartOpened says holds form opened) risen → ((why : RecoverFault) → bad why → ⊥) → (risen → ⊥) → EndsWell status call
+  failed_complete fault.Store status call risen none told failed right unfailed = absurd (unfailed failed.0)
+  failed_complete (fault.Bad why) status call risen none told failed right unfailed = absurd (right why failed.0)
+  failed_complete fault.NoMemory status call risen none told failed right unfailed = inr (told.0, none, told.1)
+
+  pub called_failed : (why : OpenFault) (status : ℕ) (wrote : List ℕ) (left : Option (List ℕ)) (r : ℕ) (written written' : Option (List ℕ)) (w w' : ℕ)
+      (readings readings' : Option (List ℕ)) (k k' : ℕ)
+      → Tells readings readings' (opened ∷ []) → Adds written written' wrote → TellsFault why status wrote
+      → HasFailed why bad untouched (IsPartOpened says holds form opened) (HasRisen k k')
+      → IsCall words status (streams left r written w readings k) (streams left r written' w' readings' k') (told_call wrote (opened ∷ [])) says bad untouched holds
+  called_failed why status wrote left r written written' w w' readings readings' k k' reads adds told failed =
+      let call : Call = told_call wrote (opened ∷ []) in
+      let other : status ≡ 8 → ⊥ = λ is. omega (arith, is, fault_low why status wrote told) in
+      record {
+        moved = record { taken = Takes-none left; written = adds; readings = reads };
+        session = failed_session why status call left k k' (HasRisen k k') refl refl told failed;
+        spent = unspent_idle status other;
+        complete = λ valid right unfailed unread unwritten few. failed_complete why status call (HasRisen k k') refl told failed right unfailed;
+      }
 
 -- ---- a session
 
 -- status 8 comes exactly where the bytes are spent and no write failed
-spent_session : (ended : Exchanged) (status : ℕ) (first : Farm) (call : Call) (left : Option (List ℕ)) → status ≡ status_of ended → Ends ended first call left
+spent_session : (ended : Exchanged) (status : ℕ) (call : Call) (left : Option (List ℕ)) → status ≡ status_of ended → HasLines ended call.taken (lines_in call.exchanges) left
     → (status ≡ 8) ↔ ((length call.taken ≡ BYTE_LIMIT) × (status ≡ 5 → ⊥))
-spent_session exchanged.Went status first call left is ends = absurd ends.lines
-spent_session exchanged.End status first call left is ends = (λ eight. absurd (omega (arith, is, eight)), λ both. absurd (omega (arith, ends.lines.1, both.0)))
-spent_session exchanged.Read status first call left is ends = (λ eight. absurd (omega (arith, is, eight)), λ both. absurd (omega (arith, ends.lines.1, both.0)))
-spent_session exchanged.Spent status first call left is ends = (λ eight. (ends.lines.1, λ five. omega (arith, eight, five)), λ both. is)
-spent_session exchanged.Write status first call left is ends = (λ eight. absurd (omega (arith, is, eight)), λ both. absurd (both.1 is))
+spent_session exchanged.Went status call left is lines = absurd lines
+spent_session exchanged.End status call left is lines = (λ eight. absurd (omega (arith, is, eight)), λ both. absurd (omega (arith, lines.1, both.0)))
+spent_session exchanged.Read status call left is lines = (λ eight. absurd (omega (arith, is, eight)), λ both. absurd (omega (arith, lines.1, both.0)))
+spent_session exchanged.Spent status call left is lines = (λ eight. (lines.1, λ five. omega (arith, eight, five)), λ both. is)
+spent_session exchanged.Write status call left is lines = (λ eight. absurd (omega (arith, is, eight)), λ both. absurd (both.1 is))
 
 -- nothing else ends it early
-complete_session : (ended : Exchanged) (status : ℕ) (first : Farm) (call : Call) (left : Option (List ℕ)) (ReadFails WriteFails : Type 0) → status ≡ status_of ended
-    → Ends ended first call left → (ended ≡ exchanged.Read → ReadFails) → (ended ≡ exchanged.Write → WriteFails)
+complete_session : (ended : Exchanged) (status : ℕ) (call : Call) (left : Option (List ℕ)) (ReadFails WriteFails : Type 0) → status ≡ status_of ended
+    → HasLines ended call.taken (lines_in call.exchanges) left → (status ≡ 4 → ReadFails) → (status ≡ 5 → WriteFails)
     → (ReadFails → ⊥) → (WriteFails → ⊥) → length call.taken < BYTE_LIMIT → status ≡ 0
-complete_session exchanged.Went status first call left ReadFails WriteFails is ends read write unread unwritten few = absurd ends.lines
-complete_session exchanged.End status first call left ReadFails WriteFails is ends read write unread unwritten few = is
-complete_session exchanged.Read status first call left ReadFails WriteFails is ends read write unread unwritten few = absurd (unread (read refl))
-complete_session exchanged.Write status first call left ReadFails WriteFails is ends read write unread unwritten few = absurd (unwritten (write refl))
-complete_session exchanged.Spent status first call left ReadFails WriteFails is ends read write unread unwritten few = absurd (omega (arith, ends.lines.1, few))
+complete_session exchanged.Went status call left ReadFails WriteFails is lines read write unread unwritten few = absurd lines
+complete_session exchanged.End status call left ReadFails WriteFails is lines read write unread unwritten few = is
+complete_session exchanged.Read status call left ReadFails WriteFails is lines read write unread unwritten few = absurd (unread (read is))
+complete_session exchanged.Write status call left ReadFails WriteFails is lines read write unread unwritten few = absurd (unwritten (write is))
+complete_session exchanged.Spent status call left ReadFails WriteFails is lines read write unread unwritten few = absurd (omega (arith, lines.1, few))
 
--- a failed read and a failed write, by their status
-pub told_read : (ended : Exchanged) (status : ℕ) → status ≡ status_of ended → status ≡ 4 → ended ≡ exchanged.Read
-told_read exchanged.Went status is four = absurd (omega (arith, is, four))
-told_read exchanged.End status is four = absurd (omega (arith, is, four))
-told_read exchanged.Read status is four = refl
-told_read exchanged.Write status is four = absurd (omega (arith, is, four))
-told_read exchanged.Spent status is four = absurd (omega (arith, is, four))
+-- a session over a farm that keeps what every farm keeps is legal and safe
+pub answers_all : (status : ℕ) (ended : Exchanged) (first last : Farm) (before after : Streams) (call : Call) (holds : Farm → Type 0) → status ≡ status_of ended → IsKeptFarm first
+    → ((f : Farm) (exchanges : List Exchange) → All (λ (t : Exchange). t.moment < 2 ^ 64) exchanges → IsLegal f (entries_in f exchanges))
+    → ((f : Farm) (es : List Entry) → IsSound f → HasItsHosts f → IsLegal f es → IsSafe f es)
+    → HasMoved before after call → Ends ended first last call after.left before.store_faults after.store_faults → holds last
+    → AnswersAll status first before after call holds
+answers_all status ended first last before after call holds is kept legal_law safe_law moved ends held =
+    let legal : IsLegal first (entries_in first call.exchanges) = legal_law first call.exchanges ends.within in
+    record {
+      ended = ended;
+      last = last;
+      status_is = is;
+      moved = moved;
+      ends = ends;
+      legal = legal;
+      safe = safe_law first (entries_in first call.exchanges) kept.rows.sound (kept_hosts first kept.rows) legal;
+      held = held;
+    }
 
-pub told_write : (ended : Exchanged) (status : ℕ) → status ≡ status_of ended → status ≡ 5 → ended ≡ exchanged.Write
-told_write exchanged.Went status is five = absurd (omega (arith, is, five))
-told_write exchanged.End status is five = absurd (omega (arith, is, five))
-told_write exchanged.Read status is five = absurd (omega (arith, is, five))
-told_write exchanged.Write status is five = refl
-told_write exchanged.Spent status is five = absurd (omega (arith, is, five))
+-- the causes, counted from before the opening
+causes_earlier : (ts : List Exchange) (old mid new : ℕ) → old ≤ mid → HaveCauses ts mid new → HaveCauses ts old new
+causes_earlier ts old mid new low (inl each) = inl (omega arith)
+causes_earlier ts old mid new low (inr full) = inr full
 
 -- with the reading at the opening
 abbrev pub opened_call : ℕ → Call → Call
 opened_call opened call = record { taken = call.taken; written = call.written; readings = opened ∷ call.readings; exchanges = call.exchanges }
 
+-- what the store said before it says where the keeper still tells the truth
+pub opened_still : (told_then told_now : Type 0) (held : Rows → Type 0) (form : WordForm) (opened : ℕ) (farm : Farm) → (told_now → told_then)
+    → IsOpened (Says told_then held) form opened farm → IsOpened (Says told_now held) form opened farm
+opened_still told_then told_now held form opened farm told o = record { first = o.first; said = λ tells. o.said (told tells); legal = o.legal; farm_is = o.farm_is }
+
 -- a session over a farm that was opened
-pub called_session : (words : List (List ℕ)) (form : WordForm) (status : ℕ) (ended : Exchanged) (opened : ℕ) (farm : Farm) (call : Call) (before after : Streams) (mid : Option (List ℕ))
-    → form_of words ≡ Some form → status ≡ status_of ended → farm ≡ opened_farm form opened
-    → ((f : Farm) (exchanges : List Exchange) → All (λ (t : Exchange). t.moment < 2 ^ 64) exchanges → IsLegal f (entries_in f exchanges))
-    → ((f : Farm) (es : List Entry) → IsSound f → HasItsHosts f → IsLegal f es → IsSafe f es)
-    → Tells before.readings mid (opened ∷ [])
-    → HasMoved (streams before.left before.read_faults before.written before.write_faults mid) after call
-    → Ends ended farm call after.left
-    → (ended ≡ exchanged.Read → HasRisen before.read_faults after.read_faults) → (ended ≡ exchanged.Write → HasRisen before.write_faults after.write_faults)
-    → IsCall words status before after (opened_call opened call)
-called_session words form status ended opened farm call before after mid formed is opens legal_law safe_law reads moved ends read write =
-    let first : Farm = opened_farm form opened in
-    let over : Ends ended first call after.left = subst (λ (f : Farm). Ends ended f call after.left) opens ends in
-    let legal : IsLegal first (entries_in first call.exchanges) = legal_law first call.exchanges over.within in
+pub called_session : (words : List (List ℕ)) (form : WordForm) (status : ℕ) (opened : ℕ) (farm : Farm) (call : Call) (before after : Streams) (mid : Option (List ℕ)) (k : ℕ)
+    (says : Farm → Type 0) (bad : RecoverFault → Type 0) (untouched : Type 0) (holds : Farm → Type 0)
+    → form_of words ≡ Some form → IsOpened says form opened farm → Tells before.readings mid (opened ∷ []) → before.store_faults ≤ k
+    → AnswersAll status farm (streams before.left before.read_faults before.written before.write_faults mid k) after call holds
+    → (status ≡ 4 → HasRisen before.read_faults after.read_faults) → (status ≡ 5 → HasRisen before.write_faults after.write_faults)
+    → IsCall words status before after (opened_call opened call) says bad untouched holds
+called_session words form status opened farm call before after mid k says bad untouched holds formed opening reads rises answered read write =
+    let first : Farm = opened_farm form opening.first opened in
+    let over : AnswersAll status first (streams before.left before.read_faults before.written before.write_faults mid k) after call holds
+    = subst (λ (f : Farm). AnswersAll status f (streams before.left before.read_faults before.written before.write_faults mid k) after call holds) opening.farm_is answered in
+    let moved = over.moved in
+    let ends = over.ends in
     record {
       moved = record {
         taken = moved.taken;
         written = moved.written;
         readings = Tells-append before.readings mid after.readings (opened ∷ []) call.readings reads moved.readings;
       };
-      session = inr (record {
+      session = inr (inr (record {
         form = form;
         opened = opened;
-        ended = ended;
+        ended = over.ended;
+        first = opening.first;
         formed = formed;
-        status_is = is;
-        lines = over.lines;
-        replies = over.replies;
-        readings = ap (λ later. opened ∷ later) over.moments;
-        legal = legal;
-        safe = safe_law first (entries_in first call.exchanges) (opened_sound form opened) (opened_hosted form opened) legal;
-      });
-      spent = spent_session ended status first call after.left is over;
-      complete = λ valid unread unwritten few. inl (complete_session ended status first call after.left _ _ is over read write unread unwritten few);
+        said = opening.said;
+        status_is = over.status_is;
+        lines = ends.lines;
+        replies = ends.replies;
+        readings = ap (λ later. opened ∷ later) ends.moments;
+        opening_legal = opening.legal;
+        legal = over.legal;
+        safe = over.safe;
+        marked = ends.marked;
+        causes = causes_earlier call.exchanges before.store_faults k after.store_faults rises ends.causes;
+        held = subst holds ends.farm_is over.held;
+      }));
+      spent = spent_session over.ended status call after.left over.status_is ends.lines;
+      complete = λ valid right unfailed unread unwritten few. inl (complete_session over.ended status call after.left _ _ over.status_is ends.lines read write unread unwritten few);
     }

@@ -1,7 +1,8 @@
 -- Exchange by exchange, a session is the transcript of its lines.
-use Rattle.std.proofs.Common.{◌≡◌, ◌<◌, ◌^◌, ◌+◌, ℕ, Bool, true, false, List, [], ◌∷◌, ◌++◌, refl, sym, ap, ◌∙◌, subst, Option, Result, Ok, Err, append_assoc, append-nil, length, length-append}
+use Rattle.std.proofs.Common.{◌≡◌, ◌≤◌, ◌<◌, ◌^◌, ◌+◌, ◌⊎◌, inl, inr, ℕ, zero, suc, cond, Bool, true, false, true≢false, List, [], ◌∷◌, ◌++◌, arith, refl, sym, ap, ◌∙◌, subst, Option, Result, Ok, Err, append_assoc, append-nil, length, length-append}
 use Rattle.std.proofs.lemmas.List.{map-append}
 use Rattle.std.proofs.lemmas.List.Elements.{All-push}
+use Rattle.std.proofs.lemmas.List.Sums.{sum_by_push}
 use Rattle.cue_io.specs.declared.line.LineFault.{LineFault}
 use Rattle.cue_io.specs.declared.line.LineFault.TheVariants as line_fault
 use Rattle.cue_io.specs.History.{HasGiven, HasGiven-next, Continues, IsCut}
@@ -12,12 +13,13 @@ use Rattle.cue_io.specs.Lines.{lines_of, lines_of-joined}
 use Rattle.cue_io.specs.Reader.{Held, Given, Whole, Long, AtEnd, Goes}
 use Rattle.cue_io.specs.declared.limits.TheConstants.{BYTE_LIMIT}
 use Rattle.farm_types.specs.Farm.{Farm}
+use Rattle.farm_keeper.specs.Faults.{HasRisen, last_count}
 use Rattle.farm_lines.specs.Reply.{reply_text}
-use Rattle.farm_lines.specs.Transcript.{Mark, Exchange, answer_to, answer_at, farm_next, farm_after, transcript, lines_in, moments_in}
+use Rattle.farm_lines.specs.Transcript.{Mark, Exchange, answer_to, answer_at, farm_next, farm_after, is_store_mark, transcript, lines_in, moments_in}
 use Rattle.session.specs.declared.exchanged.Exchanged.{Exchanged}
 use Rattle.session.specs.declared.exchanged.Exchanged.TheVariants as exchanged
-use Rattle.line_answers.specs.LineAnswers.{IsAnswer}
-use Rattle.session.specs.Sessions.{Answers, Call, Streams, IsExchange, IsStep, HasAnswered, HasMoved, HasServed, AreFirstLines, Ends}
+use Rattle.line_answers.specs.LineAnswers.{HasCause, IsAnswer, IsMarked}
+use Rattle.session.specs.Sessions.{Answers, AreFirstLines, AreMarked, Call, Ends, HasAnswered, HasLines, HasMoved, HasReplies, HasServed, HaveCauses, IsExchange, IsNoExchange, IsStep, MayStand, Streams, store_marks}
 use Rattle.farm_lines.specs.declared.limits.TheConstants.{LINE_LIMIT}
 
 -- ---- one exchange more
@@ -38,45 +40,100 @@ lines_in-append ts t = map-append (λ u. u.line) ts (t ∷ [])
 moments_in-append : (ts : List Exchange) (t : Exchange) → moments_in (ts ++ t ∷ []) ≡ moments_in ts ++ t.moment ∷ []
 moments_in-append ts t = map-append (λ u. u.moment) ts (t ∷ [])
 
--- the farm, the text and the reading of one exchange more
-answered_more : (first : Farm) (exchanges : List Exchange) (farm : Farm) (wrote seen : List ℕ) (t : Exchange) (after : Farm) (reply : List ℕ)
-    → HasAnswered first exchanges farm wrote seen → t.moment < 2 ^ 64 → IsAnswer farm (answer_at farm t) after reply
-    → HasAnswered first (exchanges ++ t ∷ []) after (wrote ++ reply) (seen ++ t.moment ∷ [])
-answered_more first exchanges farm wrote seen t after reply answered low answer = record {
+-- ---- marks of the store
+
+are_marked-append : (f : Farm) (ts : List Exchange) (t : Exchange) → AreMarked f ts → IsMarked (farm_after f ts) t.line t.moment t.mark → AreMarked f (ts ++ t ∷ [])
+are_marked-append f [] t marked may = (may, tt)
+are_marked-append f (u ∷ ts) t marked may = (marked.0, are_marked-append (farm_next f u) ts t marked.1 may)
+
+-- the mark's weight in the count
+abbrev weight_of : Bool → ℕ
+weight_of b = cond b 1 0
+
+abbrev weight : Exchange → ℕ
+weight t = weight_of (is_store_mark t.mark)
+
+causes_by : (marks more old mid new : ℕ) → more ≤ 1 → (more ≡ 1 → HasRisen mid new) → mid ≤ new → (old + marks ≤ mid) ⊎ (last_count ≤ mid) → (old + (marks + more) ≤ new) ⊎
+    (last_count ≤ new)
+causes_by marks zero old mid new low cause rises (inl so_far) = inl (omega arith)
+causes_by marks (suc zero) old mid new low cause rises (inl so_far) = one_more (cause refl) where
+  one_more : HasRisen mid new → (old + (marks + 1) ≤ new) ⊎ (last_count ≤ new)
+  one_more (inl rose) = inl (omega arith)
+  one_more (inr full) = inr full
+causes_by marks (suc (suc more)) old mid new low cause rises (inl so_far) = absurd (omega (arith, low))
+causes_by marks more old mid new low cause rises (inr full) = inr (omega arith)
+
+weight_low : (b : Bool) → weight_of b ≤ 1
+weight_low true = omega arith
+weight_low false = omega arith
+
+weight_one : (b : Bool) → weight_of b ≡ 1 → b ≡ true
+weight_one true is = refl
+weight_one false is = absurd (omega (arith, is))
+
+have_causes-append : (ts : List Exchange) (t : Exchange) (old mid new : ℕ) → HaveCauses ts old mid → HasCause t.mark mid new → mid ≤ new → HaveCauses (ts ++ t ∷ []) old new
+have_causes-append ts t old mid new causes cause rises =
+    subst (λ (marks : ℕ). (old + marks ≤ new) ⊎ (last_count ≤ new)) (sym (sum_by_push weight ts t))
+    (causes_by (store_marks ts) (weight t) old mid new (weight_low (is_store_mark t.mark)) (λ is. cause (weight_one (is_store_mark t.mark) is)) rises causes)
+
+-- ---- an exchange in a session
+
+-- the farm, the text, the reading and the mark of one exchange more
+answered_more : (first : Farm) (exchanges : List Exchange) (farm : Farm) (wrote seen : List ℕ) (t : Exchange) (after : Farm) (reply : List ℕ) (faults mid faults_now : ℕ)
+    → HasAnswered first exchanges farm wrote seen faults mid → t.moment < 2 ^ 64 → IsAnswer farm (answer_at farm t) after reply
+    → IsMarked farm t.line t.moment t.mark → HasCause t.mark mid faults_now → mid ≤ faults_now
+    → HasAnswered first (exchanges ++ t ∷ []) after (wrote ++ reply) (seen ++ t.moment ∷ []) faults faults_now
+answered_more first exchanges farm wrote seen t after reply faults mid faults_now answered low answer may cause rises = record {
   farm_is = answer.farm ∙ ap (λ g. farm_next g t) answered.farm_is ∙ sym (farm_after-append first exchanges t);
   replies = ap (λ bytes. bytes ++ reply) answered.replies
       ∙ ap (λ bytes. transcript first exchanges ++ bytes) (answer.text ∙ ap (λ g. reply_text (answer_at g t).reply ++ 10 ∷ []) answered.farm_is)
       ∙ sym (transcript-append first exchanges t);
   moments = ap (λ moments. moments ++ t.moment ∷ []) answered.moments ∙ sym (moments_in-append exchanges t);
   within = All-push (λ (t : Exchange). t.moment < 2 ^ 64) exchanges t answered.within low;
+  marked = are_marked-append first exchanges t answered.marked (subst (λ (g : Farm). IsMarked g t.line t.moment t.mark) answered.farm_is may);
+  causes = have_causes-append exchanges t faults mid faults_now answered.causes cause rises;
 }
 
--- the line that was given, and its answer
+-- the line that was given, its answer, and its mark
+record IsLineGiven (taken : List ℕ) (lines : List (List ℕ)) (reader : Held) (left : Option (List ℕ)) (old new : Farm) (moment : ℕ) (mark : Mark) (reply : List ℕ) : Type 0 where
+  line : List ℕ
+  given : HasGiven LINE_LIMIT taken (lines ++ line ∷ []) reader left
+  answer : IsAnswer old (answer_to old line moment mark) new reply
+  may_stand : IsMarked old line moment mark
+
 line_of_exchange : (given : Given) (taken : List ℕ) (lines : List (List ℕ)) (reader : Held) (left : Option (List ℕ)) (old new : Farm) (moment : ℕ) (mark : Mark) (reply : List ℕ)
-    → Continues LINE_LIMIT taken lines (Ok given) reader left → Answers given old moment mark new reply
-    → (line : List ℕ) × HasGiven LINE_LIMIT taken (lines ++ line ∷ []) reader left × IsAnswer old (answer_to old line moment mark) new reply
-line_of_exchange (Whole line) taken lines reader left old new moment mark reply continues answers = (line, continues.1, answers)
-line_of_exchange Long taken lines reader left old new moment mark reply continues answers = (continues.0, continues.2, answers continues.0 continues.1)
-line_of_exchange AtEnd taken lines reader left old new moment mark reply continues answers = absurd answers
+    → Continues LINE_LIMIT taken lines (Ok given) reader left → Answers given old moment mark new reply → MayStand given old moment mark
+    → IsLineGiven taken lines reader left old new moment mark reply
+line_of_exchange (Whole line) taken lines reader left old new moment mark reply continues answers may = record { line = line; given = continues.1; answer = answers; may_stand = may }
+line_of_exchange Long taken lines reader left old new moment mark reply continues answers may = record {
+  line = continues.0;
+  given = continues.2;
+  answer = answers continues.0 continues.1;
+  may_stand = λ is. absurd (true≢false (sym is ∙ may));
+}
+line_of_exchange AtEnd taken lines reader left old new moment mark reply continues answers may = absurd answers
 
 -- one exchange more: what was written of its reply, and what wasn't, is its text
 served_more : (first : Farm) (call : Call) (farm after : Farm) (reader new : Held) (left left' : Option (List ℕ)) (taken' : List ℕ)
-    (given : Given) (w u s : List ℕ) → HasServed first call farm reader left → Continues LINE_LIMIT taken' (lines_in call.exchanges) (Ok given) new left'
-    → IsExchange given farm after w u s
-    → (t : Exchange) × HasServed first (record { taken = taken'; written = call.written ++ (w ++ u); readings = call.readings ++ s; exchanges = call.exchanges ++ t ∷ [] }) after new left'
+    (given : Given) (w u s : List ℕ) (faults mid faults_now : ℕ) → HasServed first call farm reader left faults mid → Continues LINE_LIMIT taken' (lines_in call.exchanges)
+    (Ok given) new left'
+    → IsExchange given farm after w u s mid faults_now
+    → (t : Exchange) × HasServed first (record { taken = taken'; written = call.written ++ (w ++ u); readings = call.readings ++ s; exchanges = call.exchanges ++ t ∷ [] }) after new left' faults faults_now
     × (w ++ u ≡ reply_text (answer_at (farm_after first call.exchanges) t).reply ++ 10 ∷ [])
-served_more first call farm after reader new left left' taken' given w u s served continues exchange =
-    let found = line_of_exchange given taken' (lines_in call.exchanges) new left' farm after exchange.moment exchange.mark exchange.reply continues exchange.answers in
-    let t : Exchange = record { line = found.0; moment = exchange.moment; mark = exchange.mark } in
-    let answered : HasAnswered first (call.exchanges ++ t ∷ []) after (call.written ++ exchange.reply) (call.readings ++ exchange.moment ∷ [])
-    = answered_more first call.exchanges farm call.written call.readings t after exchange.reply served.answered exchange.moment_within found.2 in (
+served_more first call farm after reader new left left' taken' given w u s faults mid faults_now served continues exchange =
+    let found = line_of_exchange given taken' (lines_in call.exchanges) new left' farm after exchange.moment exchange.mark exchange.reply continues exchange.answers exchange.may_stand in
+    let t : Exchange = record { line = found.line; moment = exchange.moment; mark = exchange.mark } in
+    let answered : HasAnswered first (call.exchanges ++ t ∷ []) after (call.written ++ exchange.reply) (call.readings ++ exchange.moment ∷ []) faults faults_now
+    = answered_more first call.exchanges farm call.written call.readings t after exchange.reply faults mid faults_now served.answered exchange.moment_within found.answer found.may_stand exchange.cause exchange.rises in (
       t,
       record {
-        answered = subst (λ (bytes : List ℕ). HasAnswered first (call.exchanges ++ t ∷ []) after (call.written ++ bytes) (call.readings ++ s)) (sym exchange.written)
-            (subst (λ (moments : List ℕ). HasAnswered first (call.exchanges ++ t ∷ []) after (call.written ++ exchange.reply) (call.readings ++ moments)) (sym exchange.read) answered);
-        given = subst (λ (lines : List (List ℕ)). HasGiven LINE_LIMIT taken' lines new left') (sym (lines_in-append call.exchanges t)) found.1;
+        answered = subst (λ (bytes : List ℕ). HasAnswered first (call.exchanges ++ t ∷ []) after (call.written ++ bytes) (call.readings ++ s) faults faults_now)
+            (sym exchange.written)
+            (subst (λ (moments : List ℕ). HasAnswered first (call.exchanges ++ t ∷ []) after (call.written ++ exchange.reply) (call.readings ++ moments) faults faults_now)
+            (sym exchange.read) answered);
+        given = subst (λ (lines : List (List ℕ)). HasGiven LINE_LIMIT taken' lines new left') (sym (lines_in-append call.exchanges t)) found.given;
       },
-      exchange.written ∙ found.2.text ∙ ap (λ g. reply_text (answer_at g t).reply ++ 10 ∷ []) served.answered.farm_is,
+      exchange.written ∙ found.answer.text ∙ ap (λ g. reply_text (answer_at g t).reply ++ 10 ∷ []) served.answered.farm_is,
     )
 
 -- ---- the lines that were given are the first of the bytes taken
@@ -100,38 +157,48 @@ moved_more before mid after call took w s exchanges moved takes adds tells = rec
   readings = Tells-append before.readings mid.readings after.readings call.readings s moved.readings tells;
 }
 
-module _ (first : Farm) (call : Call) (farm after : Farm) (reader new : Held) (left left' : Option (List ℕ)) (took w s : List ℕ)
-    (served : HasServed first call farm reader left) (takes : Takes left left' took) where
+module _ (first : Farm) (call : Call) (farm after : Farm) (reader new : Held) (left left' : Option (List ℕ)) (took w s : List ℕ) (faults mid faults_now : ℕ)
+    (served : HasServed first call farm reader left faults mid) (takes : Takes left left' took) where
   -- what is taken, written and read after the step, with these exchanges
   abbrev more_of : List Exchange → Call
   more_of exchanges = record { taken = call.taken ++ took; written = call.written ++ w; readings = call.readings ++ s; exchanges = exchanges }
 
   -- where the reader stands after the step
-  stands : (answer : Result Given LineFault) (result : Exchanged) → (step : IsStep result reader new left' farm after took w s) → step.answer ≡ answer
+  stands : (answer : Result Given LineFault) (result : Exchanged) → (step : IsStep result reader new left' farm after took w s mid faults_now) → step.answer ≡ answer
       → Continues LINE_LIMIT (call.taken ++ took) (lines_in call.exchanges) answer new left'
   stands answer result step is =
       let Stands : Result Given LineFault → Type 0 = λ a. Continues LINE_LIMIT (call.taken ++ took) (lines_in call.exchanges) a new left' in
-      subst Stands is (HasGiven-next LINE_LIMIT call.taken (lines_in call.exchanges) reader left step.answer new left' served.given (record { took = took; takes = takes; goes = step.goes; end = step.at_end }))
+      subst Stands is (HasGiven-next LINE_LIMIT call.taken (lines_in call.exchanges) reader left step.answer new left' served.given
+      (record { took = took; takes = takes; goes = step.goes; end = step.at_end }))
 
   -- the line was answered
-  pub served_went : (step : IsStep exchanged.Went reader new left' farm after took w s) → (exchanges : List Exchange) × HasServed first (more_of exchanges) after new left'
+  pub served_went : (step : IsStep exchanged.Went reader new left' farm after took w s mid faults_now) → (exchanges : List Exchange) × HasServed first
+      (more_of exchanges) after new left' faults faults_now
   served_went step =
-      let more = served_more first call farm after reader new left left' (call.taken ++ took) step.exchanges.0 w [] s served (stands (Ok step.exchanges.0) exchanged.Went step step.exchanges.1) step.exchanges.2 in
+      let more = served_more first call farm after reader new left left' (call.taken ++ took) step.exchanges.0 w [] s faults mid faults_now served
+      (stands (Ok step.exchanges.0) exchanged.Went step step.exchanges.1) step.exchanges.2 in
       let exchanges : List Exchange = call.exchanges ++ more.0 ∷ [] in (
         exchanges,
-        subst (λ (bytes : List ℕ). HasServed first (record { taken = call.taken ++ took; written = call.written ++ bytes; readings = call.readings ++ s; exchanges = exchanges }) after new left')
+        subst (λ (bytes : List ℕ). HasServed first (record { taken = call.taken ++ took; written = call.written ++ bytes; readings = call.readings ++ s; exchanges = exchanges }) after new left' faults faults_now)
             (append-nil w) more.1,
       )
 
-  -- nothing was written or read in a step without a line
-  quiet : w ≡ [] → s ≡ [] → (call.written ++ w ≡ transcript first call.exchanges) × (call.readings ++ s ≡ moments_in call.exchanges)
-  quiet none unread = (
-    ap (λ bytes. call.written ++ bytes) none ∙ append-nil call.written ∙ served.answered.replies,
-    ap (λ moments. call.readings ++ moments) unread ∙ append-nil call.readings ∙ served.answered.moments,
-  )
+  -- nothing was written or read in a step without a line, and the farm and the count of faults are as before
+  quiet : (result : Exchanged) → HasLines result (call.taken ++ took) (lines_in call.exchanges) left'
+      → (call.written ++ w ≡ transcript first call.exchanges → HasReplies result first call.exchanges (call.written ++ w)) → IsNoExchange farm after w s mid faults_now
+      → Ends result first after (more_of call.exchanges) left' faults faults_now
+  quiet result lines replies none = record {
+    lines = lines;
+    replies = replies (ap (λ bytes. call.written ++ bytes) none.none_written ∙ append-nil call.written ∙ served.answered.replies);
+    moments = ap (λ moments. call.readings ++ moments) none.none_read ∙ append-nil call.readings ∙ served.answered.moments;
+    within = served.answered.within;
+    farm_is = none.same ∙ served.answered.farm_is;
+    marked = served.answered.marked;
+    causes = subst (λ (now : ℕ). HaveCauses call.exchanges faults now) (sym none.no_fault) served.answered.causes;
+  }
 
   -- at the end of the source the reader took fewer bytes than it takes at most
-  unspent : (result : Exchanged) (step : IsStep result reader new left' farm after took w s) → step.answer ≡ Ok AtEnd → length (call.taken ++ took) < BYTE_LIMIT
+  unspent : (result : Exchanged) (step : IsStep result reader new left' farm after took w s mid faults_now) → step.answer ≡ Ok AtEnd → length (call.taken ++ took) < BYTE_LIMIT
   unspent result step is =
       let goes : Goes reader took (Ok AtEnd) new = subst (λ (a : Result Given LineFault). Goes reader took a new) is step.goes in
       subst (λ (count : ℕ). count < BYTE_LIMIT)
@@ -139,25 +206,23 @@ module _ (first : Farm) (call : Call) (farm after : Farm) (reader new : Held) (l
       (goes.unspent (goes.leaves served.given.pending served.given.is_pending).cuts.ended)
 
   -- the session ended
-  pub served_ended : (result : Exchanged) → (result ≡ exchanged.Went → ⊥) → IsStep result reader new left' farm after took w s
-      → (exchanges : List Exchange) × Ends result first (more_of exchanges) left'
+  pub served_ended : (result : Exchanged) → (result ≡ exchanged.Went → ⊥) → IsStep result reader new left' farm after took w s mid faults_now
+      → (exchanges : List Exchange) × Ends result first after (more_of exchanges) left' faults faults_now
   served_ended exchanged.Went ends step = absurd (ends refl)
   served_ended exchanged.End ends step =
       let at = stands (Ok AtEnd) exchanged.End step step.exchanges.0 in
-      let same = quiet step.exchanges.1.none_written step.exchanges.1.none_read in
-      (call.exchanges, record { lines = (record { cut = at.0; none_left = at.1 }, unspent exchanged.End step step.exchanges.0); replies = same.0; moments = same.1; within = served.answered.within })
+      (call.exchanges, quiet exchanged.End (record { cut = at.0; none_left = at.1 }, unspent exchanged.End step step.exchanges.0) (λ same. same) step.exchanges.1)
   served_ended exchanged.Read ends step =
       let at = stands (Err line_fault.Read) exchanged.Read step step.exchanges.0 in
-      let same = quiet step.exchanges.1.none_written step.exchanges.1.none_read in
-      (call.exchanges, record { lines = (at.0, at.1); replies = same.0; moments = same.1; within = served.answered.within })
+      (call.exchanges, quiet exchanged.Read (at.0, at.1) (λ same. same) step.exchanges.1)
   served_ended exchanged.Spent ends step =
       let at = stands (Err line_fault.Spent) exchanged.Spent step step.exchanges.0 in
-      let same = quiet step.exchanges.1.none_written step.exchanges.1.none_read in
-      (call.exchanges, record { lines = (at.0, at.1); replies = same.0; moments = same.1; within = served.answered.within })
+      (call.exchanges, quiet exchanged.Spent (at.0, at.1) (λ same. same) step.exchanges.1)
   served_ended exchanged.Write ends step =
       let given = step.exchanges.0 in
       let unwritten = step.exchanges.1 in
-      let more = served_more first call farm after reader new left left' (call.taken ++ took) given w unwritten s served (stands (Ok given) exchanged.Write step step.exchanges.2) step.exchanges.4 in (
+      let more = served_more first call farm after reader new left left' (call.taken ++ took) given w unwritten s faults mid faults_now served
+      (stands (Ok given) exchanged.Write step step.exchanges.2) step.exchanges.4 in (
         call.exchanges ++ more.0 ∷ [],
         record {
           lines = first_lines (call.taken ++ took) (lines_in (call.exchanges ++ more.0 ∷ [])) new left' more.1.given;
@@ -173,5 +238,8 @@ module _ (first : Farm) (call : Call) (farm after : Farm) (reader new : Held) (l
           };
           moments = more.1.answered.moments;
           within = more.1.answered.within;
+          farm_is = more.1.answered.farm_is;
+          marked = more.1.answered.marked;
+          causes = more.1.answered.causes;
         },
       )

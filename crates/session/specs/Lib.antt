@@ -1,3 +1,4 @@
 pub mod Hints
+pub mod Opening
 pub mod Sessions
 pub mod Words

@@ -1,5 +1,5 @@
 -- What a whole call does: what it took, wrote and read of the clock, the exchanges that it made, and how it ended.
-use Rattle.std.specs.Prelude.{◌≡◌, ◌↔◌, ◌<◌, ◌^◌, ◌++◌, ◌∷◌, [], ◌⊎◌, ℕ, List, true, false, length, is_some, Option, Some, Result, Ok, Err}
+use Rattle.std.specs.Prelude.{◌≡◌, ◌↔◌, ◌≤◌, ◌<◌, ◌+◌, ◌^◌, ◌++◌, ◌∷◌, [], ◌⊎◌, ℕ, List, true, false, count_by, length, take, is_some, Option, Some, Result, Ok, Err}
 use Rattle.std.specs.List.{All}
 use Rattle.cue_io.specs.declared.line.LineFault.{LineFault}
 use Rattle.cue_io.specs.declared.line.LineFault.TheVariants as line_fault
@@ -12,13 +12,18 @@ use Rattle.cue_io.specs.Reader.{Held, Given, Whole, Long, AtEnd, Goes}
 use Rattle.cue_io.specs.declared.limits.TheConstants.{BYTE_LIMIT}
 use Rattle.cue_io.specs.Readings.{Tells}
 use Rattle.farm_types.specs.Farm.{Farm}
-use Rattle.farm_types.specs.Run.{IsLegal, IsSafe}
-use Rattle.farm_lines.specs.Reply.{reply_text}
-use Rattle.farm_lines.specs.Transcript.{Mark, Exchange, answer_at, answer_to, transcript, farm_after, entries_in, lines_in, moments_in}
-use Rattle.line_answers.specs.LineAnswers.{IsAnswer}
+use Rattle.farm_types.specs.Run.{IsLegal, IsSafe, run_of}
+use Rattle.farm_keeper.specs.Faults.{last_count}
+use Rattle.farm_lines.specs.Reply.{bad_store_line, reply_text}
+use Rattle.farm_lines.specs.Transcript.{Mark, Exchange, answer_at, answer_to, transcript, farm_after, farm_next, entries_in, is_store_mark, lines_in, moments_in}
+use Rattle.line_answers.specs.LineAnswers.{HasCause, IsAnswer, IsMarked}
+use Rattle.recovery.specs.declared.fault.RecoverFault.{RecoverFault}
+use Rattle.recovery.specs.declared.fault.RecoverFault.TheVariants.{BadBytes, BreaksFarm, NoMemory}
 use Rattle.session.specs.declared.exchanged.Exchanged.{Exchanged}
 use Rattle.session.specs.declared.exchanged.Exchanged.TheVariants as exchanged
-use Rattle.session.specs.Words.{WordForm, form_of, opened_farm}
+use Rattle.session.specs.declared.opening.OpenFault.{OpenFault}
+use Rattle.session.specs.declared.opening.OpenFault.TheVariants as fault
+use Rattle.session.specs.Words.{WordForm, form_of, opened_farm, opening_entries}
 use Rattle.farm_lines.specs.declared.limits.TheConstants.{LINE_LIMIT}
 
 -- ---- one line
@@ -29,30 +34,40 @@ Answers (Whole line) old moment mark new text = IsAnswer old (answer_to old line
 Answers Long old moment mark new text = (line : List ℕ) → LINE_LIMIT < length line → IsAnswer old (answer_to old line moment mark) new text
 Answers AtEnd old moment mark new text = ⊥
 
--- a line was answered, with the clock's reading, a number of 64 bits, and the mark; of the reply's text this was written, and this wasn't
-pub record IsExchange (given : Given) (old new : Farm) (wrote unwritten seen : List ℕ) : Type 0 where
+-- a mark may stand at what was given
+abbrev pub MayStand : Given → Farm → ℕ → Mark → Type 0
+MayStand (Whole line) old moment mark = IsMarked old line moment mark
+MayStand other old moment mark = is_store_mark mark ≡ false
+
+-- a line was answered, with the clock's reading, a number of 64 bits, and the mark; of the reply's text this was written, and this wasn't. The mark
+-- is of the store only where that may be, and where the count of the keeper's faults rose.
+pub record IsExchange (given : Given) (old new : Farm) (wrote unwritten seen : List ℕ) (faults faults_now : ℕ) : Type 0 where
   pub moment : ℕ
   pub mark : Mark
   pub reply : List ℕ
   pub moment_within : moment < 2 ^ 64
   pub read : seen ≡ moment ∷ []
   pub answers : Answers given old moment mark new reply
+  pub may_stand : MayStand given old moment mark
+  pub cause : HasCause mark faults faults_now
+  pub rises : faults ≤ faults_now
   pub written : wrote ++ unwritten ≡ reply
 
 -- nothing was answered
-pub record IsNoExchange (old new : Farm) (wrote seen : List ℕ) : Type 0 where
+pub record IsNoExchange (old new : Farm) (wrote seen : List ℕ) (faults faults_now : ℕ) : Type 0 where
   pub same : new ≡ old
+  pub no_fault : faults_now ≡ faults
   pub none_written : wrote ≡ []
   pub none_read : seen ≡ []
 
 -- what came of a call of the reader, by what it gave
-abbrev pub Exchanges : Exchanged → Result Given LineFault → Farm → Farm → List ℕ → List ℕ → Type 0
-Exchanges exchanged.Went answer old new wrote seen = (given : Given) × (answer ≡ Ok given) × IsExchange given old new wrote [] seen
-Exchanges exchanged.Write answer old new wrote seen =
-    (given : Given) × (unwritten : List ℕ) × (answer ≡ Ok given) × (0 < length unwritten) × IsExchange given old new wrote unwritten seen
-Exchanges exchanged.End answer old new wrote seen = (answer ≡ Ok AtEnd) × IsNoExchange old new wrote seen
-Exchanges exchanged.Read answer old new wrote seen = (answer ≡ Err line_fault.Read) × IsNoExchange old new wrote seen
-Exchanges exchanged.Spent answer old new wrote seen = (answer ≡ Err line_fault.Spent) × IsNoExchange old new wrote seen
+abbrev pub Exchanges : Exchanged → Result Given LineFault → Farm → Farm → List ℕ → List ℕ → ℕ → ℕ → Type 0
+Exchanges exchanged.Went answer old new wrote seen faults faults_now = (given : Given) × (answer ≡ Ok given) × IsExchange given old new wrote [] seen faults faults_now
+Exchanges exchanged.Write answer old new wrote seen faults faults_now =
+    (given : Given) × (unwritten : List ℕ) × (answer ≡ Ok given) × (0 < length unwritten) × IsExchange given old new wrote unwritten seen faults faults_now
+Exchanges exchanged.End answer old new wrote seen faults faults_now = (answer ≡ Ok AtEnd) × IsNoExchange old new wrote seen faults faults_now
+Exchanges exchanged.Read answer old new wrote seen faults faults_now = (answer ≡ Err line_fault.Read) × IsNoExchange old new wrote seen faults faults_now
+Exchanges exchanged.Spent answer old new wrote seen faults faults_now = (answer ≡ Err line_fault.Spent) × IsNoExchange old new wrote seen faults faults_now
 
 -- all of the reply's text was written, or a front of it
 abbrev pub Sends : Exchanged → List ℕ → List ℕ → Type 0
@@ -63,11 +78,11 @@ Sends exchanged.Read text wrote = ⊥
 Sends exchanged.Spent text wrote = ⊥
 
 -- one step: what the reader did with the bytes taken, and what was done with what it gave
-pub record IsStep (result : Exchanged) (old new : Held) (left : Option (List ℕ)) (before after : Farm) (took wrote seen : List ℕ) : Type 0 where
+pub record IsStep (result : Exchanged) (old new : Held) (left : Option (List ℕ)) (before after : Farm) (took wrote seen : List ℕ) (faults faults_now : ℕ) : Type 0 where
   pub answer : Result Given LineFault
   pub goes : Goes old took answer new
   pub at_end : old.ended ≡ false → new.ended ≡ true → IsAtEnd left
-  pub exchanges : Exchanges result answer before after wrote seen
+  pub exchanges : Exchanges result answer before after wrote seen faults faults_now
 
 -- ---- what a call took, wrote and read
 
@@ -78,17 +93,18 @@ pub record Call : Type 0 where
   pub readings : List ℕ
   pub exchanges : List Exchange
 
--- what a source has left, a sink was given and a clock has to come, each where it tells it, and the counts of faults
+-- what a source has left, a sink was given and a clock has to come, each where it tells it, and the counts of faults, the keeper's too
 pub record Streams : Type 0 where
   pub left : Option (List ℕ)
   pub read_faults : ℕ
   pub written : Option (List ℕ)
   pub write_faults : ℕ
   pub readings : Option (List ℕ)
+  pub store_faults : ℕ
 
-abbrev pub streams : Option (List ℕ) → ℕ → Option (List ℕ) → ℕ → Option (List ℕ) → Streams
-streams left read_faults written write_faults readings =
-    record { left = left; read_faults = read_faults; written = written; write_faults = write_faults; readings = readings }
+abbrev pub streams : Option (List ℕ) → ℕ → Option (List ℕ) → ℕ → Option (List ℕ) → ℕ → Streams
+streams left read_faults written write_faults readings store_faults =
+    record { left = left; read_faults = read_faults; written = written; write_faults = write_faults; readings = readings; store_faults = store_faults }
 
 -- the bytes taken are the first that were left, those written came behind the earlier ones, and the readings are those that were to come
 pub record HasMoved (before after : Streams) (call : Call) : Type 0 where
@@ -96,18 +112,35 @@ pub record HasMoved (before after : Streams) (call : Call) : Type 0 where
   pub written : Adds before.written after.written call.written
   pub readings : Tells before.readings after.readings call.readings
 
+-- ---- marks of the store
+
+-- how many exchanges have one
+abbrev pub store_marks : List Exchange → ℕ
+store_marks ts = count_by (λ (t : Exchange). is_store_mark t.mark) ts
+
+-- each stands where it may
+abbrev pub AreMarked : Farm → List Exchange → Type 0
+AreMarked f [] = Unit {0}
+AreMarked f (t ∷ ts) = IsMarked f t.line t.moment t.mark × AreMarked (farm_next f t) ts
+
+-- the count of the keeper's faults rose for each of them, or stands where no count can go up
+abbrev pub HaveCauses : List Exchange → ℕ → ℕ → Type 0
+HaveCauses ts faults faults_now = (faults + store_marks ts ≤ faults_now) ⊎ (last_count ≤ faults_now)
+
 -- ---- a whole session
 
 -- these exchanges were made, each at a moment of 64 bits: the farm is the one after them, and the bytes written are their transcript
-pub record HasAnswered (first : Farm) (exchanges : List Exchange) (farm : Farm) (wrote seen : List ℕ) : Type 0 where
+pub record HasAnswered (first : Farm) (exchanges : List Exchange) (farm : Farm) (wrote seen : List ℕ) (faults faults_now : ℕ) : Type 0 where
   pub farm_is : farm ≡ farm_after first exchanges
   pub replies : wrote ≡ transcript first exchanges
   pub moments : seen ≡ moments_in exchanges
   pub within : All (λ (t : Exchange). t.moment < 2 ^ 64) exchanges
+  pub marked : AreMarked first exchanges
+  pub causes : HaveCauses exchanges faults faults_now
 
 -- these exchanges were made, and their lines are those that the reader gave of the bytes taken
-pub record HasServed (first : Farm) (call : Call) (farm : Farm) (reader : Held) (left : Option (List ℕ)) : Type 0 where
-  pub answered : HasAnswered first call.exchanges farm call.written call.readings
+pub record HasServed (first : Farm) (call : Call) (farm : Farm) (reader : Held) (left : Option (List ℕ)) (faults faults_now : ℕ) : Type 0 where
+  pub answered : HasAnswered first call.exchanges farm call.written call.readings faults faults_now
   pub given : HasGiven LINE_LIMIT call.taken (lines_in call.exchanges) reader left
 
 -- the lines are all those of the bytes taken, and the source has none left
@@ -144,12 +177,15 @@ abbrev pub HasReplies : Exchanged → Farm → List Exchange → List ℕ → Ty
 HasReplies exchanged.Write first exchanges wrote = EndsInReply first exchanges wrote
 HasReplies ended first exchanges wrote = wrote ≡ transcript first exchanges
 
--- how a session ended that began with this farm
-pub record Ends (ended : Exchanged) (first : Farm) (call : Call) (left : Option (List ℕ)) : Type 0 where
+-- how a session ended that began with this farm, and left that one
+pub record Ends (ended : Exchanged) (first last : Farm) (call : Call) (left : Option (List ℕ)) (faults faults_now : ℕ) : Type 0 where
   pub lines : HasLines ended call.taken (lines_in call.exchanges) left
   pub replies : HasReplies ended first call.exchanges call.written
   pub moments : call.readings ≡ moments_in call.exchanges
   pub within : All (λ (t : Exchange). t.moment < 2 ^ 64) call.exchanges
+  pub farm_is : last ≡ farm_after first call.exchanges
+  pub marked : AreMarked first call.exchanges
+  pub causes : HaveCauses call.exchanges faults faults_now
 
 -- ---- the call
 
@@ -161,36 +197,99 @@ status_of exchanged.Read = 4
 status_of exchanged.Write = 5
 status_of exchanged.Spent = 8
 
--- The arguments have a form, and the farm of that form was opened at the clock's first reading. The session over it ended with this status.
--- Its lines are those of the bytes taken, and what it wrote are their replies, each at a reading of the clock. The entries that it recorded
--- are a legal run from the opened farm, and a safe one.
-pub record IsSession (words : List (List ℕ)) (status : ℕ) (call : Call) (left : Option (List ℕ)) : Type 0 where
+-- A session over a farm that was opened ended with this status. The entries that it recorded are a legal run from that farm, and a safe one, and the
+-- store holds the farm that they make.
+pub record AnswersAll (status : ℕ) (first : Farm) (before after : Streams) (call : Call) (holds : Farm → Type 0) : Type 0 where
+  pub ended : Exchanged
+  pub last : Farm
+  pub status_is : status ≡ status_of ended
+  pub moved : HasMoved before after call
+  pub ends : Ends ended first last call after.left before.store_faults after.store_faults
+  pub legal : IsLegal first (entries_in first call.exchanges)
+  pub safe : IsSafe first (entries_in first call.exchanges)
+  pub held : holds last
+
+-- The arguments have a form, and the farm of the store was opened at the clock's first reading, with the entries of the form. The session over it
+-- ended with this status. Its lines are those of the bytes taken, and what it wrote are their replies, each at a reading of the clock. The entries that
+-- it recorded are a legal run from the opened farm, and a safe one, and the store holds the farm that they make.
+pub record IsSession (words : List (List ℕ)) (status : ℕ) (call : Call) (left : Option (List ℕ)) (faults faults_now : ℕ) (says holds : Farm → Type 0) : Type 0 where
   pub form : WordForm
   pub opened : ℕ
   pub ended : Exchanged
+  pub first : Farm
   pub formed : form_of words ≡ Some form
+  pub said : says first
   pub status_is : status ≡ status_of ended
   pub lines : HasLines ended call.taken (lines_in call.exchanges) left
-  pub replies : HasReplies ended (opened_farm form opened) call.exchanges call.written
+  pub replies : HasReplies ended (opened_farm form first opened) call.exchanges call.written
   pub readings : call.readings ≡ opened ∷ moments_in call.exchanges
-  pub legal : IsLegal (opened_farm form opened) (entries_in (opened_farm form opened) call.exchanges)
-  pub safe : IsSafe (opened_farm form opened) (entries_in (opened_farm form opened) call.exchanges)
+  pub opening_legal : IsLegal first (opening_entries form opened)
+  pub legal : IsLegal (opened_farm form first opened) (entries_in (opened_farm form first opened) call.exchanges)
+  pub safe : IsSafe (opened_farm form first opened) (entries_in (opened_farm form first opened) call.exchanges)
+  pub marked : AreMarked (opened_farm form first opened) call.exchanges
+  pub causes : HaveCauses call.exchanges faults faults_now
+  pub held : holds (farm_after (opened_farm form first opened) call.exchanges)
 
--- The arguments are invalid, or memory ran out before the first line: nothing was taken or written.
-pub record IsNoSession (status : ℕ) (call : Call) : Type 0 where
-  pub status_is : (status ≡ 2) ⊎ (status ≡ 7)
+-- The opening, at the clock's one reading, went so far: these of its entries, which are a legal run, are in the store.
+pub record IsOpening (words : List (List ℕ)) (call : Call) (says holds : Farm → Type 0) : Type 0 where
+  pub form : WordForm
+  pub opened : ℕ
+  pub first : Farm
+  pub done : ℕ
+  pub formed : form_of words ≡ Some form
+  pub said : says first
+  pub readings : call.readings ≡ opened ∷ []
+  pub opening_legal : IsLegal first (opening_entries form opened)
+  pub held : holds (run_of first (take done (opening_entries form opened)))
+
+-- The arguments are invalid, or the store failed or memory ran out before the first line: nothing was taken or written.
+pub record IsNoSession (words : List (List ℕ)) (status : ℕ) (call : Call) (says : Farm → Type 0) (untouched : Type 0) (holds : Farm → Type 0) : Type 0 where
+  pub status_is : (status ≡ 2) ⊎ ((status ≡ 3) ⊎ (status ≡ 7))
   pub none_taken : call.taken ≡ []
   pub none_written : call.written ≡ []
+  pub kept : untouched ⊎ IsOpening words call says holds
+
+-- all of the line was written, or a write failed and a front of it was
+abbrev pub TellsLine : List ℕ → ℕ → List ℕ → Type 0
+TellsLine line status wrote = ((status ≡ 6) × (wrote ≡ line)) ⊎ ((status ≡ 5) × (unwritten : List ℕ) × (0 < length unwritten) × (wrote ++ unwritten ≡ line))
+
+-- the row at fault was told
+abbrev pub TellsBad : RecoverFault → ℕ → List ℕ → Type 0
+TellsBad (BadBytes kind id) status wrote = TellsLine (bad_store_line kind id) status wrote
+TellsBad (BreaksFarm kind id) status wrote = TellsLine (bad_store_line kind id) status wrote
+TellsBad NoMemory status wrote = ⊥
+
+-- it was told, or memory ran out for its line
+abbrev pub MayTell : Type 0 → ℕ → List ℕ → Type 0
+MayTell told status wrote = told ⊎ ((status ≡ 7) × (wrote ≡ []))
+
+-- what is told where no farm was opened: of the store's failure and of memory the status alone, and of a row at fault its line
+abbrev pub TellsFault : OpenFault → ℕ → List ℕ → Type 0
+TellsFault fault.Store status wrote = (status ≡ 3) × (wrote ≡ [])
+TellsFault (fault.Bad why) status wrote = MayTell (TellsBad why status wrote) status wrote
+TellsFault fault.NoMemory status wrote = (status ≡ 7) × (wrote ≡ [])
+
+-- The store's rows say no farm: the first one at fault was told, nothing was taken, and the store is as it was.
+pub record IsBadStore (status : ℕ) (call : Call) (bad : RecoverFault → Type 0) (untouched : Type 0) : Type 0 where
+  pub fault : RecoverFault
+  pub is_bad : bad fault
+  pub told : TellsBad fault status call.written
+  pub none_taken : call.taken ≡ []
+  pub kept : untouched
 
 -- the input was read to its end, each of its lines answered; or memory ran out before the first line, and nothing was taken or written
 abbrev pub EndsWell : ℕ → Call → Type 0
 EndsWell status call = (status ≡ 0) ⊎ ((status ≡ 7) × (call.taken ≡ []) × (call.written ≡ []))
 
--- A call for these arguments that answered this status. It was a session, or none. Status 8 comes exactly where the bytes that one session
--- takes are spent and no write failed. Where the arguments are valid, nothing but an I/O error and that limit ends the call early.
-pub record IsCall (words : List (List ℕ)) (status : ℕ) (before after : Streams) (call : Call) : Type 0 where
+-- A call for these arguments that answered this status. Of its keeper it is known which farm its rows say, or why they say none, that it is as it was, or
+-- that it holds a farm. It was a session, or none. Status 8 comes exactly where the bytes that one session
+-- takes are spent and no write failed. Where the arguments are valid and the store's rows say a farm, nothing but an I/O error, a fault of the store and
+-- that limit ends the call early.
+pub record IsCall (words : List (List ℕ)) (status : ℕ) (before after : Streams) (call : Call) (says : Farm → Type 0) (bad : RecoverFault → Type 0) (untouched : Type 0)
+    (holds : Farm → Type 0) : Type 0 where
   pub moved : HasMoved before after call
-  pub session : IsNoSession status call ⊎ IsSession words status call after.left
+  pub session : IsNoSession words status call says untouched holds ⊎ (IsBadStore status call bad untouched
+      ⊎ IsSession words status call after.left before.store_faults after.store_faults says holds)
   pub spent : (status ≡ 8) ↔ ((length call.taken ≡ BYTE_LIMIT) × (status ≡ 5 → ⊥))
-  pub complete : is_some (form_of words) ≡ true → (HasRisen before.read_faults after.read_faults → ⊥) → (HasRisen before.write_faults after.write_faults → ⊥)
-      → length call.taken < BYTE_LIMIT → EndsWell status call
+  pub complete : is_some (form_of words) ≡ true → ((fault : RecoverFault) → bad fault → ⊥) → (HasRisen before.store_faults after.store_faults → ⊥)
+      → (HasRisen before.read_faults after.read_faults → ⊥) → (HasRisen before.write_faults after.write_faults → ⊥) → length call.taken < BYTE_LIMIT → EndsWell status call

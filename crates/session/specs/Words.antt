@@ -2,9 +2,9 @@
 use Rattle.std.specs.Prelude.{ℕ, List, [], ◌∷◌, ◌&&◌, codes, bytes_eq, Option, None, Some, if◌then◌else◌}
 use Rattle.farm_types.specs.declared.entry.Entry.{Entry}
 use Rattle.farm_types.specs.declared.entry.Act.TheVariants as act
-use Rattle.farm_types.specs.Demo.{demo_farm}
-use Rattle.farm_types.specs.Farm.{Farm, empty_farm}
-use Rattle.farm_types.specs.Step.{after}
+use Rattle.farm_types.specs.Farm.{Farm}
+use Rattle.farm_types.specs.Run.{run_of}
+use Rattle.farm_law.specs.DemoRun.{demo_entries}
 use Rattle.session.specs.declared.words.Form.{Form}
 use Rattle.session.specs.declared.words.Form.TheVariants as form
 
@@ -28,7 +28,16 @@ form_of words = None
 abbrev pub opened_entry : ℕ → Entry
 opened_entry moment = record { moment = moment; act = act.Opened }
 
--- The farm of the words as it is opened at a moment. A store in memory begins empty, and its opening is recorded.
-abbrev pub opened_farm : WordForm → ℕ → Farm
-opened_farm Demo moment = demo_farm moment
-opened_farm (Script store) moment = after empty_farm (opened_entry moment)
+-- the entries of the opening: that of the scheduler, and those of the demonstration
+abbrev pub opening_entries : WordForm → ℕ → List Entry
+opening_entries Demo moment = opened_entry moment ∷ demo_entries moment
+opening_entries (Script store) moment = opened_entry moment ∷ []
+
+-- the farm of the words as it is opened at a moment: that of the store, with the opening's entries
+abbrev pub opened_farm : WordForm → Farm → ℕ → Farm
+opened_farm form first moment = run_of first (opening_entries form moment)
+
+-- they ask for the farm of a store
+abbrev pub IsScript : WordForm → Type 0
+IsScript Demo = ⊥
+IsScript (Script store) = Unit {0}

@@ -12,14 +12,15 @@ ghost use Rattle.farm_lines.specs.declared.limits.TheConstants.{LINE_LIMIT};
 
 use crate::exchanged::Exchanged;
 use cue_io::{Clock, Line, LineFault, LineReader, Sink, Source, write_all};
-use farm_core::Farm;
+use farm_keeper::Keeper;
 use line_answers::{ReplyLine, answer_line, lines_are_answered_by_what_they_ask};
+use recorder::PlainRecorder;
 use std::alloc::Global;
 
 /// Reads one line, answers it, and writes its reply.
-pub fn exchange<S: Source, W: Sink, C: Clock>(
+pub fn exchange<S: Source, W: Sink, K: Keeper, C: Clock>(
     alloc: Global,
-    farm: &mut Farm,
+    recorder: &mut PlainRecorder<K>,
     reader: &mut LineReader,
     source: &mut S,
     sink: &mut W,
@@ -28,16 +29,18 @@ pub fn exchange<S: Source, W: Sink, C: Clock>(
     requires limit { reader.old.limit ≡ LINE_LIMIT }
     requires pending { (pending : List ℕ) × IsPending reader.old pending }
     ensures step { (took wrote seen : List ℕ) × Takes (S.left source.old) (S.left source.new) took × Adds (W.written sink.old) (W.written sink.new) wrote
-        × Tells (C.readings clock.old) (C.readings clock.new) seen × IsStep result reader.old reader.new (S.left source.new) farm.old farm.new took wrote seen }
+        × Tells (C.readings clock.old) (C.readings clock.new) seen × IsStep result reader.old reader.new (S.left source.new) recorder.old.farm recorder.new.farm took wrote seen
+        (K.faults recorder.old.keeper) (K.faults recorder.new.keeper) }
     ensures read { result ≡ Exchanged.Read → HasRisen (S.faults source.old) (S.faults source.new) }
     ensures write { result ≡ Exchanged.Write → HasRisen (W.faults sink.old) (W.faults sink.new) }
     ensures source { S.faults source.old ≤ S.faults source.new }
     ensures sink { W.faults sink.old ≤ W.faults sink.new }
+    ensures told { K.tells recorder.new.keeper → K.tells recorder.old.keeper }
 {
     match reader.next(source) {
         Ok(Line::Bytes(line)) => {
             let moment = clock.now();
-            let reply = answer_line(alloc, farm, line, moment);
+            let reply = answer_line(alloc, recorder, line, moment);
             send(sink, &reply)
         }
         Ok(Line::TooLong) => {

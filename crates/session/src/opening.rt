@@ -1,59 +1,243 @@
 //! The farm that a session begins with.
 
-ghost use Rattle.std.specs.Prelude.{◌≡◌, IfOk, OnOk};
-ghost use Rattle.farm_types.specs.Farm.{empty_farm};
-ghost use Rattle.farm_types.specs.Formed.{IsFormed};
-ghost use Rattle.farm_types.specs.Step.{HasCondition, after};
-ghost use Rattle.session.specs.Words.{opened_entry, opened_farm, word_form};
+ghost use Rattle.std.specs.Prelude.{◌≡◌, ◌≤◌, ◌∷◌, []};
+ghost use Rattle.std.specs.Result.{IsErrOf};
+ghost use Rattle.farm_law.specs.DemoRun.{demo_entries};
+ghost use Rattle.farm_types.specs.Run.{IsLegal, IsLegalStep};
+ghost use Rattle.recorder.specs.declared.refusal.RecordFault.TheVariants as fault;
+ghost use Rattle.farm_keeper.specs.Faults.{HasRisen};
+ghost use Rattle.farm_keeper.specs.Keeping.{Keeps};
+ghost use Rattle.recovery.specs.Recovered.{recovered};
+ghost use Rattle.session.specs.Opening.{Begins, GoesThrough, HasRecovered, IsLoaded, MayOpen, Opens, of_keeper, of_record, of_recovery};
+ghost use Rattle.session.specs.Words.{Demo, IsScript, opened_entry, opening_entries, word_form};
 
 use crate::words::Form;
-use farm_core::{Farm, PrepareFault, demo_farm};
+use farm_core::Farm;
+use farm_gen::demo_entries;
+use farm_keeper::{Keeper, KeeperFault, Row};
+use farm_law::the_demonstration_is_a_run;
 use farm_types::{Act, Entry};
-use std::alloc::{AllocError, Global};
+use recorder::{CommitRefusal, PlainRecorder, RecordFault};
+use recovery::{RecoverFault, no_rows_are_the_empty_farm, recover, rows_recovered_are_the_farms};
+use std::alloc::Global;
 
-/// The farm that the arguments open, at a moment (seconds).
-pub fn open_farm(alloc: Global, form: Form<'_>, moment: u64) -> Result<Farm, AllocError>
-    ensures { IfOk result (λ farm. farm ≡ opened_farm (word_form form.entry) moment) }
+/// Why no farm was opened: the store failed, the first of its rows at fault is this one, or memory ran out.
+#[derive(Clone, Copy, Debug, PartialEq, Eq)]
+pub enum OpenFault {
+    Store,
+    Bad { fault: RecoverFault },
+    NoMemory,
+}
+
+/// A farm with its keeper, or the keeper given back with the reason why no farm was opened.
+#[derive(Drop)]
+pub enum Opening<K: Keeper> {
+    Opened { recorder: PlainRecorder<K> },
+    Failed { keeper: K, fault: OpenFault },
+}
+
+/// Opens the farm of the arguments at a moment (seconds): recovers the farm that the keeper's rows say, and records that it was opened, and what the
+/// arguments state. The demonstration begins with no rows, so that none are loaded.
+pub fn open<K: Keeper>(alloc: Global, form: Form<'_>, keeper: K, moment: u64) -> Opening<K>
+    requires { K.tells keeper → MayOpen (word_form form) (K.holds keeper) (K.left keeper) }
+    ensures { Opens K.tells K.holds K.left K.faults (word_form form.entry) moment keeper result }
 {
     match form {
-        Form::Demo => demo_farm(alloc, moment),
-        Form::Script { .. } => open_empty(alloc, moment),
+        Form::Demo => open_new(alloc, keeper, moment),
+        Form::Script { .. } => open_stored(alloc, form, keeper, moment),
     }
 }
 
-// The empty farm, with its opening recorded.
-fn open_empty(alloc: Global, moment: u64) -> Result<Farm, AllocError>
-    ensures { IfOk result (λ farm. farm ≡ after empty_farm (opened_entry moment)) }
+// Opens the farm of the demonstration.
+fn open_new<K: Keeper>(alloc: Global, keeper: K, moment: u64) -> Opening<K>
+    requires { K.tells keeper → MayOpen Demo (K.holds keeper) (K.left keeper) }
+    ensures { Opens K.tells K.holds K.left K.faults Demo moment keeper result }
 {
-    let mut farm = Farm::make(alloc)?;
-    record_opening(alloc, &mut farm, moment)?;
-    Ok(farm)
+    no_rows_are_the_empty_farm();
+    the_demonstration_is_a_run();
+    match Farm::make(alloc) {
+        Ok(farm) => begin(alloc, Form::Demo, PlainRecorder::make(farm, keeper), moment),
+        Err(_) => Opening::Failed {
+            keeper,
+            fault: OpenFault::NoMemory,
+        },
+    }
+}
+
+// Opens the farm that the keeper's rows say.
+fn open_stored<K: Keeper>(alloc: Global, form: Form<'_>, keeper: K, moment: u64) -> Opening<K>
+    requires script { IsScript (word_form form) }
+    requires kept { K.tells keeper → MayOpen (word_form form) (K.holds keeper) (K.left keeper) }
+    ensures { Opens K.tells K.holds K.left K.faults (word_form form.entry) moment keeper result }
+{
+    rows_recovered_are_the_farms();
+    let mut keeper = keeper;
+    match load_farm(alloc, &mut keeper) {
+        Ok(farm) => begin(alloc, form, PlainRecorder::make(farm, keeper), moment),
+        Err(fault) => Opening::Failed { keeper, fault },
+    }
+}
+
+// The farm that the keeper's rows say.
+fn load_farm<K: Keeper>(alloc: Global, keeper: &mut K) -> Result<Farm, OpenFault>
+    ensures farm { IsLoaded (K.tells keeper.new) (K.holds keeper.old) (HasRisen (K.faults keeper.old) (K.faults keeper.new)) result }
+    ensures told { K.tells keeper.new → K.tells keeper.old }
+    ensures kept { Keeps (K.holds keeper.old) (K.holds keeper.new) }
+    ensures left { Keeps (K.left keeper.new) (K.left keeper.old) }
+    ensures rises { K.faults keeper.old ≤ K.faults keeper.new }
+{
+    match keeper.load(alloc) {
+        Ok(rows) => recover_farm(alloc, rows.as_slice()),
+        Err(fault) => Err(of_keeper(fault)),
+    }
+}
+
+// The farm of these rows.
+fn recover_farm(alloc: Global, rows: &[Row]) -> Result<Farm, OpenFault>
+    ensures { HasRecovered (recovered rows.now) result }
+{
+    match recover(alloc, rows) {
+        Ok(farm) => Ok(farm),
+        Err(fault) => Err(of_recovery(fault)),
+    }
+}
+
+// Records the opening of a farm.
+fn begin<K: Keeper>(
+    alloc: Global,
+    form: Form<'_>,
+    recorder: PlainRecorder<K>,
+    moment: u64,
+) -> Opening<K>
+    requires { IsLegal recorder.farm (opening_entries (word_form form) moment) }
+    ensures { Begins K.tells K.holds K.left K.faults (word_form form.entry) moment recorder result }
+{
+    let mut recorder = recorder;
+    match record_opening(alloc, form, &mut recorder, moment) {
+        Ok(()) => Opening::Opened { recorder },
+        Err(fault) => Opening::Failed {
+            keeper: recorder.close(),
+            fault: of_record(fault),
+        },
+    }
+}
+
+// Records that the scheduler was opened, and what the arguments state.
+fn record_opening<K: Keeper>(
+    alloc: Global,
+    form: Form<'_>,
+    recorder: &mut PlainRecorder<K>,
+    moment: u64,
+) -> Result<(), RecordFault>
+    requires { IsLegal recorder.old.farm (opening_entries (word_form form) moment) }
+    ensures farm { GoesThrough recorder.old.farm (opening_entries (word_form form.entry) moment) result recorder.new.farm }
+    ensures told { K.tells recorder.new.keeper → K.tells recorder.old.keeper }
+    ensures cause { IsErrOf result fault.Store → HasRisen (K.faults recorder.old.keeper) (K.faults recorder.new.keeper) }
+    ensures rises { K.faults recorder.old.keeper ≤ K.faults recorder.new.keeper }
+{
+    record_opened(alloc, recorder, moment)?;
+    match form {
+        Form::Demo => record_demo(alloc, recorder, moment),
+        Form::Script { .. } => Ok(()),
+    }
 }
 
 // Records that the scheduler was opened.
-fn record_opening(alloc: Global, farm: &mut Farm, moment: u64) -> Result<(), AllocError>
-    ensures { OnOk result (farm.new ≡ after farm.old (opened_entry moment)) }
+fn record_opened<K: Keeper>(
+    alloc: Global,
+    recorder: &mut PlainRecorder<K>,
+    moment: u64,
+) -> Result<(), RecordFault>
+    requires { IsLegalStep recorder.old.farm (opened_entry moment) }
+    ensures farm { GoesThrough recorder.old.farm (opened_entry moment ∷ []) result recorder.new.farm }
+    ensures told { K.tells recorder.new.keeper → K.tells recorder.old.keeper }
+    ensures cause { IsErrOf result fault.Store → HasRisen (K.faults recorder.old.keeper) (K.faults recorder.new.keeper) }
+    ensures rises { K.faults recorder.old.keeper ≤ K.faults recorder.new.keeper }
 {
-    let entry = Entry {
+    let opened = Entry {
         moment,
         act: Act::Opened,
     };
-    record(alloc, farm, &entry)
+    record(alloc, recorder, &opened)
 }
 
-// Records an entry. No farm refuses its opening, so that a fault is that memory ran out.
-fn record(alloc: Global, farm: &mut Farm, entry: &Entry) -> Result<(), AllocError>
-    requires condition { HasCondition farm.old entry.now.act }
-    requires formed { IsFormed entry.now }
-    ensures { OnOk result (farm.new ≡ after farm.old entry.now) }
+// Records the entries of the demonstration.
+fn record_demo<K: Keeper>(
+    alloc: Global,
+    recorder: &mut PlainRecorder<K>,
+    moment: u64,
+) -> Result<(), RecordFault>
+    requires { IsLegal recorder.old.farm (demo_entries moment) }
+    ensures farm { GoesThrough recorder.old.farm (demo_entries moment) result recorder.new.farm }
+    ensures told { K.tells recorder.new.keeper → K.tells recorder.old.keeper }
+    ensures cause { IsErrOf result fault.Store → HasRisen (K.faults recorder.old.keeper) (K.faults recorder.new.keeper) }
+    ensures rises { K.faults recorder.old.keeper ≤ K.faults recorder.new.keeper }
 {
-    match farm.prepare(alloc, entry) {
-        Ok(change) => farm.record(alloc, change),
-        Err(fault) => Err(unprepared(fault)),
+    let entries = demo_entries(alloc, moment)?;
+    record_each(alloc, recorder, entries.as_slice())
+}
+
+// Records entries in turn, until one can't be recorded.
+fn record_each<K: Keeper>(
+    alloc: Global,
+    recorder: &mut PlainRecorder<K>,
+    entries: &[Entry],
+) -> Result<(), RecordFault>
+    requires { IsLegal recorder.old.farm entries.now }
+    ensures farm { GoesThrough recorder.old.farm entries.now result recorder.new.farm }
+    ensures told { K.tells recorder.new.keeper → K.tells recorder.old.keeper }
+    ensures cause { IsErrOf result fault.Store → HasRisen (K.faults recorder.old.keeper) (K.faults recorder.new.keeper) }
+    ensures rises { K.faults recorder.old.keeper ≤ K.faults recorder.new.keeper }
+{
+    for entry in entries {
+        record(alloc, recorder, entry)?;
+    }
+    Ok(())
+}
+
+// Records an entry that the farm doesn't refuse.
+fn record<K: Keeper>(
+    alloc: Global,
+    recorder: &mut PlainRecorder<K>,
+    entry: &Entry,
+) -> Result<(), RecordFault>
+    requires { IsLegalStep recorder.old.farm entry.now }
+    ensures farm { GoesThrough recorder.old.farm (entry.now ∷ []) result recorder.new.farm }
+    ensures told { K.tells recorder.new.keeper → K.tells recorder.old.keeper }
+    ensures cause { IsErrOf result fault.Store → HasRisen (K.faults recorder.old.keeper) (K.faults recorder.new.keeper) }
+    ensures rises { K.faults recorder.old.keeper ≤ K.faults recorder.new.keeper }
+{
+    match recorder.commit(alloc, entry) {
+        Ok(_) => Ok(()),
+        Err(CommitRefusal::Refused { .. }) => unreachable!(),
+        Err(CommitRefusal::Store) => Err(RecordFault::Store),
+        Err(CommitRefusal::NoMemory) => Err(RecordFault::NoMemory),
     }
 }
 
-// Lets the fault go.
-fn unprepared(_fault: PrepareFault) -> AllocError {
-    AllocError
+fn of_keeper(fault: KeeperFault) -> OpenFault
+    ensures { result ≡ of_keeper fault }
+{
+    match fault {
+        KeeperFault::Failed => OpenFault::Store,
+        KeeperFault::NoMemory => OpenFault::NoMemory,
+    }
+}
+
+fn of_recovery(fault: RecoverFault) -> OpenFault
+    ensures { result ≡ of_recovery fault }
+{
+    match fault {
+        RecoverFault::NoMemory => OpenFault::NoMemory,
+        fault => OpenFault::Bad { fault },
+    }
+}
+
+fn of_record(fault: RecordFault) -> OpenFault
+    ensures { result ≡ of_record fault }
+{
+    match fault {
+        RecordFault::Store => OpenFault::Store,
+        RecordFault::NoMemory => OpenFault::NoMemory,
+    }
 }

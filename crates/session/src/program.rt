@@ -1,14 +1,17 @@
 //! The program's whole work: a hint for who calls it, and then the call.
 
-ghost use Rattle.std.specs.Prelude.{◌≡◌, ◌↔◌, None, is_some};
+ghost use Rattle.std.specs.Prelude.{◌≡◌, ◌↔◌, None, Some, is_some};
 ghost use Rattle.cue_io.specs.Faults.{HasRisen};
+ghost use Rattle.farm_keeper.specs.Faults as keeper_faults;
+ghost use Rattle.session.specs.Opening.{HoldsFarm, IsUntouched, MayOpen, Says, SaysBad};
 ghost use Rattle.session.specs.Hints.{HasTold, hint_of};
 ghost use Rattle.session.specs.Sessions.{Call, IsCall, streams};
-ghost use Rattle.session.specs.Words.{form_of};
+ghost use Rattle.session.specs.Words.{WordForm, form_of};
 
 use crate::run::{Status, run_cuebot};
 use crate::word_forms::form;
 use cue_io::{Clock, Sink, Source, write_all};
+use farm_keeper::Keeper;
 use farm_types::Text;
 use std::alloc::Global;
 
@@ -19,33 +22,40 @@ const WAITING: &str = "cuebot: waiting for lines, each a JSON object; end the in
 
 /// Runs `cuebot` for the words after its name, as `run_cuebot` does, and before that writes a hint on `errors`: the usage for invalid words,
 /// and at a terminal what is waited for. What can't be written of the hint is passed over.
-pub fn run_program<S: Source, W: Sink, E: Sink, C: Clock>(
+pub fn run_program<S: Source, W: Sink, E: Sink, K: Keeper, C: Clock>(
     alloc: Global,
     words: &[Text],
     at_terminal: bool,
     source: &mut S,
     sink: &mut W,
     errors: &mut E,
+    keeper: K,
     clock: &mut C,
-) -> Status
+) -> (Status, K)
+    requires { (form : WordForm) → form_of words.now ≡ Some form → K.tells keeper → MayOpen form (K.holds keeper) (K.left keeper) }
+
     // Status 2 comes exactly where the words are invalid.
-    ensures usage { (result ≡ 2) ↔ (form_of words.now ≡ None) }
+    ensures usage { (result.0 ≡ 2) ↔ (form_of words.now ≡ None) }
 
     // What was taken, written and read of the clock, and the exchanges, as `run_cuebot` says.
-    ensures call { (call : Call) × IsCall words.now result
-        (streams (S.left source.old) (S.faults source.old) (W.written sink.old) (W.faults sink.old) (C.readings clock.old))
-        (streams (S.left source.new) (S.faults source.new) (W.written sink.new) (W.faults sink.new) (C.readings clock.new)) call }
+    ensures call { (call : Call) × IsCall words.now result.0
+        (streams (S.left source.old) (S.faults source.old) (W.written sink.old) (W.faults sink.old) (C.readings clock.old) (K.faults keeper))
+        (streams (S.left source.new) (S.faults source.new) (W.written sink.new) (W.faults sink.new) (C.readings clock.new) (K.faults result.1)) call
+        (Says (K.tells result.1) (K.holds keeper)) (SaysBad (K.tells result.1) (K.holds keeper))
+        (K.tells result.1 → IsUntouched (K.holds keeper) (K.left keeper) (K.holds result.1) (K.left result.1))
+        (HoldsFarm (K.tells result.1) (K.holds result.1) (K.left result.1)) }
 
-    // A failed read or write is told only where the source's or the sink's count of faults rose in this call.
-    ensures read { result ≡ 4 → HasRisen (S.faults source.old) (S.faults source.new) }
-    ensures write { result ≡ 5 → HasRisen (W.faults sink.old) (W.faults sink.new) }
+    // A fault of the store, a failed read or a failed write is told only where the keeper's, the source's or the sink's count of faults rose in this call.
+    ensures store { result.0 ≡ 3 → keeper_faults.HasRisen (K.faults keeper) (K.faults result.1) }
+    ensures read { result.0 ≡ 4 → HasRisen (S.faults source.old) (S.faults source.new) }
+    ensures write { result.0 ≡ 5 → HasRisen (W.faults sink.old) (W.faults sink.new) }
 
     // The hint was written, and nothing else was written there.
     ensures hint { HasTold (hint_of (is_some (form_of words.now)) at_terminal) (E.written errors.old) (E.written errors.new)
         (HasRisen (E.faults errors.old) (E.faults errors.new)) }
 {
     tell(errors, hint_for(words, at_terminal));
-    run_cuebot(alloc, words, source, sink, clock)
+    run_cuebot(alloc, words, source, sink, keeper, clock)
 }
 
 // The hint: the usage for invalid words, and at a terminal what is waited for. It is empty where there is none.

@@ -1,64 +1,159 @@
 //! The top call of the program `cuebot`.
 
-ghost use Rattle.std.specs.Prelude.{◌≡◌, ◌↔◌, None};
+ghost use Rattle.std.specs.Prelude.{◌≡◌, ◌↔◌, ℕ, List, None, Some};
 ghost use Rattle.cue_io.specs.Faults.{HasRisen};
-ghost use Rattle.session.specs.Sessions.{Call, IsCall, status_of, streams};
-ghost use Rattle.session.specs.Words.{form_of};
+ghost use Rattle.cue_io.specs.Output.{Adds};
+ghost use Rattle.cue_io.specs.Reader.{new_reader};
+ghost use Rattle.farm_keeper.specs.Faults as keeper_faults;
+ghost use Rattle.farm_lines.specs.Reply.{bad_store_line};
+ghost use Rattle.farm_lines.specs.declared.limits.TheConstants.{LINE_LIMIT};
+ghost use Rattle.session.specs.Opening.{HoldsFarm, IsUntouched, MayOpen, Says, SaysBad};
+ghost use Rattle.session.specs.Sessions.{AnswersAll, Call, IsCall, MayTell, TellsBad, TellsFault, TellsLine, status_of, streams};
+ghost use Rattle.session.specs.Words.{WordForm, form_of};
 
 use crate::exchanged::Exchanged;
-use crate::opening::open_farm;
+use crate::opening::{OpenFault, Opening, open};
 use crate::serve::serve;
 use crate::word_forms::form;
-use cue_io::{Clock, LineReader, Sink, Source};
+use cue_io::{Clock, LineReader, Sink, Source, write_all};
+use farm_keeper::Keeper;
 use farm_law::legal_runs_are_safe;
 use farm_lines::LINE_LIMIT;
 use farm_types::Text;
 use line_answers::sessions_are_legal;
+use recorder::PlainRecorder;
+use recovery::RecoverFault;
+use report_codec::write_bad_store;
 use std::alloc::Global;
 
-/// What a program answers the system: 0 at the end of the input, 2 for invalid arguments, 4 for a failed read, 5 for a failed write,
-/// 7 where memory ran out before the first line, and 8 where the bytes that one session takes are spent.
+/// What a program answers the system: 0 at the end of the input, 2 for invalid arguments, 3 where the store failed before the first line, 4 for a
+/// failed read, 5 for a failed write, 6 where the store's rows are no farm, 7 where memory ran out before the first line, and 8 where the bytes that one
+/// session takes are spent.
 pub type Status = u8;
 
 const USAGE: Status = 2;
 
+const STORE: Status = 3;
+
+const WRITE: Status = 5;
+
+const BAD_STORE: Status = 6;
+
 const NO_MEMORY: Status = 7;
 
-/// Runs `cuebot` for the words after its name: opens the farm of the words at the clock's first reading, and answers the source's lines in
-/// the sink, each at the clock's next reading, until the source ends or an I/O error comes.
-pub fn run_cuebot<S: Source, W: Sink, C: Clock>(
+/// Runs `cuebot` for the words after its name over a keeper of rows, and gives the keeper back: opens the farm of the rows at the clock's first reading,
+/// and answers the source's lines in the sink, each at the clock's next reading, until the source ends or an I/O error comes. No commit of the keeper was
+/// refused since the last one that it took, and for `demo` it holds no rows. Where its rows are no farm, a line in the sink tells the first one at fault.
+pub fn run_cuebot<S: Source, W: Sink, K: Keeper, C: Clock>(
     alloc: Global,
     words: &[Text],
     source: &mut S,
     sink: &mut W,
+    keeper: K,
     clock: &mut C,
-) -> Status
+) -> (Status, K)
+    requires { (form : WordForm) → form_of words.now ≡ Some form → K.tells keeper → MayOpen form (K.holds keeper) (K.left keeper) }
+
     // Status 2 comes exactly where the words are invalid.
-    ensures usage { (result ≡ 2) ↔ (form_of words.now ≡ None) }
+    ensures usage { (result.0 ≡ 2) ↔ (form_of words.now ≡ None) }
 
     // What was taken, written and read of the clock, and the exchanges: the bytes written are the replies to the lines taken, the entries
-    // recorded are a legal and safe run from the opened farm, and nothing but an I/O error or the limit of bytes ends the call before the input does.
-    ensures call { (call : Call) × IsCall words.now result
-        (streams (S.left source.old) (S.faults source.old) (W.written sink.old) (W.faults sink.old) (C.readings clock.old))
-        (streams (S.left source.new) (S.faults source.new) (W.written sink.new) (W.faults sink.new) (C.readings clock.new)) call }
+    // recorded are a legal and safe run from the opened farm, the keeper holds the farm that they make, and nothing but an I/O error, a fault of the
+    // store or the limit of bytes ends the call before the input does.
+    ensures call { (call : Call) × IsCall words.now result.0
+        (streams (S.left source.old) (S.faults source.old) (W.written sink.old) (W.faults sink.old) (C.readings clock.old) (K.faults keeper))
+        (streams (S.left source.new) (S.faults source.new) (W.written sink.new) (W.faults sink.new) (C.readings clock.new) (K.faults result.1)) call
+        (Says (K.tells result.1) (K.holds keeper)) (SaysBad (K.tells result.1) (K.holds keeper))
+        (K.tells result.1 → IsUntouched (K.holds keeper) (K.left keeper) (K.holds result.1) (K.left result.1))
+        (HoldsFarm (K.tells result.1) (K.holds result.1) (K.left result.1)) }
 
-    // A failed read or write is told only where the source's or the sink's count of faults rose in this call.
-    ensures read { result ≡ 4 → HasRisen (S.faults source.old) (S.faults source.new) }
-    ensures write { result ≡ 5 → HasRisen (W.faults sink.old) (W.faults sink.new) }
+    // A fault of the store, a failed read or a failed write is told only where the keeper's, the source's or the sink's count of faults rose in this call.
+    ensures store { result.0 ≡ 3 → keeper_faults.HasRisen (K.faults keeper) (K.faults result.1) }
+    ensures read { result.0 ≡ 4 → HasRisen (S.faults source.old) (S.faults source.new) }
+    ensures write { result.0 ≡ 5 → HasRisen (W.faults sink.old) (W.faults sink.new) }
 {
     let Some(form) = form(words) else {
-        return USAGE;
+        return (USAGE, keeper);
     };
     let Ok(mut reader) = LineReader::make(alloc, LINE_LIMIT as usize) else {
-        return NO_MEMORY;
+        return (NO_MEMORY, keeper);
     };
     let moment = clock.now();
-    let Ok(mut farm) = open_farm(alloc, form, moment) else {
-        return NO_MEMORY;
-    };
+    match open(alloc, form, keeper, moment) {
+        Opening::Opened { recorder } => answer_all(
+            alloc,
+            recorder,
+            &mut reader,
+            source,
+            sink,
+            clock,
+        ),
+        Opening::Failed { keeper, fault } => (tell_fault(alloc, sink, fault), keeper),
+    }
+}
+
+// Answers the source's lines over a farm that was opened, and gives the keeper back.
+fn answer_all<S: Source, W: Sink, K: Keeper, C: Clock>(
+    alloc: Global,
+    recorder: PlainRecorder<K>,
+    reader: &mut LineReader,
+    source: &mut S,
+    sink: &mut W,
+    clock: &mut C,
+) -> (Status, K)
+    requires { reader.old ≡ new_reader LINE_LIMIT }
+    ensures answered { (call : Call) × AnswersAll result.0 recorder.farm
+        (streams (S.left source.old) (S.faults source.old) (W.written sink.old) (W.faults sink.old) (C.readings clock.old) (K.faults recorder.keeper))
+        (streams (S.left source.new) (S.faults source.new) (W.written sink.new) (W.faults sink.new) (C.readings clock.new) (K.faults result.1)) call
+        (HoldsFarm (K.tells result.1) (K.holds result.1) (K.left result.1)) }
+    ensures told { K.tells result.1 → K.tells recorder.keeper }
+    ensures read { result.0 ≡ 4 → HasRisen (S.faults source.old) (S.faults source.new) }
+    ensures write { result.0 ≡ 5 → HasRisen (W.faults sink.old) (W.faults sink.new) }
+{
+    let mut recorder = recorder;
+    recorder.read().kept();
     sessions_are_legal();
     legal_runs_are_safe();
-    status(serve(alloc, &mut farm, &mut reader, source, sink, clock))
+    let ended = serve(alloc, &mut recorder, reader, source, sink, clock);
+    (status(ended), recorder.close())
+}
+
+// Tells why no farm was opened, with a line where a row is at fault.
+fn tell_fault<W: Sink>(alloc: Global, sink: &mut W, fault: OpenFault) -> Status
+    ensures told { (wrote : List ℕ) × Adds (W.written sink.old) (W.written sink.new) wrote × TellsFault fault result wrote }
+    ensures write { result ≡ 5 → HasRisen (W.faults sink.old) (W.faults sink.new) }
+{
+    match fault {
+        OpenFault::Store => STORE,
+        OpenFault::Bad { fault } => tell_bad(alloc, sink, fault),
+        OpenFault::NoMemory => NO_MEMORY,
+    }
+}
+
+// Tells the row at fault.
+fn tell_bad<W: Sink>(alloc: Global, sink: &mut W, fault: RecoverFault) -> Status
+    ensures told { (wrote : List ℕ) × Adds (W.written sink.old) (W.written sink.new) wrote × MayTell (TellsBad fault result wrote) result wrote }
+    ensures write { result ≡ 5 → HasRisen (W.faults sink.old) (W.faults sink.new) }
+{
+    match fault {
+        RecoverFault::BadBytes { kind, id } => tell_row(alloc, sink, kind, id),
+        RecoverFault::BreaksFarm { kind, id } => tell_row(alloc, sink, kind, id),
+        RecoverFault::NoMemory => NO_MEMORY,
+    }
+}
+
+// Tells that the row of this kind and id is at fault.
+fn tell_row<W: Sink>(alloc: Global, sink: &mut W, kind: u8, id: u64) -> Status
+    ensures told { (wrote : List ℕ) × Adds (W.written sink.old) (W.written sink.new) wrote × MayTell (TellsLine (bad_store_line kind id) result wrote) result wrote }
+    ensures write { result ≡ 5 → HasRisen (W.faults sink.old) (W.faults sink.new) }
+{
+    let Ok(line) = write_bad_store(alloc, kind, id) else {
+        return NO_MEMORY;
+    };
+    match write_all(sink, line.as_str().as_bytes()) {
+        Ok(()) => BAD_STORE,
+        Err(_) => WRITE,
+    }
 }
 
 // The status of a session, by how it ended.

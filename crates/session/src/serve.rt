@@ -9,13 +9,14 @@ ghost use Rattle.farm_lines.specs.declared.limits.TheConstants.{LINE_LIMIT};
 use crate::exchange::exchange;
 use crate::exchanged::Exchanged;
 use cue_io::{Clock, LineReader, Sink, Source};
-use farm_core::Farm;
+use farm_keeper::Keeper;
+use recorder::PlainRecorder;
 use std::alloc::Global;
 
 /// Answers line after line until the input ends or an I/O error comes, and says which.
-pub fn serve<S: Source, W: Sink, C: Clock>(
+pub fn serve<S: Source, W: Sink, K: Keeper, C: Clock>(
     alloc: Global,
-    farm: &mut Farm,
+    recorder: &mut PlainRecorder<K>,
     reader: &mut LineReader,
     source: &mut S,
     sink: &mut W,
@@ -23,14 +24,15 @@ pub fn serve<S: Source, W: Sink, C: Clock>(
 ) -> Exchanged
     requires { reader.old ≡ new_reader LINE_LIMIT }
     ensures ends { (call : Call) × HasMoved
-        (streams (S.left source.old) (S.faults source.old) (W.written sink.old) (W.faults sink.old) (C.readings clock.old))
-        (streams (S.left source.new) (S.faults source.new) (W.written sink.new) (W.faults sink.new) (C.readings clock.new)) call
-        × Ends result farm.old call (S.left source.new) }
+        (streams (S.left source.old) (S.faults source.old) (W.written sink.old) (W.faults sink.old) (C.readings clock.old) (K.faults recorder.old.keeper))
+        (streams (S.left source.new) (S.faults source.new) (W.written sink.new) (W.faults sink.new) (C.readings clock.new) (K.faults recorder.new.keeper)) call
+        × Ends result recorder.old.farm recorder.new.farm call (S.left source.new) (K.faults recorder.old.keeper) (K.faults recorder.new.keeper) }
     ensures read { result ≡ Exchanged.Read → HasRisen (S.faults source.old) (S.faults source.new) }
     ensures write { result ≡ Exchanged.Write → HasRisen (W.faults sink.old) (W.faults sink.new) }
+    ensures told { K.tells recorder.new.keeper → K.tells recorder.old.keeper }
 {
     'exchanges: loop {
-        match exchange(alloc, farm, reader, source, sink, clock) {
+        match exchange(alloc, recorder, reader, source, sink, clock) {
             Exchanged::Went => {}
             ended => return ended,
         }

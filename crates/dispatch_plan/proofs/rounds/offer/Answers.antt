@@ -1,13 +1,12 @@
-use Rattle.std.proofs.Common.{◌<◌, arith, sym, ◌∙◌}
-use Rattle.dispatch_plan.proofs.Booked.{offered_booked, offered_unbooked}
+use Rattle.std.proofs.Common.{◌≡◌, ◌<◌, true, arith, sym, ◌∙◌}
+use Rattle.farm_types.specs.Booking.{may_book}
+use Rattle.dispatch_plan.proofs.Booked.{offered_booked}
 use Rattle.dispatch_plan.proofs.rounds.offer.Goals as goal
 
-pub returns-then-book_if : goal.returns-then-book_if
-returns-then-book_if c = λ later.
+pub returns-then-branch-clause-went : goal.returns-then-branch-clause-went
+returns-then-branch-clause-went g c =
+    let f = c.args.recorder.now.farm in
+    let x = c.args.candidate.now in
     let some : 0 < c.args.left = omega arith in
-    offered_booked c.args.farm.now c.args.left c.args.candidate.now c.args.moment later c.book_if.new.self some (sym c.book_if.ensures.said ∙ c.if-book_if.true) c.book_if.ensures.farm
-
-pub returns-else-book_if : goal.returns-else-book_if
-returns-else-book_if c = λ later.
-    let some : 0 < c.args.left = omega arith in
-    offered_unbooked c.args.farm.now c.args.left c.args.candidate.now c.args.moment later c.book_if.new.self some (sym c.book_if.ensures.said ∙ c.if-book_if.false) c.book_if.ensures.farm
+    let may : may_book f x.slot x.host ≡ true = sym c.in_ok-book.ensures.farm.0 ∙ c.if-branch.true in
+    offered_booked f c.args.left x c.args.moment some may c.book.new.self.farm c.in_ok-book.ensures.farm.1

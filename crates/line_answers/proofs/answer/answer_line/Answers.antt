@@ -1,15 +1,15 @@
 -- What the line asks is answered, or its fault told.
-use Rattle.std.proofs.Common.{Ok, refl}
-use Rattle.farm_lines.specs.Request.{request_of}
 use Rattle.line_answers.specs.Lines.{shown}
-use Rattle.line_answers.proofs.AnswerLemmas.{answered_line, faulted}
+use Rattle.line_answers.proofs.AnswerLemmas.{answered_line, faulted_line}
 use Rattle.line_answers.proofs.answer.answer_line.Goals as goal
 
-pub returns-in-Ok : goal.returns-in-Ok
-returns-in-Ok c =
-    answered_line c.args.farm.now c.args.line.now c.args.moment c.answer_request.new.farm (shown c.answer_request.result) (Ok c.in-Ok.asked) c.requires c.in-Ok.ensures.gives c.answer_request.ensures
+pub returns-in-Ok-clause-answer : goal.returns-in-Ok-clause-answer
+returns-in-Ok-clause-answer g c =
+    answered_line c.args.recorder.now.farm c.args.line.now c.args.moment c.answer_request.new.recorder.farm (shown c.answer_request.result)
+    (g.K.Keeper.faults c.args.recorder.now.keeper) (g.K.Keeper.faults c.answer_request.new.recorder.keeper) c.in-Ok.asked c.requires c.in-Ok.ensures.gives
+    c.answer_request.ensures.answer
 
-pub returns-in-Err : goal.returns-in-Err
-returns-in-Err c =
-    answered_line c.args.farm.now c.args.line.now c.args.moment c.args.farm.now (shown c.fault_line.result) (request_of c.args.line.now) c.requires refl
-    (faulted c.args.farm.now c.args.moment c.in-Err.fault (request_of c.args.line.now) (shown c.fault_line.result) c.in-Err.ensures.gives c.fault_line.ensures)
+pub returns-in-Err-clause-answer : goal.returns-in-Err-clause-answer
+returns-in-Err-clause-answer g c =
+    faulted_line c.args.recorder.now.farm c.args.line.now c.args.moment c.in-Err.fault (shown c.fault_line.result) (g.K.Keeper.faults c.args.recorder.now.keeper)
+    (g.K.Keeper.faults c.args.recorder.now.keeper) c.requires c.in-Err.ensures.gives c.fault_line.ensures

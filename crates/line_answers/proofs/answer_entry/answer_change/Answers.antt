@@ -1,17 +1,26 @@
 -- The line was written and the change recorded, or memory ran out.
-use Rattle.std.proofs.Common.{refl, ap, ◌∙◌, ◌∷◌, [], ◌++◌}
+use Rattle.std.proofs.Common.{ap, ◌∙◌, ◌∷◌, [], ◌++◌}
 use Rattle.farm_lines.specs.Reply.{ok_reply, reply_text}
-use Rattle.farm_lines.specs.Transcript.{Memory}
+use Rattle.farm_lines.specs.Transcript.{entry_answer}
+use Rattle.farm_types.specs.Step.{refusal_of}
+use Rattle.line_answers.specs.LineAnswers.{MayStoreEntry}
 use Rattle.line_answers.specs.Lines.{shown}
-use Rattle.line_answers.proofs.AnswerLemmas.{recorded_entry}
+use Rattle.line_answers.proofs.AnswerLemmas.{entry_made, recorded_entry, unreplied}
 use Rattle.line_answers.proofs.answer_entry.answer_change.Goals as goal
 
-pub returns-in-Ok : goal.returns-in-Ok
-returns-in-Ok c =
-    recorded_entry c.args.farm.now c.record.new.farm c.args.entry.now c.args.change c.in-Ok.line (shown c.record.result) c.requires (
-    c.in-Ok.ensures
-    ∙ ap (λ told. reply_text (ok_reply c.args.entry.now.act told) ++ 10 ∷ []) (c.answer.ensures ∙ c.requires.answer)
-    ) c.record.ensures
+pub record-requires : goal.record-requires
+record-requires g c = entry_made c.args.recorder.now.farm c.args.entry.now c.args.change c.requires.condition c.requires.formed c.requires.makes
 
-pub returns-in-Err : goal.returns-in-Err
-returns-in-Err c = (Memory, record { farm = refl; text = ap shown c.without_memory.ensures })
+pub returns-in-Ok-clause-answer : goal.returns-in-Ok-clause-answer
+returns-in-Ok-clause-answer g c =
+    recorded_entry c.args.recorder.now.farm c.record.new.recorder.farm c.args.entry.now c.args.change c.in-Ok.line c.record.result (g.K.Keeper.faults c.args.recorder.now.keeper)
+    (g.K.Keeper.faults c.record.new.recorder.keeper) c.requires.makes (
+    c.in-Ok.ensures
+    ∙ ap (λ told. reply_text (ok_reply c.args.entry.now.act told) ++ 10 ∷ []) (c.answer.ensures ∙ c.requires.makes.answer)
+    ) c.record.ensures.recorded c.record.ensures.cause
+
+pub returns-in-Err-clause-answer : goal.returns-in-Err-clause-answer
+returns-in-Err-clause-answer g c =
+    unreplied c.args.recorder.now.farm (shown c.without_memory.result) (g.K.Keeper.faults c.args.recorder.now.keeper) (g.K.Keeper.faults c.args.recorder.now.keeper)
+    (λ mark. entry_answer c.args.recorder.now.farm c.args.entry.now mark (refusal_of c.args.recorder.now.farm c.args.entry.now))
+    (MayStoreEntry c.args.recorder.now.farm c.args.entry.now) tt (ap shown c.without_memory.ensures)

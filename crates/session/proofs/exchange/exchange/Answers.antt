@@ -3,9 +3,9 @@ use Rattle.std.proofs.Common.{◌≡◌, ◌≤◌, ℕ, List, [], ◌∷◌, �
 use Rattle.cue_io.specs.Reader.{Whole, Long, given_by}
 use Rattle.farm_lines.specs.declared.reply.Reply.TheVariants as reply
 use Rattle.farm_lines.specs.Reply.{reply_text}
-use Rattle.farm_lines.specs.Transcript.{Plain}
+use Rattle.farm_types.specs.Farm.{Farm}
 use Rattle.line_answers.specs.Lines.{shown}
-use Rattle.session.proofs.ExchangeLemmas.{step_answered, line_fits, answers_long}
+use Rattle.session.proofs.ExchangeLemmas.{step_answered, line_fits, answers_long, answers_whole}
 use Rattle.session.proofs.exchange.exchange.Goals as goal
 
 pub answer_line-reply-requires : goal.answer_line-reply-requires
@@ -27,8 +27,10 @@ returns-in-Ok-Bytes-clause-step g c =
       sent.1,
       c.now-moment.ensures,
       step_answered c.send.result c.next.result (Whole c.in-Ok-Bytes.line.now) c.args.reader.now c.next.follows.lender-at-none (g.S.Source.left c.next.new.source)
-          c.args.farm.now c.answer_line-reply.new.farm moves.took c.now-moment.result (shown c.answer_line-reply.result) sent.0 (omega arith) is moves.goes moves.end
-          c.answer_line-reply.ensures sent.2,
+          c.args.recorder.now.farm c.answer_line-reply.new.recorder.farm moves.took c.now-moment.result (shown c.answer_line-reply.result) sent.0
+          (g.K.Keeper.faults c.args.recorder.now.keeper) (g.K.Keeper.faults c.answer_line-reply.new.recorder.keeper) (omega arith) is moves.goes moves.end
+          (answers_whole c.in-Ok-Bytes.line.now c.args.recorder.now.farm c.answer_line-reply.new.recorder.farm c.now-moment.result (shown c.answer_line-reply.result)
+          (g.K.Keeper.faults c.args.recorder.now.keeper) (g.K.Keeper.faults c.answer_line-reply.new.recorder.keeper) c.answer_line-reply.ensures.answer c.answer_line-reply.ensures.rises) sent.2,
     )
 
 pub returns-in-Ok-TooLong-clause-step : goal.returns-in-Ok-TooLong-clause-step
@@ -36,6 +38,8 @@ returns-in-Ok-TooLong-clause-step g c =
     let is : given_by c.next.result ≡ Ok Long = ap given_by (c.in-Ok-TooLong.is ∙ ap Ok c.in-Ok-TooLong.field-0-is) in
     let moves = c.next.follows.holds-at-none in
     let sent = c.send-in-Ok-TooLong.ensures.sends in
+    let f : Farm = c.args.recorder.now.farm in
+    let faults : ℕ = g.K.Keeper.faults c.args.recorder.now.keeper in
     let text : List ℕ = reply_text reply.TooLong ++ 10 ∷ [] in (
       moves.took,
       sent.0,
@@ -44,6 +48,6 @@ returns-in-Ok-TooLong-clause-step g c =
       sent.1,
       c.now-moment-in-Ok-TooLong.ensures,
       step_answered c.send-in-Ok-TooLong.result c.next.result Long c.args.reader.now c.next.follows.lender-at-none (g.S.Source.left c.next.new.source)
-          c.args.farm.now c.args.farm.now moves.took c.now-moment-in-Ok-TooLong.result text sent.0 (omega arith) is moves.goes moves.end
-          (Plain, answers_long c.args.farm.now c.now-moment-in-Ok-TooLong.result text (λ line. c.lines_are_answered_by_what_they_ask.ensures c.args.farm.now line c.now-moment-in-Ok-TooLong.result) refl) sent.2,
+          f f moves.took c.now-moment-in-Ok-TooLong.result text sent.0 faults faults (omega arith) is moves.goes moves.end
+          (answers_long f c.now-moment-in-Ok-TooLong.result text faults (λ line. c.lines_are_answered_by_what_they_ask.ensures f line c.now-moment-in-Ok-TooLong.result) refl) sent.2,
     )

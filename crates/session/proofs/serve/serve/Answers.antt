@@ -1,5 +1,5 @@
 -- Before the first exchange, after one more, and at the last.
-use Rattle.std.proofs.Common.{[], ◌++◌, ◌<◌, ◌^◌, refl, sym, subst, arith}
+use Rattle.std.proofs.Common.{ℕ, [], ◌++◌, ◌<◌, ◌^◌, inl, refl, sym, subst, arith}
 use Rattle.std.proofs.lemmas.List.Elements.{All-nil}
 use Rattle.cue_io.specs.Faults.{HasRisen-earlier}
 use Rattle.cue_io.specs.History.{HasGiven, HasGiven-new}
@@ -24,11 +24,12 @@ exchanges-init g c =
           readings = Tells-none (g.C.Clock.readings c.args.clock.now);
         };
         served = record {
-          answered = record { farm_is = refl; replies = refl; moments = refl; within = All-nil (λ (t : Exchange). t.moment < 2 ^ 64) };
+          answered = record { farm_is = refl; replies = refl; moments = refl; within = All-nil (λ (t : Exchange). t.moment < 2 ^ 64); marked = tt; causes = inl (omega arith) };
           given = subst (λ (reader : Held). HasGiven LINE_LIMIT [] [] reader left) (sym c.requires) (HasGiven-new LINE_LIMIT left);
         };
         source = omega arith;
         sink = omega arith;
+        told = λ tells. tells;
       },
     )
 
@@ -37,17 +38,24 @@ exchanges-preserved g c =
     let call : Call = c.exchanges.invariant.0 in
     let now = c.exchanges.invariant.1 in
     let step = c.in-Went.ensures.step in
-    let before : Streams = streams (g.S.Source.left c.args.source.now) (g.S.Source.faults c.args.source.now) (g.W.Sink.written c.args.sink.now) (g.W.Sink.faults c.args.sink.now) (g.C.Clock.readings c.args.clock.now) in
-    let mid : Streams = streams (g.S.Source.left c.exchanges.source) (g.S.Source.faults c.exchanges.source) (g.W.Sink.written c.exchanges.sink) (g.W.Sink.faults c.exchanges.sink) (g.C.Clock.readings c.exchanges.clock) in
-    let after : Streams = streams (g.S.Source.left c.exchange.new.source) (g.S.Source.faults c.exchange.new.source) (g.W.Sink.written c.exchange.new.sink) (g.W.Sink.faults c.exchange.new.sink) (g.C.Clock.readings c.exchange.new.clock) in
-    let more = served_went c.args.farm.now call c.exchanges.farm c.exchange.new.farm c.exchanges.reader c.exchange.new.reader
-    (g.S.Source.left c.exchanges.source) (g.S.Source.left c.exchange.new.source) step.0 step.1 step.2 now.served step.3 step.6 in (
+    let before : Streams = streams (g.S.Source.left c.args.source.now) (g.S.Source.faults c.args.source.now) (g.W.Sink.written c.args.sink.now) (g.W.Sink.faults c.args.sink.now)
+    (g.C.Clock.readings c.args.clock.now) (g.K.Keeper.faults c.args.recorder.now.keeper) in
+    let mid : Streams = streams (g.S.Source.left c.exchanges.source) (g.S.Source.faults c.exchanges.source) (g.W.Sink.written c.exchanges.sink) (g.W.Sink.faults c.exchanges.sink)
+    (g.C.Clock.readings c.exchanges.clock) (g.K.Keeper.faults c.exchanges.recorder.keeper) in
+    let after : Streams = streams (g.S.Source.left c.exchange.new.source) (g.S.Source.faults c.exchange.new.source) (g.W.Sink.written c.exchange.new.sink)
+    (g.W.Sink.faults c.exchange.new.sink) (g.C.Clock.readings c.exchange.new.clock) (g.K.Keeper.faults c.exchange.new.recorder.keeper) in
+    let first_faults : ℕ = g.K.Keeper.faults c.args.recorder.now.keeper in
+    let mid_faults : ℕ = g.K.Keeper.faults c.exchanges.recorder.keeper in
+    let now_faults : ℕ = g.K.Keeper.faults c.exchange.new.recorder.keeper in
+    let more = served_went c.args.recorder.now.farm call c.exchanges.recorder.farm c.exchange.new.recorder.farm c.exchanges.reader c.exchange.new.reader
+    (g.S.Source.left c.exchanges.source) (g.S.Source.left c.exchange.new.source) step.0 step.1 step.2 first_faults mid_faults now_faults now.served step.3 step.6 in (
       record { taken = call.taken ++ step.0; written = call.written ++ step.1; readings = call.readings ++ step.2; exchanges = more.0 },
       record {
         moved = moved_more before mid after call step.0 step.1 step.2 more.0 now.moved step.3 step.4 step.5;
         served = more.1;
         source = omega (arith, now.source, c.exchange.ensures.source);
         sink = omega (arith, now.sink, c.exchange.ensures.sink);
+        told = λ tells. now.told (c.exchange.ensures.told tells);
       },
     )
 
@@ -56,17 +64,26 @@ returns-in_default g c =
     let call : Call = c.exchanges.invariant.0 in
     let now = c.exchanges.invariant.1 in
     let step = c.exchange.ensures.step in
-    let before : Streams = streams (g.S.Source.left c.args.source.now) (g.S.Source.faults c.args.source.now) (g.W.Sink.written c.args.sink.now) (g.W.Sink.faults c.args.sink.now) (g.C.Clock.readings c.args.clock.now) in
-    let mid : Streams = streams (g.S.Source.left c.exchanges.source) (g.S.Source.faults c.exchanges.source) (g.W.Sink.written c.exchanges.sink) (g.W.Sink.faults c.exchanges.sink) (g.C.Clock.readings c.exchanges.clock) in
-    let after : Streams = streams (g.S.Source.left c.exchange.new.source) (g.S.Source.faults c.exchange.new.source) (g.W.Sink.written c.exchange.new.sink) (g.W.Sink.faults c.exchange.new.sink) (g.C.Clock.readings c.exchange.new.clock) in
-    let ended = served_ended c.args.farm.now call c.exchanges.farm c.exchange.new.farm c.exchanges.reader c.exchange.new.reader
-    (g.S.Source.left c.exchanges.source) (g.S.Source.left c.exchange.new.source) step.0 step.1 step.2 now.served step.3 c.exchange.result c.in_default.not-Went step.6 in
+    let before : Streams = streams (g.S.Source.left c.args.source.now) (g.S.Source.faults c.args.source.now) (g.W.Sink.written c.args.sink.now) (g.W.Sink.faults c.args.sink.now)
+    (g.C.Clock.readings c.args.clock.now) (g.K.Keeper.faults c.args.recorder.now.keeper) in
+    let mid : Streams = streams (g.S.Source.left c.exchanges.source) (g.S.Source.faults c.exchanges.source) (g.W.Sink.written c.exchanges.sink) (g.W.Sink.faults c.exchanges.sink)
+    (g.C.Clock.readings c.exchanges.clock) (g.K.Keeper.faults c.exchanges.recorder.keeper) in
+    let after : Streams = streams (g.S.Source.left c.exchange.new.source) (g.S.Source.faults c.exchange.new.source) (g.W.Sink.written c.exchange.new.sink)
+    (g.W.Sink.faults c.exchange.new.sink) (g.C.Clock.readings c.exchange.new.clock) (g.K.Keeper.faults c.exchange.new.recorder.keeper) in
+    let first_faults : ℕ = g.K.Keeper.faults c.args.recorder.now.keeper in
+    let mid_faults : ℕ = g.K.Keeper.faults c.exchanges.recorder.keeper in
+    let now_faults : ℕ = g.K.Keeper.faults c.exchange.new.recorder.keeper in
+    let ended = served_ended c.args.recorder.now.farm call c.exchanges.recorder.farm c.exchange.new.recorder.farm c.exchanges.reader c.exchange.new.reader
+    (g.S.Source.left c.exchanges.source) (g.S.Source.left c.exchange.new.source) step.0 step.1 step.2 first_faults mid_faults now_faults now.served step.3 c.exchange.result c.in_default.not-Went step.6 in
     record {
       ends = (
         record { taken = call.taken ++ step.0; written = call.written ++ step.1; readings = call.readings ++ step.2; exchanges = ended.0 },
         moved_more before mid after call step.0 step.1 step.2 ended.0 now.moved step.3 step.4 step.5,
         ended.1,
       );
-      read = λ is. HasRisen-earlier (g.S.Source.faults c.args.source.now) (g.S.Source.faults c.exchanges.source) (g.S.Source.faults c.exchange.new.source) now.source (c.exchange.ensures.read is);
-      write = λ is. HasRisen-earlier (g.W.Sink.faults c.args.sink.now) (g.W.Sink.faults c.exchanges.sink) (g.W.Sink.faults c.exchange.new.sink) now.sink (c.exchange.ensures.write is);
+      read = λ is. HasRisen-earlier (g.S.Source.faults c.args.source.now) (g.S.Source.faults c.exchanges.source) (g.S.Source.faults c.exchange.new.source) now.source
+          (c.exchange.ensures.read is);
+      write = λ is. HasRisen-earlier (g.W.Sink.faults c.args.sink.now) (g.W.Sink.faults c.exchanges.sink) (g.W.Sink.faults c.exchange.new.sink) now.sink
+          (c.exchange.ensures.write is);
+      told = λ tells. now.told (c.exchange.ensures.told tells);
     }

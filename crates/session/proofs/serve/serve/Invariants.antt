@@ -7,12 +7,15 @@ use Rattle.session.proofs.serve.serve.Given as goal
 abbrev pub invariant-exchanges : goal.invariant-exchanges
 invariant-exchanges g l = (call : Call) × record {
   moved : HasMoved
-      (streams (g.S.Source.left l.fn.source) (g.S.Source.faults l.fn.source) (g.W.Sink.written l.fn.sink) (g.W.Sink.faults l.fn.sink) (g.C.Clock.readings l.fn.clock))
-      (streams (g.S.Source.left l.source) (g.S.Source.faults l.source) (g.W.Sink.written l.sink) (g.W.Sink.faults l.sink) (g.C.Clock.readings l.clock))
+      (streams (g.S.Source.left l.fn.source) (g.S.Source.faults l.fn.source) (g.W.Sink.written l.fn.sink) (g.W.Sink.faults l.fn.sink) (g.C.Clock.readings l.fn.clock)
+      (g.K.Keeper.faults l.fn.recorder.keeper))
+      (streams (g.S.Source.left l.source) (g.S.Source.faults l.source) (g.W.Sink.written l.sink) (g.W.Sink.faults l.sink) (g.C.Clock.readings l.clock)
+      (g.K.Keeper.faults l.recorder.keeper))
       call;
-  served : HasServed l.fn.farm call l.farm l.reader (g.S.Source.left l.source);
+  served : HasServed l.fn.recorder.farm call l.recorder.farm l.reader (g.S.Source.left l.source) (g.K.Keeper.faults l.fn.recorder.keeper) (g.K.Keeper.faults l.recorder.keeper);
   source : g.S.Source.faults l.fn.source ≤ g.S.Source.faults l.source;
   sink : g.W.Sink.faults l.fn.sink ≤ g.W.Sink.faults l.sink;
+  told : g.K.Keeper.tells l.recorder.keeper → g.K.Keeper.tells l.fn.recorder.keeper;
 }
 
 abbrev pub decreases-exchanges : goal.decreases-exchanges

@@ -1,0 +1,89 @@
+-- A round, candidate by candidate.
+use Rattle.std.proofs.Common.{◌≡◌, ℕ, suc, ◌+◌, ◌-◌, ◌<◌, ◌≤◌, true, List, [], ◌∷◌, ◌++◌, length, length-append, get_or, drop, take, append_assoc, drop-cons, refl, sym, ap, subst, ◌∙◌, arith}
+use Rattle.std.proofs.Math.Seq.{take-append_seam}
+use Rattle.farm_types.specs.declared.dispatch.Candidate.{Candidate}
+use Rattle.farm_types.specs.declared.entry.Entry.{Entry}
+use Rattle.farm_types.specs.declared.limits.TheConstants.{BOOKINGS_EACH}
+use Rattle.farm_types.specs.Booking.{may_book}
+use Rattle.farm_types.specs.Dispatch.{book_entry, round_from}
+use Rattle.farm_types.specs.Farm.{Farm}
+use Rattle.farm_types.specs.Run.{run_of}
+use Rattle.farm_types.specs.Step.{after}
+use Rattle.recorder.specs.declared.refusal.RecordFault.{RecordFault}
+use Rattle.recorder.specs.declared.refusal.RecordFault.TheVariants as fault
+use Rattle.dispatch_plan.specs.Rounds.{FailsToOffer, IsOffered}
+use Rattle.dispatch_plan.proofs.Booked.{begins}
+
+-- of a round of all these candidates these bookings are made so far, and so many bookings and these candidates are left
+pub record IsUnderWay (old : Farm) (moment : ℕ) (all : List Candidate) (left : ℕ) (now : Farm) (rest : List Candidate) : Type 0 where
+  pub booked : List Entry
+  pub made : now ≡ run_of old booked
+  pub goes_on : booked ++ round_from left now moment rest ≡ round_from BOOKINGS_EACH old moment all
+
+pub no_less : (a b c : ℕ) → a ≤ b → b ≤ c → a ≤ c
+no_less a b c low high = omega arith
+
+-- an item and those behind it
+next_item : {X : Type 0} (xs : List X) (i : ℕ) (x : X) → i < length xs → x ≡ get_or xs i x → drop i xs ≡ x ∷ drop (i + 1) xs
+next_item {X = X} xs i x within is =
+    let next : suc i ≡ i + 1 = omega arith in
+    drop-cons xs i x within ∙ (ap (λ (k : ℕ). get_or xs i x ∷ drop k xs) next ∙ ap (λ (y : X). y ∷ drop (i + 1) xs) (sym is))
+
+-- entries, and then others
+runs_on : (f : Farm) (done more : List Entry) → run_of f (done ++ more) ≡ run_of (run_of f done) more
+runs_on f [] more = refl
+runs_on f (e ∷ done) more = runs_on (after f e) done more
+
+-- at a fault the farm is as before
+same_at : (left : ℕ) (f : Farm) (c : Candidate) (why : RecordFault) (new : Farm) → FailsToOffer left f c why new → new ≡ f
+same_at left f c fault.Store new fails = fails.2
+same_at left f c fault.NoMemory new fails = fails
+
+module _ (old : Farm) (moment : ℕ) (all : List Candidate) (left : ℕ) (f : Farm) (c : Candidate) where
+  abbrev round : List Entry
+  round = round_from BOOKINGS_EACH old moment all
+
+  one_offered : (later : List Candidate) (left_then : ℕ) (new : Farm) → IsUnderWay old moment all left f (c ∷ later) → IsOffered left f moment c left_then new
+      → IsUnderWay old moment all left_then new later
+  one_offered later left_then new so offered = record {
+    booked = so.booked ++ offered.booked;
+    made = offered.made ∙ (ap (λ (g : Farm). run_of g offered.booked) so.made ∙ sym (runs_on old so.booked offered.booked));
+    goes_on =
+        append_assoc so.booked offered.booked (round_from left_then new moment later)
+        ∙ (ap (λ (es : List Entry). so.booked ++ es) (offered.goes_on later) ∙ so.goes_on);
+  }
+
+  first_ones : (rest : List Candidate) (so : IsUnderWay old moment all left f rest) → so.booked ≡ take (length so.booked) round
+  first_ones rest so = sym (ap (take (length so.booked)) (sym so.goes_on) ∙ take-append_seam so.booked (round_from left f moment rest))
+
+  stopped : (rest : List Candidate) (new : Farm) (so : IsUnderWay old moment all left f rest) → new ≡ f → new ≡ run_of old (take (length so.booked) round)
+  stopped rest new so same = same ∙ (so.made ∙ ap (run_of old) (first_ones rest so))
+
+  one_missing : (later : List Candidate) (so : IsUnderWay old moment all left f (c ∷ later)) → 0 < left → may_book f c.slot c.host ≡ true → length so.booked < length round
+  one_missing later so some may =
+      let all_of : length round ≡ length so.booked + length (round_from left f moment (c ∷ later)) =
+      ap (λ (es : List Entry). length es) (sym so.goes_on) ∙ length-append so.booked (round_from left f moment (c ∷ later)) in
+      let one_more : length (round_from left f moment (c ∷ later)) ≡ length (book_entry c moment ∷ round_from (left - 1) (after f (book_entry c moment)) moment later) =
+      ap (λ (es : List Entry). length es) (begins f left c moment some may later) in
+      omega (arith, all_of, one_more)
+
+  ends_at_store : (later : List Candidate) (new : Farm) → IsUnderWay old moment all left f (c ∷ later) → FailsToOffer left f c fault.Store new
+      → (k : ℕ) × (k < length round) × (new ≡ run_of old (take k round))
+  ends_at_store later new so fails = (length so.booked, one_missing later so fails.0 fails.1, stopped (c ∷ later) new so fails.2)
+
+  module _ (i : ℕ) (within : i < length all) (is : c ≡ get_or all i c) (so : IsUnderWay old moment all left f (drop i all)) (new : Farm) where
+    there : IsUnderWay old moment all left f (c ∷ drop (i + 1) all)
+    there = subst (IsUnderWay old moment all left f) (next_item all i c within is) so
+
+    -- the candidate at hand was offered
+    pub then_offered : (left_then : ℕ) → IsOffered left f moment c left_then new → IsUnderWay old moment all left_then new (drop (i + 1) all)
+    then_offered left_then offered = one_offered (drop (i + 1) all) left_then new there offered
+
+    -- the store failed at the candidate at hand
+    pub then_refused : (why : RecordFault) → why ≡ fault.Store → FailsToOffer left f c why new → (k : ℕ) × (k < length round) × (new ≡ run_of old (take k round))
+    then_refused why store fails =
+        ends_at_store (drop (i + 1) all) new there (subst (λ (w : RecordFault). FailsToOffer left f c w new) store fails)
+
+    -- memory ran out at the candidate at hand
+    pub then_cut : (why : RecordFault) → FailsToOffer left f c why new → (k : ℕ) × (new ≡ run_of old (take k round))
+    then_cut why fails = (length so.booked, stopped (drop i all) new so (same_at left f c why new fails))

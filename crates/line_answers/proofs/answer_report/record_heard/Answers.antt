@@ -1,0 +1,18 @@
+-- A change was prepared and recorded, or no change was prepared.
+use Rattle.line_answers.proofs.AnswerLemmas.{entry_made}
+use Rattle.line_answers.proofs.ReportLemmas.{heard_condition, never_store, unprepared}
+use Rattle.line_answers.proofs.answer_report.record_heard.Goals as goal
+
+pub prepare-requires-clause-condition : goal.prepare-requires-clause-condition
+prepare-requires-clause-condition g c = heard_condition c.args.recorder.now.farm c.args.entry.now.act c.requires.heard
+
+pub record_change-requires-clause-of_entry : goal.record_change-requires-clause-of_entry
+record_change-requires-clause-of_entry g c =
+    entry_made c.args.recorder.now.farm c.args.entry.now c.in_ok-change.change (heard_condition c.args.recorder.now.farm c.args.entry.now.act c.requires.heard) c.requires.formed
+    c.in_ok-change.ensures
+
+pub returns-in_err-change-clause-farm : goal.returns-in_err-change-clause-farm
+returns-in_err-change-clause-farm g c = unprepared c.args.recorder.now.farm c.args.entry.now _ c.from_residual.result c.from_residual.ensures.1 c.in_err-change.ensures
+
+pub returns-in_err-change-clause-cause : goal.returns-in_err-change-clause-cause
+returns-in_err-change-clause-cause g c = λ is. absurd (never_store _ c.from_residual.result c.from_residual.ensures.1 is)
