@@ -1,6 +1,6 @@
 //! The calls that rows tell of.
 
-use crate::{fields, keeping, ranges, rows, streams, texts};
+use crate::{fields, keeping, ranges, recoveries, rows, streams, texts};
 use std::alloc::{AllocError, Global};
 
 /// A call that rows tell of, each in a file of its own.
@@ -22,12 +22,13 @@ pub enum Call {
     Writes,
     Clocks,
     RowBytes,
+    Recover,
     Keeper,
 }
 
 impl Call {
     /// All calls, in the order in which their files are read.
-    pub const ALL: [Call; 17] = [
+    pub const ALL: [Call; 18] = [
         Call::Numbers,
         Call::Counts,
         Call::Places,
@@ -44,6 +45,7 @@ impl Call {
         Call::Writes,
         Call::Clocks,
         Call::RowBytes,
+        Call::Recover,
         Call::Keeper,
     ];
 
@@ -66,6 +68,7 @@ impl Call {
             Call::Writes => "writes.rows",
             Call::Clocks => "clocks.rows",
             Call::RowBytes => "row_bytes.rows",
+            Call::Recover => "recover.rows",
             Call::Keeper => "keeper.rows",
         }
     }
@@ -89,6 +92,7 @@ impl Call {
             Call::Writes => streams::written(alloc, given),
             Call::Clocks => streams::readings(alloc, given),
             Call::RowBytes => rows::row_bytes(alloc, given),
+            Call::Recover => recoveries::recovered(alloc, given),
             Call::Keeper => keeping::answers(alloc, given),
         }
     }

@@ -6,6 +6,7 @@ mod fields;
 mod keeping;
 mod quotes;
 mod ranges;
+mod recoveries;
 mod rows;
 mod streams;
 mod texts;

@@ -23,8 +23,8 @@ pub fn row_bytes(alloc: Global, given: &str) -> Result<Option<String>, AllocErro
     }
 }
 
-// The kind, the id and the text of the bytes.
-fn parts(given: &str) -> Option<(u8, u64, &str)> {
+/// The kind, the id and the text of the bytes.
+pub fn parts(given: &str) -> Option<(u8, u64, &str)> {
     let (kind, rest) = given.split_once(' ')?;
     let (id, text) = rest.split_once(' ')?;
     let kind = kind.parse::<u8>().ok()?;
@@ -32,8 +32,8 @@ fn parts(given: &str) -> Option<(u8, u64, &str)> {
     Some((kind, id, text))
 }
 
-// The bytes of a text.
-fn bytes_of(alloc: Global, text: &str) -> Result<Vec<u8>, AllocError> {
+/// The bytes of a text.
+pub fn bytes_of(alloc: Global, text: &str) -> Result<Vec<u8>, AllocError> {
     let mut bytes = Vec::new(alloc);
     for byte in text.bytes() {
         bytes.push(if byte == MARK { ODD } else { byte })?;

@@ -1,19 +1,9 @@
-//! Runs the sessions that case files tell, and writes a line for each: `ok`, or `FAILED` and what differed first.
+//! Runs the sessions of its case files, and writes a line for each: `ok`, or `FAILED` and what differed first.
 #![tactic(auto)]
 
-mod case;
-mod difference;
-mod ended;
-mod file_names;
-mod line_fault;
-mod numbers;
-mod spelling;
-
-use difference::difference;
-use file_names::file_names;
+use case_files::run_files;
+use std::io;
 use std::process::ExitCode;
-use std::rt::Runtime;
-use std::{fs, io};
 
 fn main(rt: HostRuntime) -> io::Result<ExitCode> {
     if run_files(&rt)? {
@@ -21,41 +11,4 @@ fn main(rt: HostRuntime) -> io::Result<ExitCode> {
     } else {
         Ok(ExitCode::FAILURE)
     }
-}
-
-// Runs the cases of each file, and says whether there was a file and all went as they tell.
-fn run_files<R: Runtime + AllocGlobal>(rt: &R) -> io::Result<bool> {
-    let names = file_names(rt)?;
-    if names.is_empty() {
-        println!(rt; "FAILED: no file of cases is here")?;
-        return Ok(false);
-    }
-    let mut all_well = true;
-    for name in names.as_slice() {
-        let text = fs::read_to_string(rt, name.as_str())?;
-        if !run_file(rt, name.as_str(), text.as_str())? {
-            all_well = false;
-        }
-    }
-    Ok(all_well)
-}
-
-// Runs the cases of a file, and says whether there was one and all went as they tell. What stands above the first
-// heading belongs to each case.
-fn run_file<R: Print + AllocGlobal>(rt: &R, name: &str, text: &str) -> io::Result<bool> {
-    let Some((shared, cases)) = text.split_once("\n# ") else {
-        println!(rt; "FAILED {name}: no case stands in it")?;
-        return Ok(false);
-    };
-    let mut all_well = true;
-    for case in cases.split("\n# ") {
-        let (heading, told) = case.split_once('\n').unwrap_or((case, ""));
-        if let Some(found) = difference(rt.alloc(), shared, told)? {
-            println!(rt; "FAILED {name}: {heading}: {found}")?;
-            all_well = false;
-        } else {
-            println!(rt; "ok {name}: {heading}")?;
-        }
-    }
-    Ok(all_well)
 }

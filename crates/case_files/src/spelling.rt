@@ -16,6 +16,13 @@ pub fn add_line(alloc: Global, bytes: &mut Vec<u8>, line: &str) -> Result<(), Li
     }
 }
 
+/// The bytes of a text.
+pub fn text_bytes(alloc: Global, text: &str) -> Result<Vec<u8>, LineFault> {
+    let mut bytes = Vec::new(alloc);
+    add_text(alloc, &mut bytes, text)?;
+    Ok(bytes)
+}
+
 // Adds the bytes of a text.
 fn add_text(alloc: Global, bytes: &mut Vec<u8>, text: &str) -> Result<(), LineFault> {
     let Some((pasted, marked)) = text.split_once('«') else {

@@ -33,7 +33,8 @@ pub fn times_of(text: &str) -> Result<Times, LineFault> {
     })
 }
 
-fn number_of(text: &str) -> Result<u32, LineFault> {
+/// A number.
+pub fn number_of(text: &str) -> Result<u32, LineFault> {
     text.parse::<u32>().map_err(|_| LineFault::Malformed)
 }
 

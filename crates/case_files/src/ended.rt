@@ -1,7 +1,9 @@
 //! A session that ended.
 
 use crate::case::Case;
+use crate::store::keeper_of;
 use cue_io::{MemoryClock, MemorySink, MemorySource};
+use farm_keeper::{MemoryKeeper, Row};
 use session::{Status, run_cuebot};
 use std::alloc::{AllocError, Global};
 
@@ -11,26 +13,35 @@ pub struct Ended {
     pub status: Status,
     pub source: MemorySource,
     pub sink: MemorySink,
+    pub keeper: MemoryKeeper,
 }
 
-/// Runs the session that a case tells.
-pub fn run(alloc: Global, case: &Case) -> Result<Ended, AllocError> {
-    let mut source = source_of(alloc, case)?;
+/// Runs the session that a case tells, over these rows and for these requests, where these calls of the keeper fail.
+pub fn run(
+    alloc: Global,
+    case: &Case,
+    rows: &[Row],
+    requests: &[u8],
+    failing: &[u64],
+) -> Result<Ended, AllocError> {
+    let mut source = source_of(alloc, case, requests)?;
     let mut sink = MemorySink::make(alloc, case.writes, case.capacity, &case.failing_writes)?;
     let mut clock = clock_of(alloc, case)?;
     let words = case.words.as_slice();
-    let status = run_cuebot(alloc, words, &mut source, &mut sink, &mut clock);
+    let keeper = keeper_of(alloc, words, rows, failing)?;
+    let (status, keeper) = run_cuebot(alloc, words, &mut source, &mut sink, keeper, &mut clock);
     Ok(Ended {
         status,
         source,
         sink,
+        keeper,
     })
 }
 
 // The requests, in reads of at least a byte.
-fn source_of(alloc: Global, case: &Case) -> Result<MemorySource, AllocError> {
+fn source_of(alloc: Global, case: &Case, requests: &[u8]) -> Result<MemorySource, AllocError> {
     let most = case.reads.max(1);
-    MemorySource::make(alloc, &case.requests, most, &case.failing_reads)
+    MemorySource::make(alloc, requests, most, &case.failing_reads)
 }
 
 // The case's clock, or one that shows 0 where it tells no reading.

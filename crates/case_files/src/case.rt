@@ -1,8 +1,9 @@
 //! A case: what a session is run over, and what it must write and answer.
 
 use crate::line_fault::LineFault;
-use crate::numbers::{Times, bytes_of, most_bytes_of, numbers_of, status_of, times_of};
+use crate::numbers::{Times, bytes_of, most_bytes_of, number_of, numbers_of, status_of, times_of};
 use crate::spelling::{add_line, numbered};
+use crate::told_rows::ToldRows;
 use farm_types::{Items, Text};
 use std::alloc::{AllocError, Global};
 
@@ -29,6 +30,14 @@ pub struct Case {
     pub requests: Vec<u8>,
     pub replies: Vec<u8>,
     pub status: u8,
+    /// The store's rows before and after.
+    pub rows: ToldRows,
+    /// Which calls of the keeper fail, by their number from 1.
+    pub failing_keeper_calls: Vec<u64>,
+    /// Whether the session is run again for each call of the keeper, which fails then.
+    pub is_in_turn: bool,
+    /// The batch that the stop before the session left, of those that the session before was refused, by its number from 1.
+    pub refused_batch: Option<u64>,
 }
 
 impl Case {
@@ -45,7 +54,30 @@ impl Case {
             requests: Vec::new(alloc),
             replies: Vec::new(alloc),
             status: 0,
+            rows: ToldRows::new(alloc),
+            failing_keeper_calls: Vec::new(alloc),
+            is_in_turn: false,
+            refused_batch: None,
         }
+    }
+
+    /// Takes the settings among the lines, up to the first malformed one, which is the answer.
+    pub fn take_settings<'a>(
+        &mut self,
+        alloc: Global,
+        lines: &'a str,
+    ) -> Result<Option<&'a str>, AllocError> {
+        for line in lines.lines() {
+            if is_pasted(line) || line.contains("× ") {
+                continue;
+            }
+            match self.take_line(alloc, line) {
+                Ok(()) => {}
+                Err(LineFault::Malformed) => return Ok(Some(line)),
+                Err(LineFault::NoMemory) => return Err(AllocError),
+            }
+        }
+        Ok(None)
     }
 
     /// Takes what lines tell, up to the first malformed one, which is the answer.
@@ -64,13 +96,13 @@ impl Case {
         Ok(None)
     }
 
-    // Takes what a line tells: nothing where it is empty or a remark in brackets, else a request, a reply, many of one, or
-    // a setting.
+    // Takes what a line tells: nothing where it is empty or a remark in brackets, else a request, a reply, a row, many of one,
+    // or a setting.
     fn take_line(&mut self, alloc: Global, line: &str) -> Result<(), LineFault> {
         if line.is_empty() || line.starts_with('(') {
             return Ok(());
         }
-        if line.starts_with('>') || line.starts_with('<') {
+        if is_pasted(line) {
             return self.take_pasted(alloc, line);
         }
         if let Some((times, line)) = line.split_once("× ") {
@@ -82,18 +114,18 @@ impl Case {
         }
     }
 
-    // Takes a request or a reply.
+    // Takes a request, a reply or a row.
     fn take_pasted(&mut self, alloc: Global, line: &str) -> Result<(), LineFault> {
         if let Some(request) = line.strip_prefix('>') {
             add_line(alloc, &mut self.requests, without_blank(request))
         } else if let Some(reply) = line.strip_prefix('<') {
             add_line(alloc, &mut self.replies, without_blank(reply))
         } else {
-            Err(LineFault::Malformed)
+            self.rows.take(alloc, line)
         }
     }
 
-    // Takes a request or a reply so many times, with its number in place of each `№`.
+    // Takes a request, a reply or a row so many times, with its number in place of each `№`.
     fn take_many(&mut self, alloc: Global, times: Times, line: &str) -> Result<(), LineFault> {
         for number in times.first..times.past {
             let line = numbered(alloc, line, number)?;
@@ -113,10 +145,32 @@ impl Case {
             "failing writes" => self.failing_writes = numbers_of(alloc, value)?,
             "clock" => self.clock = numbers_of(alloc, value)?,
             "status" => self.status = status_of(value)?,
+            "rows after" => self.rows.set_after(value)?,
+            "failing keeper calls" => return self.set_failing_keeper_calls(alloc, value),
+            "with refused batch" => self.refused_batch = Some(u64::from(number_of(value)?)),
             _ => return Err(LineFault::Malformed),
         }
         Ok(())
     }
+
+    // Sets which calls of the keeper fail: those of the numbers, or each one, in a session of its own.
+    fn set_failing_keeper_calls(&mut self, alloc: Global, value: &str) -> Result<(), LineFault> {
+        if value == "each in turn" {
+            self.is_in_turn = true;
+        } else {
+            self.failing_keeper_calls = numbers_of(alloc, value)?;
+        }
+        Ok(())
+    }
+}
+
+// Whether a line is a request, a reply or a row.
+fn is_pasted(line: &str) -> bool {
+    line.starts_with('>')
+        || line.starts_with('<')
+        || line.starts_with('+')
+        || line.starts_with('-')
+        || line.starts_with('=')
 }
 
 // The text without the blank that it begins with.
