@@ -1,0 +1,6 @@
+-- As many spaces as turns are added.
+use Rattle.std.proofs.Common.{◌≡◌, ◌++◌, replicate, string_bytes}
+use Rattle.cue_tables.proofs.lines.push_spaces.Given as goal
+
+abbrev pub invariant-loop-space : goal.invariant-loop-space
+invariant-loop-space l = string_bytes l.text ≡ string_bytes l.fn.text ++ replicate l._space 32
