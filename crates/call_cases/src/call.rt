@@ -1,6 +1,6 @@
 //! The calls that rows tell of.
 
-use crate::{fields, keeping, ranges, recoveries, rows, streams, texts};
+use crate::{fields, keeping, ranges, recoveries, rows, streams, texts, tool};
 use std::alloc::{AllocError, Global};
 
 /// A call that rows tell of, each in a file of its own.
@@ -24,11 +24,13 @@ pub enum Call {
     RowBytes,
     Recover,
     Keeper,
+    ToolWords,
+    ToolRuns,
 }
 
 impl Call {
     /// All calls, in the order in which their files are read.
-    pub const ALL: [Call; 18] = [
+    pub const ALL: [Call; 20] = [
         Call::Numbers,
         Call::Counts,
         Call::Places,
@@ -47,6 +49,8 @@ impl Call {
         Call::RowBytes,
         Call::Recover,
         Call::Keeper,
+        Call::ToolWords,
+        Call::ToolRuns,
     ];
 
     /// The file of its rows.
@@ -70,6 +74,8 @@ impl Call {
             Call::RowBytes => "row_bytes.rows",
             Call::Recover => "recover.rows",
             Call::Keeper => "keeper.rows",
+            Call::ToolWords => "tool_words.rows",
+            Call::ToolRuns => "tool_runs.rows",
         }
     }
 
@@ -94,6 +100,8 @@ impl Call {
             Call::RowBytes => rows::row_bytes(alloc, given),
             Call::Recover => recoveries::recovered(alloc, given),
             Call::Keeper => keeping::answers(alloc, given),
+            Call::ToolWords => tool::asked(alloc, given),
+            Call::ToolRuns => tool::ran(alloc, given),
         }
     }
 }

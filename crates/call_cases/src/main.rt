@@ -10,6 +10,7 @@ mod recoveries;
 mod rows;
 mod streams;
 mod texts;
+mod tool;
 
 use call::Call;
 use std::process::ExitCode;

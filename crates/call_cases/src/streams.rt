@@ -13,14 +13,14 @@ const LIMIT: usize = 8;
 const ANSWERS: u32 = 64;
 
 // How many bytes a sink takes where the row says nothing.
-const CAPACITY: usize = 64;
+const CAPACITY: usize = 65536;
 
 /// How many bytes a call moves at most, how many all take, and which calls fail.
 #[derive(Drop)]
-struct Moves {
-    most: usize,
-    capacity: usize,
-    fails: Vec<u64>,
+pub struct Moves {
+    pub most: usize,
+    pub capacity: usize,
+    pub fails: Vec<u64>,
 }
 
 /// What a reader of lines of at most 8 bytes answers to a text, as `ab/cd/ in 4 failing 2`: `/` is a newline of the text,
@@ -82,8 +82,8 @@ pub fn written(alloc: Global, given: &str) -> Result<Option<String>, AllocError>
     Ok(Some(format!(in alloc; "{ending}: {written}")?))
 }
 
-// The moves that words tell, as `2 capacity 4 failing 3`.
-fn moves_of(alloc: Global, text: &str) -> Result<Option<Moves>, AllocError> {
+/// The moves that words tell, as `2 capacity 4 failing 3`.
+pub fn moves_of(alloc: Global, text: &str) -> Result<Option<Moves>, AllocError> {
     let (text, failing) = text.split_once(" failing ").unwrap_or((text, ""));
     let (most, capacity) = text.split_once(" capacity ").unwrap_or((text, ""));
     let Some(fails) = numbers(alloc, failing)? else {

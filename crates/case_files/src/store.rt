@@ -45,7 +45,7 @@ impl Left {
 }
 
 /// A keeper of the rows for a session of the words. Its calls fail by their numbers from 1, but that its first one, which puts the rows,
-/// doesn't count. For the demonstration it has no rows.
+/// doesn't count. For the demonstration and for a load it has no rows.
 pub fn keeper_of(
     alloc: Global,
     words: &[Text],

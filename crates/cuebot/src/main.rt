@@ -1,5 +1,6 @@
 //! The scheduler's program. It reads requests from standard input, a line each, and answers them: `cuebot demo` over the farm of the
-//! demonstration, and `cuebot script :memory:` over a farm that begins empty. Its store is in memory, and goes with it.
+//! demonstration, and `cuebot script :memory:` over a farm that begins empty. `cuebot load N` reads nothing: it runs the job of a load and tells a summary. Its store is
+//! in memory, and goes with it.
 #![tactic(auto)]
 
 ghost use Rattle.std.specs.Prelude.{◌≡◌};

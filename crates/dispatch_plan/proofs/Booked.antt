@@ -1,5 +1,5 @@
 -- A candidate that is offered and booked.
-use Rattle.std.proofs.Common.{◌≡◌, ℕ, ◌-◌, ◌<◌, ◌&&◌, Bool, true, cond, List, [], ◌∷◌, refl, sym, ap, ◌∙◌}
+use Rattle.std.proofs.Common.{◌≡◌, ℕ, ◌-◌, ◌<◌, ◌&&◌, Bool, true, cond, List, [], ◌∷◌, refl, sym, ap, ◌∙◌, arith}
 use Rattle.std.specs.Prelude.{nat_lt, if◌then◌else◌}
 use Rattle.std.proofs.lemmas.Bool.{lt-ltb}
 use Rattle.farm_types.specs.declared.dispatch.Candidate.{Candidate}
@@ -31,6 +31,7 @@ module _ (f : Farm) (left : ℕ) (c : Candidate) (moment : ℕ) (some : 0 < left
       let made : new ≡ after f (book_entry c moment) = is ∙ ap booked_if may in
       record {
         booked = book_entry c moment ∷ [];
+        counted = omega (arith, some);
         made = made;
         goes_on = λ later. ap (λ (g : Farm). book_entry c moment ∷ round_from (left - 1) g moment later) made ∙ sym (begins later);
       }

@@ -1,7 +1,9 @@
 -- A round, candidate by candidate.
-use Rattle.std.proofs.Common.{◌≡◌, ℕ, suc, ◌+◌, ◌-◌, ◌<◌, ◌≤◌, true, List, [], ◌∷◌, ◌++◌, length, length-append, get_or, drop, take, append_assoc, drop-cons, refl, sym, ap, subst, ◌∙◌, arith}
+use Rattle.std.proofs.Common.{◌≡◌, ℕ, suc, ◌+◌, ◌-◌, ◌<◌, ◌≤◌, true, List, [], ◌∷◌, ◌++◌, length, length-append, get_or, drop, take, append_assoc, append-nil, drop-cons, refl, sym, ap, subst, ◌∙◌, arith}
 use Rattle.std.proofs.Math.Seq.{take-append_seam}
 use Rattle.farm_types.specs.declared.dispatch.Candidate.{Candidate}
+use Rattle.farm_types.specs.declared.dispatch.Cut.{Cut}
+use Rattle.farm_types.specs.declared.dispatch.Cut.TheVariants as cut
 use Rattle.farm_types.specs.declared.entry.Entry.{Entry}
 use Rattle.farm_types.specs.declared.limits.TheConstants.{BOOKINGS_EACH}
 use Rattle.farm_types.specs.Booking.{may_book}
@@ -11,12 +13,14 @@ use Rattle.farm_types.specs.Run.{run_of}
 use Rattle.farm_types.specs.Step.{after}
 use Rattle.recorder.specs.declared.refusal.RecordFault.{RecordFault}
 use Rattle.recorder.specs.declared.refusal.RecordFault.TheVariants as fault
-use Rattle.dispatch_plan.specs.Rounds.{FailsToOffer, IsOffered}
+use Rattle.dispatch_plan.specs.declared.walked.Walked.{Walked}
+use Rattle.dispatch_plan.specs.Rounds.{Ends, EndsBy, FailsToOffer, IsOffered}
 use Rattle.dispatch_plan.proofs.Booked.{begins}
 
 -- of a round of all these candidates these bookings are made so far, and so many bookings and these candidates are left
 pub record IsUnderWay (old : Farm) (moment : ℕ) (all : List Candidate) (left : ℕ) (now : Farm) (rest : List Candidate) : Type 0 where
   pub booked : List Entry
+  pub counted : left + length booked ≡ BOOKINGS_EACH
   pub made : now ≡ run_of old booked
   pub goes_on : booked ++ round_from left now moment rest ≡ round_from BOOKINGS_EACH old moment all
 
@@ -47,11 +51,21 @@ module _ (old : Farm) (moment : ℕ) (all : List Candidate) (left : ℕ) (f : Fa
       → IsUnderWay old moment all left_then new later
   one_offered later left_then new so offered = record {
     booked = so.booked ++ offered.booked;
+    counted = omega (arith, so.counted, offered.counted, length-append so.booked offered.booked);
     made = offered.made ∙ (ap (λ (g : Farm). run_of g offered.booked) so.made ∙ sym (runs_on old so.booked offered.booked));
     goes_on =
         append_assoc so.booked offered.booked (round_from left_then new moment later)
         ∙ (ap (λ (es : List Entry). so.booked ++ es) (offered.goes_on later) ∙ so.goes_on);
   }
+
+  -- the candidate at hand is the first of those that are left
+  at_hand : (i : ℕ) → i < length all → c ≡ get_or all i c → IsUnderWay old moment all left f (drop i all) → IsUnderWay old moment all left f (c ∷ drop (i + 1) all)
+  at_hand i within is so = subst (IsUnderWay old moment all left f) (next_item all i c within is) so
+
+  -- the candidate at hand was offered
+  pub then_offered : (i : ℕ) → i < length all → c ≡ get_or all i c → IsUnderWay old moment all left f (drop i all) → (new : Farm) (left_then : ℕ)
+      → IsOffered left f moment c left_then new → IsUnderWay old moment all left_then new (drop (i + 1) all)
+  then_offered i within is so new left_then offered = one_offered (drop (i + 1) all) left_then new (at_hand i within is so) offered
 
   first_ones : (rest : List Candidate) (so : IsUnderWay old moment all left f rest) → so.booked ≡ take (length so.booked) round
   first_ones rest so = sym (ap (take (length so.booked)) (sym so.goes_on) ∙ take-append_seam so.booked (round_from left f moment rest))
@@ -59,31 +73,38 @@ module _ (old : Farm) (moment : ℕ) (all : List Candidate) (left : ℕ) (f : Fa
   stopped : (rest : List Candidate) (new : Farm) (so : IsUnderWay old moment all left f rest) → new ≡ f → new ≡ run_of old (take (length so.booked) round)
   stopped rest new so same = same ∙ (so.made ∙ ap (run_of old) (first_ones rest so))
 
+  -- as many bookings as were made so far, and those to come
+  all_of : (rest : List Candidate) (so : IsUnderWay old moment all left f rest) → length round ≡ length so.booked + length (round_from left f moment rest)
+  all_of rest so = ap (λ (es : List Entry). length es) (sym so.goes_on) ∙ length-append so.booked (round_from left f moment rest)
+
   one_missing : (later : List Candidate) (so : IsUnderWay old moment all left f (c ∷ later)) → 0 < left → may_book f c.slot c.host ≡ true → length so.booked < length round
   one_missing later so some may =
-      let all_of : length round ≡ length so.booked + length (round_from left f moment (c ∷ later)) =
-      ap (λ (es : List Entry). length es) (sym so.goes_on) ∙ length-append so.booked (round_from left f moment (c ∷ later)) in
       let one_more : length (round_from left f moment (c ∷ later)) ≡ length (book_entry c moment ∷ round_from (left - 1) (after f (book_entry c moment)) moment later) =
       ap (λ (es : List Entry). length es) (begins f left c moment some may later) in
-      omega (arith, all_of, one_more)
+      omega (arith, all_of (c ∷ later) so, one_more)
 
-  ends_at_store : (later : List Candidate) (new : Farm) → IsUnderWay old moment all left f (c ∷ later) → FailsToOffer left f c fault.Store new
-      → (k : ℕ) × (k < length round) × (new ≡ run_of old (take k round))
-  ends_at_store later new so fails = (length so.booked, one_missing later so fails.0 fails.1, stopped (c ∷ later) new so fails.2)
+  module _ (walked : Walked) (told : walked.booked ≡ BOOKINGS_EACH - left) where
+    -- the round ended so after the bookings that were made so far
+    ended : (rest : List Candidate) (so : IsUnderWay old moment all left f rest) (by : Cut) (new : Farm) → walked.cut ≡ by → EndsBy old round by (length so.booked) new → Ends old round walked new
+    ended rest so by new cut_is ends =
+        let many : walked.booked ≡ length so.booked = told ∙ omega (arith, so.counted) in
+        subst (λ (k : ℕ). EndsBy old round walked.cut k new) (sym many) (subst (λ (c : Cut). EndsBy old round c (length so.booked) new) (sym cut_is) ends)
 
-  module _ (i : ℕ) (within : i < length all) (is : c ≡ get_or all i c) (so : IsUnderWay old moment all left f (drop i all)) (new : Farm) where
-    there : IsUnderWay old moment all left f (c ∷ drop (i + 1) all)
-    there = subst (IsUnderWay old moment all left f) (next_item all i c within is) so
+    -- all candidates were offered
+    pub then_ends : walked.cut ≡ cut.Whole → IsUnderWay old moment all left f [] → Ends old round walked f
+    then_ends cut_is so =
+        let is : so.booked ≡ round = sym (append-nil so.booked) ∙ so.goes_on in
+        ended [] so cut.Whole f cut_is (ap (λ (es : List Entry). length es) is, so.made ∙ ap (run_of old) is)
 
-    -- the candidate at hand was offered
-    pub then_offered : (left_then : ℕ) → IsOffered left f moment c left_then new → IsUnderWay old moment all left_then new (drop (i + 1) all)
-    then_offered left_then offered = one_offered (drop (i + 1) all) left_then new there offered
+    module _ (i : ℕ) (within : i < length all) (is : c ≡ get_or all i c) (so : IsUnderWay old moment all left f (drop i all)) (new : Farm) where
+      -- the store failed at the candidate at hand
+      pub then_refused : (why : RecordFault) → why ≡ fault.Store → walked.cut ≡ cut.Store → FailsToOffer left f c why new → Ends old round walked new
+      then_refused why store cut_is fails =
+          let there = at_hand i within is so in
+          let failed : FailsToOffer left f c fault.Store new = subst (λ (w : RecordFault). FailsToOffer left f c w new) store fails in
+          ended (c ∷ drop (i + 1) all) there cut.Store new cut_is (one_missing (drop (i + 1) all) there failed.0 failed.1, stopped (c ∷ drop (i + 1) all) new there failed.2)
 
-    -- the store failed at the candidate at hand
-    pub then_refused : (why : RecordFault) → why ≡ fault.Store → FailsToOffer left f c why new → (k : ℕ) × (k < length round) × (new ≡ run_of old (take k round))
-    then_refused why store fails =
-        ends_at_store (drop (i + 1) all) new there (subst (λ (w : RecordFault). FailsToOffer left f c w new) store fails)
-
-    -- memory ran out at the candidate at hand
-    pub then_cut : (why : RecordFault) → FailsToOffer left f c why new → (k : ℕ) × (new ≡ run_of old (take k round))
-    then_cut why fails = (length so.booked, stopped (drop i all) new so (same_at left f c why new fails))
+      -- memory ran out at the candidate at hand
+      pub then_cut : (why : RecordFault) → walked.cut ≡ cut.Memory → FailsToOffer left f c why new → Ends old round walked new
+      then_cut why cut_is fails =
+          ended (drop i all) so cut.Memory new cut_is (omega (arith, all_of (drop i all) so), stopped (drop i all) new so (same_at left f c why new fails))

@@ -1,5 +1,5 @@
 -- What a round of bookings does.
-use Rattle.std.specs.Prelude.{ℕ, ◌≡◌, ◌<◌, ◌++◌, true, List, ◌∷◌, length, take}
+use Rattle.std.specs.Prelude.{ℕ, ◌≡◌, ◌≤◌, ◌<◌, ◌++◌, ◌+◌, true, List, ◌∷◌, length, take}
 use Rattle.farm_types.specs.Booking.{may_book}
 use Rattle.farm_types.specs.declared.dispatch.Candidate.{Candidate}
 use Rattle.farm_types.specs.declared.dispatch.Cut.{Cut}
@@ -8,12 +8,14 @@ use Rattle.farm_types.specs.declared.entry.Entry.{Entry}
 use Rattle.farm_types.specs.Dispatch.{round_for, round_from}
 use Rattle.farm_types.specs.Farm.{Farm}
 use Rattle.farm_types.specs.Run.{run_of}
+use Rattle.dispatch_plan.specs.declared.walked.Walked.{Walked}
 use Rattle.recorder.specs.declared.refusal.RecordFault.{RecordFault}
 use Rattle.recorder.specs.declared.refusal.RecordFault.TheVariants as fault
 
 -- the candidate is booked, or passed over: with these bookings, and so many left then, the round goes on as it goes from here
 pub record IsOffered (left : ℕ) (f : Farm) (moment : ℕ) (c : Candidate) (left_then : ℕ) (new : Farm) : Type 0 where
   pub booked : List Entry
+  pub counted : left_then + length booked ≡ left
   pub made : new ≡ run_of f booked
   pub goes_on : (later : List Candidate) → booked ++ round_from left_then new moment later ≡ round_from left f moment (c ∷ later)
 
@@ -23,11 +25,14 @@ FailsToOffer left f c fault.Store new = (0 < left) × (may_book f c.slot c.host 
 FailsToOffer left f c fault.NoMemory new = new ≡ f
 
 -- of these bookings all were made; or those before one that the store refused; or, as memory ran out, some of the first
-abbrev pub Ends : Farm → List Entry → Cut → Farm → Type 0
-Ends old bookings cut.Whole new = new ≡ run_of old bookings
-Ends old bookings cut.Store new = (k : ℕ) × (k < length bookings) × (new ≡ run_of old (take k bookings))
-Ends old bookings cut.Memory new = (k : ℕ) × (new ≡ run_of old (take k bookings))
+abbrev pub EndsBy : Farm → List Entry → Cut → ℕ → Farm → Type 0
+EndsBy old bookings cut.Whole booked new = (booked ≡ length bookings) × (new ≡ run_of old bookings)
+EndsBy old bookings cut.Store booked new = (booked < length bookings) × (new ≡ run_of old (take booked bookings))
+EndsBy old bookings cut.Memory booked new = (booked ≤ length bookings) × (new ≡ run_of old (take booked bookings))
 
--- how a round that follows a report of the host ends
-abbrev pub IsRound : Farm → ℕ → ℕ → Cut → Farm → Type 0
-IsRound old host moment ended new = Ends old (round_for old host moment) ended new
+abbrev pub Ends : Farm → List Entry → Walked → Farm → Type 0
+Ends old bookings walked new = EndsBy old bookings walked.cut walked.booked new
+
+-- how a round that follows a report of the host went
+abbrev pub IsRound : Farm → ℕ → ℕ → Walked → Farm → Type 0
+IsRound old host moment walked new = Ends old (round_for old host moment) walked new

@@ -6,7 +6,9 @@ mod offers;
 mod planning;
 mod rounds;
 mod subs;
+mod walked;
 
 pub use law::dispatch_lists_each_once;
 pub use planning::plan;
 pub use rounds::round;
+pub use walked::Walked;

@@ -2,15 +2,14 @@
 
 ghost use Rattle.std.specs.Prelude.{◌≡◌, ◌≤◌, ◌++◌, length, map, OnOk};
 ghost use Rattle.farm_types.specs.declared.limits.TheConstants.{MOST_ALLOCS, MOST_HOSTS, MOST_SHOWS, SLOT_LIMIT};
-ghost use Rattle.farm_rows.specs.Rows.{frame_row, is_unused, numbered, running_state, slot_rows, stored_frame, stored_state};
+ghost use Rattle.farm_rows.specs.Rows.{is_unused, numbered, slot_rows};
 ghost use Rattle.farm_rows.specs.declared.farm_row.FarmRow.TheVariants as row;
 ghost use Rattle.farm_books.specs.Rows.{book_rows};
 
 use crate::books::Books;
-use farm_rows::{FarmRow, FrameRow, StoredFrame, StoredState};
+use farm_rows::{FarmRow, FrameRow};
 use farm_types::{
-    AllocNo, AllocRow, Frame, FrameState, HostNo, HostRow, JobRow, LayerRow, ProcRow, ShowNo,
-    ShowRow, Slot, SlotRow, SubRow,
+    AllocNo, AllocRow, HostNo, HostRow, JobRow, LayerRow, ShowNo, ShowRow, Slot, SlotRow, SubRow,
 };
 use std::alloc::{AllocError, Global};
 
@@ -118,7 +117,8 @@ fn push_slots(slots: &[SlotRow], rows: &mut Vec<FarmRow>) -> Result<(), AllocErr
         if is_unused(slot) {
             continue;
         }
-        rows.push(FarmRow::Frame(frame_row(Slot(place as u32), slot)))?;
+        let row = FrameRow::of_slot(Slot(place as u32), slot);
+        rows.push(FarmRow::Frame(row))?;
     }
     Ok(())
 }
@@ -128,64 +128,4 @@ fn is_unused(slot: &SlotRow) -> bool
     ensures { result ≡ is_unused slot.now }
 {
     slot.frame.is_none() && slot.version.0 == 0
-}
-
-// What is stored of a slot.
-fn frame_row(number: Slot, slot: &SlotRow) -> FrameRow
-    ensures { result ≡ frame_row number slot.now }
-{
-    FrameRow {
-        slot: number,
-        version: slot.version,
-        frame: match &slot.frame {
-            None => None,
-            Some(frame) => Some(stored_frame(&slot.proc, frame)),
-        },
-    }
-}
-
-// What is stored of a frame with that live attempt.
-fn stored_frame(proc: &Option<ProcRow>, frame: &Frame) -> StoredFrame
-    ensures { result ≡ stored_frame proc.now frame.now }
-{
-    StoredFrame {
-        job: frame.job,
-        layer: frame.layer,
-        number: frame.number,
-        retries: frame.retries,
-        state: stored_state(proc, frame.state),
-    }
-}
-
-// What is stored of a frame's state.
-fn stored_state(proc: &Option<ProcRow>, state: FrameState) -> StoredState
-    ensures { result ≡ stored_state proc.now state }
-{
-    match state {
-        FrameState::Waiting => StoredState::Waiting,
-        FrameState::Setup => StoredState::Setup,
-        FrameState::Running => running_state(proc),
-        FrameState::Succeeded => StoredState::Succeeded,
-        FrameState::Depend => StoredState::Depend,
-        FrameState::Dead => StoredState::Dead,
-        FrameState::Eaten => StoredState::Eaten,
-    }
-}
-
-// What is stored of a running frame's state: its attempt.
-fn running_state(proc: &Option<ProcRow>) -> StoredState
-    ensures { result ≡ running_state proc.now }
-{
-    match proc {
-        None => StoredState::Running {
-            boot: 0,
-            host: HostNo(0),
-            since: 0,
-        },
-        Some(proc) => StoredState::Running {
-            boot: proc.boot,
-            host: proc.host,
-            since: proc.since,
-        },
-    }
 }

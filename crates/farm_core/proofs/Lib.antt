@@ -12,3 +12,4 @@ pub mod PushedAll
 pub mod RowsTold
 pub mod SameRow
 pub mod StagesMade
+pub mod Waiting

@@ -1,14 +1,16 @@
 //! The calls that read one of the farm's rows.
 
-ghost use Rattle.std.specs.Prelude.{◌≡◌, ◌≤◌, ℕ, length, slice_get, option_copied, All, IfSome, IfNone};
+ghost use Rattle.std.specs.Prelude.{◌≡◌, ◌≤◌, ℕ, filter, length, map, slice_get, option_copied, All, IfOk, IfSome, IfNone};
 ghost use Rattle.job_book.specs.Book.{IsLeastAbove};
 ghost use Rattle.farm_types.specs.DependActs.{depend_at};
 ghost use Rattle.farm_core.specs.Reads.{depend_after};
 ghost use Rattle.farm_types.specs.Farm.{job_at, layer_at, sub_at, sub_of};
+ghost use Rattle.farm_types.specs.Finish.{waits_by};
+ghost use Rattle.farm_types.specs.Rising.{depend_key};
 ghost use Rattle.farm_types.specs.Run.{live_at};
 ghost use Rattle.farm_types.specs.Step.{lists_of};
 ghost use Rattle.farm_types.specs.Sums.{booked_in, total_at};
-ghost use Rattle.farm_types.specs.declared.limits.TheConstants.{SLOT_LIMIT};
+ghost use Rattle.farm_types.specs.declared.limits.TheConstants.{MOST_HOSTS, MOST_SHOWS, SLOT_LIMIT};
 ghost use Rattle.farm_books.specs.Reads.{job_after};
 
 use crate::farm::Farm;
@@ -17,6 +19,7 @@ use farm_types::{
     ShowNo, ShowRow, Slot, SlotRow, SubNo, SubRow,
 };
 use job_book::Jobs;
+use std::alloc::{AllocError, Global};
 use sub_ledger::Subs;
 
 impl Farm {
@@ -50,6 +53,14 @@ impl Farm {
         self.books.subs()
     }
 
+    /// How many shows there are.
+    pub fn count_shows(&self) -> usize
+        ensures value { result ≡ length self.now.shows }
+        ensures within { result ≤ MOST_SHOWS }
+    {
+        self.books.count_shows()
+    }
+
     /// The show of that number.
     pub fn show(&self, show: ShowNo) -> Option<&ShowRow>
         ensures { option_copied result ≡ slice_get self.now.shows show }
@@ -62,6 +73,14 @@ impl Farm {
         ensures { option_copied result ≡ slice_get self.now.allocs alloc }
     {
         self.books.allocation(alloc)
+    }
+
+    /// How many hosts there are.
+    pub fn count_hosts(&self) -> usize
+        ensures value { result ≡ length self.now.hosts }
+        ensures within { result ≤ MOST_HOSTS }
+    {
+        self.books.count_hosts()
     }
 
     /// The host of that number.
@@ -135,5 +154,14 @@ impl Farm {
         ensures { result ≡ depend_after self.now after }
     {
         self.depends.next(after)
+    }
+
+    /// The numbers of the depends in which the job waits, in order.
+    pub fn waiting(&self, alloc: Global, job: JobNo) -> Result<Vec<DependNo>, AllocError>
+        ensures { IfOk result (λ numbers. numbers.items ≡ map depend_key (filter (waits_by job) self.now.depends)) }
+    {
+        let mut numbers = self.depends.waiting(alloc, job)?.into_vec();
+        numbers.reverse();
+        Ok(numbers)
     }
 }

@@ -61,19 +61,6 @@ impl Farm {
         answer
     }
 
-    /// Takes the memory that the change needs, and applies it. At an `Err`, where memory ran out, the farm is as before.
-    pub fn record(&mut self, alloc: Global, change: Change) -> Result<(), AllocError>
-        requires { IsReady self.old change }
-        ensures ok { OnOk result (self.new ≡ after_change self.old change) }
-        ensures err { OnErr result (self.new ≡ self.old) }
-        ensures hosts { length self.old.hosts ≤ length self.new.hosts }
-    {
-        let mut change = change;
-        self.reserve(alloc, &mut change)?;
-        self.apply(change);
-        Ok(())
-    }
-
     /// Books the slot's frame on the host, at the later of the farm's moment and this one (seconds), where it may be booked, and says whether
     /// it was. It takes no memory.
     pub fn book_if(&mut self, slot: Slot, host: HostNo, moment: u64) -> bool

@@ -11,7 +11,6 @@ use Rattle.farm_types.specs.declared.boot.BootLine.{BootLine}
 use Rattle.farm_types.specs.declared.entry.Entry.{Entry}
 use Rattle.farm_types.specs.declared.dispatch.Cut.TheVariants as cut
 use Rattle.farm_lines.specs.declared.report.Report.{Report}
-use Rattle.farm_lines.specs.declared.request.Request.TheVariants as request
 use Rattle.farm_types.specs.declared.slot_row.Frame.{Frame}
 use Rattle.farm_types.specs.declared.slot_row.SlotRow.{SlotRow}
 use Rattle.farm_types.specs.declared.states.FrameState.{FrameState}
@@ -21,7 +20,8 @@ use Rattle.farm_types.specs.Dispatch.{plan_for, round_for}
 use Rattle.farm_types.specs.Step.{after}
 use Rattle.farm_types.specs.Run.{run_of}
 use Rattle.farm_lines.specs.Reply.{launches_of, report_reply, reply_text}
-use Rattle.farm_lines.specs.Transcript.{heard_entry, entry_of}
+use Rattle.farm_types.specs.declared.entry.Act.TheVariants as act
+use Rattle.farm_lines.specs.Asked.{entry_at, heard_entry}
 
 -- a report of the demonstration's host
 abbrev pub report : ℕ → List Attempt → List DoneItem → Report
@@ -113,7 +113,7 @@ high =
 
 -- the entry that submits a job
 abbrev pub submit : JobSpec → Entry
-submit spec = entry_of (request.Submit spec) 0
+submit spec = entry_at 0 (act.Submit spec)
 
 abbrev pub farm_with_high : Farm
 farm_with_high = after farm_one (submit high)
@@ -130,14 +130,14 @@ numbers_in f = map (λ (s : SlotRow). option_map (λ (x : Frame). x.number) s.fr
 
 -- time is seen to have passed
 abbrev pub tick : ℕ → Entry
-tick moment = entry_of request.Tick moment
+tick moment = entry_at moment act.Tick
 
 -- the demonstration's host boots, with a nonce
 abbrev pub boot_line : ℕ → BootLine
 boot_line nonce = record { host = codes "h1"; nonce = nonce; alloc = codes "farm.general"; tags = []; cores = 50; memory = 262144 }
 
 abbrev pub boot : ℕ → ℕ → Entry
-boot nonce moment = entry_of (request.Boot (boot_line nonce)) moment
+boot nonce moment = entry_at moment (act.Boot (boot_line nonce))
 
 -- the hosts of the live attempts, by slot
 abbrev pub live_in : Farm → List (Option ℕ)

@@ -5,12 +5,12 @@ use Rattle.farm_types.specs.declared.depend.DependRow.{DependRow}
 use Rattle.farm_types.specs.declared.rows.JobRow.{JobRow}
 use Rattle.farm_types.specs.Farm.{Farm}
 use Rattle.farm_types.specs.Step.{after}
-use Rattle.farm_lines.specs.declared.request.Request.TheVariants as request
-use Rattle.farm_lines.specs.Transcript.{entry_of}
+use Rattle.farm_types.specs.declared.entry.Act.TheVariants as act
+use Rattle.farm_lines.specs.Asked.{entry_at}
 use Rattle.farm_examples.specs.Waiting.{farm_waiting}
 
 abbrev pub killing : List ℕ → Entry
-killing job = entry_of (request.KillJob job) 0
+killing job = entry_at 0 (act.KillJob job)
 
 abbrev pub farm_opened : Farm
 farm_opened = after farm_waiting (killing (codes "demo-job"))

@@ -1,3 +1,4 @@
 pub mod Examples
 pub mod Finishing
+pub mod Listing
 pub mod Waiting

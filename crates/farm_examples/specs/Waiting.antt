@@ -8,9 +8,9 @@ use Rattle.farm_types.specs.declared.entry.Entry.{Entry}
 use Rattle.farm_types.specs.EntryAnswers.{answer_of}
 use Rattle.farm_types.specs.Farm.{Farm}
 use Rattle.farm_types.specs.Step.{after}
-use Rattle.farm_lines.specs.declared.request.Request.TheVariants as request
 use Rattle.farm_lines.specs.Reply.{ok_reply, reply_text}
-use Rattle.farm_lines.specs.Transcript.{entry_of}
+use Rattle.farm_types.specs.declared.entry.Act.TheVariants as act
+use Rattle.farm_lines.specs.Asked.{entry_at}
 use Rattle.farm_examples.specs.Examples.{farm_with_high}
 
 -- all frames of a job
@@ -32,10 +32,10 @@ high_on_demo = job_on_job (codes "hi") (codes "demo-job")
 
 -- the entries that add and drop a depend
 abbrev pub adding : DependSpec → Entry
-adding spec = entry_of (request.Depend spec) 0
+adding spec = entry_at 0 (act.AddDepend spec)
 
 abbrev pub dropping : ℕ → Entry
-dropping depend = entry_of (request.Drop depend) 0
+dropping depend = entry_at 0 (act.DropDepend depend)
 
 -- the farm in which the job waits, and the one in which it waits no more
 abbrev pub farm_waiting : Farm

@@ -10,7 +10,7 @@ ghost use Rattle.farm_types.specs.EntryAnswers.{answer_of};
 ghost use Rattle.farm_types.specs.Run.{counted};
 ghost use Rattle.farm_types.specs.Step.{refusal_of, after};
 ghost use Rattle.farm_types.specs.Sums.{used_on, booked_in};
-ghost use Rattle.farm_lines.specs.Transcript.{heard_entry};
+ghost use Rattle.farm_lines.specs.Asked.{heard_entry};
 
 /// The host could run eight frames; the burst of 400 stops the first round at four. A completion lets one more be booked, and the same
 /// completion once more lets none.

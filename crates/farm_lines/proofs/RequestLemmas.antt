@@ -9,9 +9,11 @@ use Rattle.cue_json.specs.Fields.{Fault, ◌>>=◌, of_kind, object_at, others_a
 use Rattle.cue_json.specs.Lines.{object_in}
 use Rattle.farm_types.specs.declared.job.JobSpec.{JobSpec}
 use Rattle.farm_types.specs.declared.rows.AllocRow.{AllocRow}
-use Rattle.farm_types.specs.Formed.{AreFree, IsFormed, IsFormedAct, IsFormedBoot, IsFormedDepend, IsFormedDone, IsFormedFrame, IsFormedJob, IsFormedSub}
+use Rattle.farm_types.specs.Formed.{AreFree, IsFormedBoot, IsFormedDepend, IsFormedDone, IsFormedFrame, IsFormedHeard, IsFormedJob, IsFormedSub}
 use Rattle.farm_types.specs.Forms.{is_name_text, is_tag_text}
 use Rattle.farm_types.specs.Limits.{IsBetween}
+use Rattle.farm_lines.specs.declared.asked.Asked.{Asked}
+use Rattle.farm_lines.specs.declared.asked.Asked.TheVariants as asks
 use Rattle.farm_lines.specs.declared.boot_form.BootForm.{BootForm}
 use Rattle.farm_lines.specs.declared.report.Report.{Report}
 use Rattle.farm_lines.specs.declared.request.Request.{Request}
@@ -19,11 +21,12 @@ use Rattle.farm_lines.specs.declared.request.Request.TheVariants as request
 use Rattle.farm_lines.specs.declared.sub_form.SubForm.{SubForm}
 use Rattle.farm_lines.specs.DependLines.{depend_at}
 use Rattle.farm_lines.specs.Fields.{name_at, list_of, optional_whole_at}
+use Rattle.farm_lines.specs.ListLines.{query_at}
 use Rattle.farm_lines.specs.OperatorLines.{asks_pause, frame_at, frame_keys, frame_of_job_at, job_at, job_keys, kill_at, killed_at, names_frame}
 use Rattle.farm_lines.specs.Points.{before_point, after_point}
 use Rattle.farm_lines.specs.Request.{LockLine, attempt_at, done_at, done_keys, report_at, report_keys, show_at, name_keys, alloc_parts, alloc_of_name, alloc_name_at, alloc_at, sub_form_at, sub_keys, boot_keys, lock_keys, lock_at, sub_line_of, sub_line_at, boot_form_at, boot_line_of, boot_line_at, lock_line_at, tick_keys, drop_at, drop_keys, submit_keys, after_others, submit_at, asked, judged, asks_alloc, asks_kill, asks_lock, asks_tick, by_op, after_op, request_in, request_of}
 use Rattle.farm_lines.specs.Spec.{SpecError, Field, Range, Amount, formed, number_at, tags_at, within, spec_at}
-use Rattle.farm_lines.specs.Transcript.{act_of, entry_of}
+use Rattle.farm_lines.specs.Asked.{IsFormedAsked, IsFormedAt, asked_of, heard_of}
 use Rattle.farm_lines.proofs.DependLemmas.{depend_formed}
 use Rattle.farm_lines.proofs.FieldLemmas.{step, step_any, ok_at, either, kind_formed, name_formed, whole_formed, tags_formed, list_formed}
 use Rattle.farm_lines.proofs.SpecLemmas.{form_first, spec_formed, within_formed}
@@ -57,7 +60,7 @@ done_formed ms =
 
 -- the report's act
 abbrev IsReport : Report → Type 0
-IsReport report = IsFormedAct (act_of (request.Report report))
+IsReport report = IsFormedHeard (heard_of report)
 
 report_formed : (ms : Members) → IfOk (report_at ms) IsReport
 unfolding report_at
@@ -188,9 +191,9 @@ drop_formed ms =
 
 -- ---- what operators ask
 
--- the act of what is asked is within its forms and limits
+-- what is asked is within its forms and limits
 abbrev AsksFormed : Request → Type 0
-AsksFormed what = IsFormedAct (act_of what)
+AsksFormed what = IsFormedAsked (asked_of what)
 
 abbrev IsName : List ℕ → Type 0
 IsName name = is_name_text name ≡ true
@@ -249,7 +252,8 @@ by_op_formed ms op =
     (either AsksFormed (bytes_eq op (codes "eat")) _ _ (asked_formed IsFormedFrame request.EatFrame (frame_at ms) (frame_formed ms) (λ p h. h))
     (either AsksFormed (bytes_eq op (codes "retry")) _ _ (asked_formed IsFormedFrame request.RetryFrame (frame_at ms) (frame_formed ms) (λ p h. h))
     (either AsksFormed (bytes_eq op (codes "tick")) _ _ (asked_formed (λ none. Unit {0}) asks_tick (others_at tick_keys ms) (any_formed (others_at tick_keys ms)) (λ none h. h))
-    tt))))))))))))))
+    (either AsksFormed (bytes_eq op (codes "list")) _ _ (asked_formed (λ query. Unit {0}) request.List (query_at ms) (any_formed (query_at ms)) (λ query h. h))
+    tt)))))))))))))))
 
 after_op_formed : (ms : Members) (op : Result (List ℕ) Fault) → IfOk (after_op ms op) AsksFormed
 after_op_formed ms (Ok op) = by_op_formed ms op
@@ -263,10 +267,15 @@ acts_formed : (line : List ℕ) → IfOk (request_of line) AsksFormed
 unfolding request_of
 acts_formed line = request_in_formed (object_in line)
 
--- what a line asks makes an act within its forms and limits
-pub act_formed : (line : List ℕ) (what : Request) → request_of line ≡ Ok what → IsFormedAct (act_of what)
-act_formed line what is = ok_at AsksFormed (request_of line) what (acts_formed line) is
+-- what a line asks is within its forms and limits
+pub asked_is_formed : (line : List ℕ) (what : Request) → request_of line ≡ Ok what → IsFormedAsked (asked_of what)
+asked_is_formed line what is = ok_at AsksFormed (request_of line) what (acts_formed line) is
+
+formed_at : (moment : ℕ) → moment < 2 ^ 64 → (what : Asked) → IsFormedAsked what → IsFormedAt moment what
+formed_at moment low (asks.Report report) formed = record { moment_within = low; act_formed = formed }
+formed_at moment low (asks.Act does) formed = record { moment_within = low; act_formed = formed }
+formed_at moment low (asks.List query) formed = tt
 
 -- the entry of a request
-pub requests_formed : (line : List ℕ) (what : Request) (moment : ℕ) → moment < 2 ^ 64 → request_of line ≡ Ok what → IsFormed (entry_of what moment)
-requests_formed line what moment low is = record { moment_within = low; act_formed = act_formed line what is }
+pub requests_formed : (line : List ℕ) (what : Request) (moment : ℕ) → moment < 2 ^ 64 → request_of line ≡ Ok what → IsFormedAt moment (asked_of what)
+requests_formed line what moment low is = formed_at moment low (asked_of what) (asked_is_formed line what is)

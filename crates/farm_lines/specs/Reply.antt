@@ -1,7 +1,7 @@
 -- What is replied to lines, and the replies as JSON values with their keys in byte order.
 use Rattle.std.specs.Prelude.{ℕ, ◌==◌, ◌&&◌, ◌||◌, ◌++◌, ◌∷◌, List, [], map, take, filter, filter_map, codes, Bool, true, false, not, Option, None, option_map, option_and_then, if◌then◌else◌}
 use Rattle.std.specs.List.{list_any}
-use Rattle.serde_json.specs.Data.{Data, boolean, number, unsigned, string, array, object, no_members, member}
+use Rattle.serde_json.specs.Data.{Data, boolean, string, array, object, no_members, member}
 use Rattle.serde_json.specs.View.{items_of}
 use Rattle.serde_json.specs.Written.{compact_text}
 use Rattle.frame_range.specs.declared.fault.RangeFault.{RangeFault}
@@ -27,17 +27,14 @@ use Rattle.farm_types.specs.declared.rows.JobRow.{JobRow}
 use Rattle.farm_types.specs.declared.rows.LayerRow.{LayerRow}
 use Rattle.farm_types.specs.declared.slot_row.Frame.{Frame}
 use Rattle.farm_types.specs.declared.slot_row.SlotRow.{SlotRow}
-use Rattle.farm_types.specs.declared.states.FrameState.{FrameState}
-use Rattle.farm_types.specs.declared.states.FrameState.TheVariants as frame_state
 use Rattle.farm_types.specs.Farm.{Farm, job_at, layer_at}
 use Rattle.farm_types.specs.Names.{frame_name, expanded}
 use Rattle.farm_lines.specs.Request.{RequestError, BadLine, BadRange, BadAmount}
 use Rattle.farm_types.specs.Run.{is_same}
 use Rattle.farm_types.specs.Step.{is_live}
+use Rattle.farm_lines.specs.ListReplies.{list_data}
+use Rattle.farm_lines.specs.Words.{state_word, whole}
 use Rattle.farm_lines.specs.declared.limits.TheConstants.{LAUNCHES_EACH}
-
-abbrev pub whole : ℕ → Data
-whole n = number (unsigned n)
 
 -- ---- refusals
 
@@ -107,15 +104,6 @@ counted_word counted.Depends = codes "depends"
 counted_word counted.Groups = codes "groups"
 counted_word counted.DependNumbers = codes "depend_numbers"
 
-abbrev pub state_word : FrameState → List ℕ
-state_word frame_state.Waiting = codes "WAITING"
-state_word frame_state.Setup = codes "SETUP"
-state_word frame_state.Running = codes "RUNNING"
-state_word frame_state.Succeeded = codes "SUCCEEDED"
-state_word frame_state.Depend = codes "DEPEND"
-state_word frame_state.Dead = codes "DEAD"
-state_word frame_state.Eaten = codes "EATEN"
-
 unfoldable pub refusal_data : Refusal → Data
 refusal_data (Unknown name) =
     object (member (codes "code") (whole 3) (member (codes "name") (string name) (member (codes "ok") (boolean false) (member (codes "why") (string (codes "unknown")) no_members))))
@@ -141,6 +129,21 @@ refusal_data (Started frame) =
     object (member (codes "code") (whole 17) (member (codes "frame") (string frame) (member (codes "ok") (boolean false) (member (codes "why") (string (codes "started")) no_members))))
 refusal_data (Full limit what) =
     object (member (codes "code") (whole 18) (member (codes "limit") (whole limit) (member (codes "ok") (boolean false) (member (codes "what") (string (counted_word what))
+    (member (codes "why") (string (codes "full")) no_members)))))
+
+-- a boot with other cores or memory, while some of the old amounts is held: what is free of them
+unfoldable pub still_held : ℕ → ℕ → Data
+still_held cores memory =
+    object (member (codes "code") (whole 13) (member (codes "cores") (whole cores) (member (codes "memory") (whole memory) (member (codes "ok") (boolean false)
+    (member (codes "why") (string (codes "still_held")) no_members)))))
+
+-- how many entries can be numbered
+abbrev pub most_entries : ℕ
+most_entries = 18446744073709551615
+
+unfoldable pub entries_full : Data
+entries_full =
+    object (member (codes "code") (whole 18) (member (codes "limit") (whole most_entries) (member (codes "ok") (boolean false) (member (codes "what") (string (codes "entries"))
     (member (codes "why") (string (codes "full")) no_members)))))
 
 -- ---- the reply to a submit
@@ -273,11 +276,14 @@ reply_data (reply.Depend depend unmet) = depend_data depend unmet
 reply_data (reply.Dropped opened) = dropped_data opened
 reply_data (reply.Ended ended) = ended_data ended
 reply_data (reply.Report r) = report_data r.boot r.seq (cut_text r.cut) r.acks r.kills r.launches
+reply_data (reply.List r) = list_data r.rows r.total
 reply_data (reply.BadLine field) = bad_line field
 reply_data reply.TooLong = too_long
 reply_data (reply.BadRange layer fault) = bad_range layer fault
 reply_data (reply.BadAmount field) = bad_amount field
 reply_data (reply.Refused why) = refusal_data why
+reply_data (reply.StillHeld cores memory) = still_held cores memory
+reply_data reply.EntriesFull = entries_full
 reply_data reply.Store = store_fault
 reply_data reply.NoMemory = no_memory
 

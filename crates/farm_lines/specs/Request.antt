@@ -20,6 +20,7 @@ use Rattle.farm_types.specs.declared.sub_line.SubLine.{SubLine}
 use Rattle.farm_lines.specs.DependLines.{depend_at}
 use Rattle.farm_lines.specs.Fields.{name_at, optional_whole_at, list_of}
 use Rattle.farm_types.specs.Forms.{is_tag_text}
+use Rattle.farm_lines.specs.ListLines.{query_at}
 use Rattle.farm_lines.specs.OperatorLines.{asks_pause, frame_at, job_at, kill_at}
 use Rattle.farm_lines.specs.Points.{before_point, after_point}
 use Rattle.farm_lines.specs.Spec.{SpecError, Field, Range, Amount, formed, number_at, tags_at, within, spec_at}
@@ -229,7 +230,8 @@ by_op ms op =
     else (if bytes_eq op (codes "eat") then asked request.EatFrame (frame_at ms)
     else (if bytes_eq op (codes "retry") then asked request.RetryFrame (frame_at ms)
     else (if bytes_eq op (codes "tick") then asked asks_tick (others_at tick_keys ms)
-    else Err (BadLine (codes "op"))))))))))))))))
+    else (if bytes_eq op (codes "list") then asked request.List (query_at ms)
+    else Err (BadLine (codes "op")))))))))))))))))
 
 abbrev pub after_op : Members → Result (List ℕ) Fault → Result Request RequestError
 after_op ms (Ok op) = by_op ms op

@@ -1,20 +1,22 @@
 -- What is answered to lines: the entries that a line makes, its reply, and the bytes of a whole session.
 use Rattle.std.specs.Prelude.{ℕ, Bool, true, false, List, [], ◌∷◌, ◌++◌, map, take, length, nat_lt, Option, None, Some, Result, Ok, Err, if◌then◌else◌}
 use Rattle.farm_types.specs.declared.entry.Entry.{Entry}
-use Rattle.farm_types.specs.declared.entry.Act.{Act}
-use Rattle.farm_types.specs.declared.entry.Act.TheVariants as act
 use Rattle.farm_types.specs.declared.refusal.Refusal.{Refusal}
 use Rattle.farm_types.specs.declared.dispatch.Cut.{Cut}
 use Rattle.farm_types.specs.declared.dispatch.Cut.TheVariants as cut
+use Rattle.farm_lines.specs.declared.asked.Asked.{Asked}
+use Rattle.farm_lines.specs.declared.asked.Asked.TheVariants as asked
+use Rattle.farm_lines.specs.declared.reply.ListReply.{ListReply}
 use Rattle.farm_lines.specs.declared.reply.Reply.{Reply}
 use Rattle.farm_lines.specs.declared.reply.Reply.TheVariants as reply
 use Rattle.farm_lines.specs.declared.report.Report.{Report}
 use Rattle.farm_lines.specs.declared.request.Request.{Request}
-use Rattle.farm_lines.specs.declared.request.Request.TheVariants as request
 use Rattle.farm_types.specs.Farm.{Farm, host_named}
 use Rattle.farm_types.specs.Step.{refusal_of, after}
 use Rattle.farm_types.specs.Run.{run_of}
 use Rattle.farm_types.specs.Dispatch.{round_for}
+use Rattle.farm_lines.specs.Asked.{asked_of, entry_at, heard_entry}
+use Rattle.farm_lines.specs.Lists.{list_of}
 use Rattle.farm_lines.specs.Request.{RequestError, request_of}
 use Rattle.farm_types.specs.EntryAnswers.{answer_of}
 use Rattle.farm_lines.specs.Reply.{reply_text, error_reply, ok_reply, report_reply}
@@ -50,9 +52,6 @@ only_reply r = record { entries = []; reply = r }
 
 -- ---- reports
 
-abbrev pub heard_entry : Report → ℕ → Entry
-heard_entry report moment = record { moment = moment; act = act.Heard (record { host = report.host; boot = report.boot; seq = report.seq; done = report.done }) }
-
 -- the entry of a report, the bookings after it, and the reply over the farm that they leave
 abbrev pub with_round : Farm → ℕ → Report → Entry → List Entry → Cut → Answered
 with_round f host report heard round ended = record { entries = heard ∷ round; reply = report_reply (run_of (after f heard) round) host report ended }
@@ -82,44 +81,29 @@ report_answer f report moment mark None = accepted_answer f report moment mark (
 
 -- ---- other requests
 
--- the entry that is made of what is asked
-abbrev pub act_of : Request → Act
-act_of (request.Show name) = act.Show name
-act_of (request.Alloc facility tag) = act.Alloc facility tag
-act_of (request.Sub line) = act.Sub line
-act_of (request.Boot line) = act.Boot line
-act_of (request.Report report) = act.Heard (record { host = report.host; boot = report.boot; seq = report.seq; done = report.done })
-act_of (request.Lock host lock) = act.Lock host lock
-act_of (request.Submit spec) = act.Submit spec
-act_of (request.Depend spec) = act.AddDepend spec
-act_of (request.Drop depend) = act.DropDepend depend
-act_of (request.Pause job paused) = act.Pause job paused
-act_of (request.KillJob job) = act.KillJob job
-act_of (request.KillFrame p) = act.KillFrame p
-act_of (request.EatFrame p) = act.EatFrame p
-act_of (request.RetryFrame p) = act.RetryFrame p
-act_of request.Tick = act.Tick
-
-abbrev pub entry_of : Request → ℕ → Entry
-entry_of asked moment = record { moment = moment; act = act_of asked }
-
 -- one entry, and the reply of its numbers; or its refusal; or that the store failed
 abbrev pub entry_answer : Farm → Entry → Mark → Option Refusal → Answered
 entry_answer f e mark (Some why) = only_reply (reply.Refused why)
 entry_answer f e Store None = only_reply reply.Store
 entry_answer f e mark None = record { entries = e ∷ []; reply = ok_reply e.act (answer_of f e) }
 
+-- the rows of a list, or its refusal
+abbrev pub list_reply : Result ListReply Refusal → Reply
+list_reply (Ok page) = reply.List page
+list_reply (Err why) = reply.Refused why
+
 -- ---- a line
 
--- what a request makes
-abbrev pub asked_answer : Farm → ℕ → Mark → Request → Answered
-asked_answer f moment mark (request.Report report) = report_answer f report moment mark (refusal_of f (heard_entry report moment))
-asked_answer f moment mark asked = entry_answer f (entry_of asked moment) mark (refusal_of f (entry_of asked moment))
+-- What is made of what is asked. A list has no entry: the farm stays, its moment too.
+abbrev pub asked_answer : Farm → ℕ → Mark → Asked → Answered
+asked_answer f moment mark (asked.Report report) = report_answer f report moment mark (refusal_of f (heard_entry report moment))
+asked_answer f moment mark (asked.Act does) = entry_answer f (entry_at moment does) mark (refusal_of f (entry_at moment does))
+asked_answer f moment mark (asked.List query) = only_reply (list_reply (list_of f query))
 
 -- a malformed line, and a request
 abbrev pub request_answer : Farm → ℕ → Mark → Result Request RequestError → Answered
 request_answer f moment mark (Err error) = only_reply (error_reply error)
-request_answer f moment mark (Ok asked) = asked_answer f moment mark asked
+request_answer f moment mark (Ok what) = asked_answer f moment mark (asked_of what)
 
 abbrev pub unless_memory : Mark → Answered → Answered
 unless_memory Memory answered = only_reply reply.NoMemory

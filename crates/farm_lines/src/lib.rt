@@ -2,6 +2,7 @@
 //! what each line asks, what is replied to it, and the bytes of a whole session.
 #![tactic(auto)]
 
+mod asked;
 mod boot_form;
 mod cores_text;
 mod field_faults;
@@ -9,22 +10,31 @@ mod job_form;
 mod launch;
 mod laws;
 mod limits;
+mod list_row;
 mod name_field;
 mod points;
+mod query;
 mod reply;
 mod report;
 mod request;
 mod sub_form;
+mod what;
 
+pub use asked::Asked;
 pub use boot_form::BootForm;
 pub use cores_text::read_cores;
 pub use job_form::{JobForm, LayerForm};
 pub use launch::Launch;
 pub use laws::requests_are_formed;
-pub use limits::{LAUNCHES_EACH, LEAST_FRAME, LINE_LIMIT, MOST_FRAME};
+pub use limits::{LAUNCHES_EACH, LEAST_FRAME, LINE_LIMIT, MOST_FRAME, REPLY_LIMIT, ROWS_EACH};
+pub use list_row::{
+    ListRow, RowKind, ShownDepend, ShownFrame, ShownHost, ShownJob, ShownLayer, ShownProc, ShownSub,
+};
 pub use name_field::read_name;
 pub use points::split_at_point;
-pub use reply::{Reply, ReportReply};
+pub use query::{Listed, Query};
+pub use reply::{ListReply, Reply, ReportReply};
 pub use report::Report;
 pub use request::{Request, RequestFault};
 pub use sub_form::SubForm;
+pub use what::What;

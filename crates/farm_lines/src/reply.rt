@@ -1,7 +1,8 @@
 //! What is replied to a line.
 
 use crate::launch::Launch;
-use farm_types::{Attempt, Cores, Cut, DependNo, Items, Refusal, Text};
+use crate::list_row::ListRow;
+use farm_types::{Attempt, Cores, Cut, DependNo, Items, Kb, Refusal, Text};
 use frame_range::RangeFault;
 
 /// A reply: one variant for each set of keys of an ok reply, and for each refusal.
@@ -40,6 +41,7 @@ pub enum Reply {
         ended: u32,
     },
     Report(ReportReply),
+    List(ListReply),
     BadLine {
         field: Text,
     },
@@ -52,6 +54,13 @@ pub enum Reply {
         field: Text,
     },
     Refused(Refusal),
+    /// A host's boot with other cores or memory, while so much of the old amounts is free and the rest is held.
+    StillHeld {
+        cores: Cores,
+        memory: Kb,
+    },
+    /// As many entries were recorded as can be numbered.
+    EntriesFull,
     Store,
     NoMemory,
 }
@@ -66,4 +75,11 @@ pub struct ReportReply {
     pub kills: Items<Attempt>,
     pub launches: Items<Launch>,
     pub seq: u64,
+}
+
+/// The reply to a list: its rows from the place that was asked for on, at most 1,000 of them, and how many rows the whole list has.
+#[derive(Debug, Drop)]
+pub struct ListReply {
+    pub rows: Items<ListRow>,
+    pub total: u64,
 }

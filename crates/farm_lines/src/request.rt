@@ -1,5 +1,6 @@
 //! What a line asks.
 
+use crate::query::Query;
 use crate::report::Report;
 use farm_types::{BootLine, DependNo, DependSpec, FramePlace, JobSpec, LockState, SubLine, Text};
 use frame_range::RangeFault;
@@ -7,8 +8,8 @@ use std::alloc::AllocError;
 use std::fmt;
 
 /// What a line asks: that a show or an allocation be added, a subscription set, a host's boot or report taken, a host
-/// locked or opened, a job submitted, paused, resumed or killed, a depend added or dropped, a frame killed, eaten or retried, or that time be
-/// seen to have passed.
+/// locked or opened, a job submitted, paused, resumed or killed, a depend added or dropped, a frame killed, eaten or retried, that time be
+/// seen to have passed, or that a list be shown.
 #[derive(Debug, Drop)]
 pub enum Request {
     Show { name: Text },
@@ -26,6 +27,7 @@ pub enum Request {
     EatFrame(FramePlace),
     RetryFrame(FramePlace),
     Tick,
+    List(Query),
 }
 
 /// Why a line is malformed, or asks for what is outside the limits: its first fault.

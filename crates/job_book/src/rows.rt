@@ -1,11 +1,11 @@
-//! Copies of the rows of all jobs and layers, in their order.
+//! Copies of the rows of all jobs and layers, in their order, and the numbers of all jobs.
 
 ghost use Rattle.std.specs.Prelude.{◌≡◌, ◌++◌, flat_map, map, IfOk, OnOk};
 ghost use Rattle.job_book.specs.Entries.{held, layers_held, row_of};
 
 use crate::entries::{Entries, Place};
 use crate::jobs::Jobs;
-use farm_types::{JobRow, LayerRow};
+use farm_types::{JobNo, JobRow, LayerRow};
 use std::alloc::{AllocError, Global};
 
 impl Jobs {
@@ -14,6 +14,13 @@ impl Jobs {
         ensures { IfOk result (λ rows. rows.items ≡ self.now.jobs) }
     {
         self.entries.job_rows(alloc)
+    }
+
+    /// The jobs' numbers, in order.
+    pub fn numbers(&self, alloc: Global) -> Result<Vec<JobNo>, AllocError>
+        ensures { IfOk result (λ numbers. numbers.items ≡ map (λ j. j.job) self.now.jobs) }
+    {
+        self.entries.numbers(alloc)
     }
 
     /// Copies of the layers' rows, in the order of their jobs, those of a job by their places.
@@ -30,6 +37,13 @@ impl Entries {
         ensures { IfOk result (λ rows. rows.items ≡ self.now.rows) }
     {
         jobs_of(alloc, self.places.as_slice())
+    }
+
+    // The jobs' numbers.
+    fn numbers(&self, alloc: Global) -> Result<Vec<JobNo>, AllocError>
+        ensures { IfOk result (λ numbers. numbers.items ≡ map (λ j. j.job) self.now.rows) }
+    {
+        numbers_of(alloc, self.places.as_slice())
     }
 
     // Copies of the layers' rows.
@@ -51,6 +65,19 @@ fn jobs_of(alloc: Global, places: &[Place]) -> Result<Vec<JobRow>, AllocError>
         }
     }
     Ok(rows)
+}
+
+// The numbers of the jobs at these places.
+fn numbers_of(alloc: Global, places: &[Place]) -> Result<Vec<JobNo>, AllocError>
+    ensures { IfOk result (λ numbers. numbers.items ≡ map (λ j. j.job) (map row_of (held places.now))) }
+{
+    let mut numbers = Vec::new(alloc);
+    for place in places {
+        if let Some(entry) = &place.held {
+            numbers.push(entry.row().job)?;
+        }
+    }
+    Ok(numbers)
 }
 
 // Copies of the layers of the jobs at these places.

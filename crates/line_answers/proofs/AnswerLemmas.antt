@@ -1,7 +1,14 @@
 -- The answer to a line, by cases.
-use Rattle.std.proofs.Common.{◌≡◌, ℕ, ◌<◌, ◌≤◌, cond, List, [], ◌∷◌, ◌++◌, length, refl, sym, ap, ◌∙◌, subst, None, Result, Ok, Err, inl, inr}
+use Rattle.std.proofs.Common.{◌≡◌, ℕ, ◌<◌, ◌≤◌, ◌^◌, cond, List, [], ◌∷◌, ◌++◌, length, refl, sym, ap, ◌∙◌, subst, None, Result, Ok, Err, inl, inr}
 use Rattle.std.proofs.lemmas.Bool.{le-ltb, lt-ltb, false≢true}
+use Rattle.farm_types.specs.declared.entry.Act.{Act}
+use Rattle.farm_types.specs.declared.entry.Act.TheVariants as act
 use Rattle.farm_types.specs.declared.entry.Entry.{Entry}
+use Rattle.farm_types.specs.declared.refusal.Refusal.{Refusal}
+use Rattle.farm_lines.specs.declared.asked.Asked.{Asked}
+use Rattle.farm_lines.specs.declared.asked.Asked.TheVariants as asked
+use Rattle.farm_lines.specs.declared.query.Query.{Query}
+use Rattle.farm_lines.specs.declared.reply.ListReply.{ListReply}
 use Rattle.farm_lines.specs.declared.reply.Reply.{Reply}
 use Rattle.farm_lines.specs.declared.reply.Reply.TheVariants as reply
 use Rattle.farm_lines.specs.declared.report.Report.{Report}
@@ -19,12 +26,15 @@ use Rattle.farm_types.specs.EntryAnswers.{answer_of}
 use Rattle.farm_types.specs.Farm.{Farm}
 use Rattle.farm_types.specs.Formed.{IsFormed}
 use Rattle.farm_lines.specs.Reply.{ok_reply, reply_text}
+use Rattle.farm_lines.specs.Lists.{list_of}
 use Rattle.farm_lines.specs.Request.{RequestError, request_of}
 use Rattle.farm_types.specs.Step.{HasCondition, refusal_of, after}
-use Rattle.farm_lines.specs.Transcript.{Mark, Plain, Memory, Store, StoreAfter, LateStore, Answered, act_of, answer_to, asked_answer, entry_answer, entry_of, only_reply, request_answer, unless_memory}
+use Rattle.farm_lines.specs.Asked.{IsFormedAsked, asked_of, entry_at, heard_entry}
+use Rattle.farm_lines.specs.Transcript.{Mark, Plain, Memory, Store, Answered, answer_to, asked_answer, entry_answer, list_reply, only_reply, request_answer, unless_memory}
 use Rattle.report_codec.specs.Reads.{Fails}
 use Rattle.recorder.specs.Recording.{ChangesRows, IsOfEntry}
-use Rattle.line_answers.specs.LineAnswers.{AnswersAsked, AnswersEntry, AnswersLine, IsAnswer, IsMarked, IsMarkedAnswer, IsRecorded, IsUnprepared, MayFail, MayStore, MayStoreEntry, fault_reply}
+use Rattle.line_answers.specs.Asking.{IsNoBooking, IsUnbooked}
+use Rattle.line_answers.specs.LineAnswers.{AnswersAsked, AnswersEntry, AnswersLine, AnswersReport, IsAnswer, IsMarked, IsMarkedAnswer, IsRecorded, IsUnprepared, MayStore, MayStoreEntry, fault_reply}
 use Rattle.line_answers.specs.declared.reply_line.ReplyLine.{ReplyLine}
 use Rattle.line_answers.specs.declared.reply_line.ReplyLine.TheVariants as reply_line
 use Rattle.line_answers.specs.Lines.{IsLineOf, shown}
@@ -54,11 +64,12 @@ retold f new text before now one other may later same stands answered = record {
 }
 
 -- a line is answered by what is asked
-pub answered_line : (f : Farm) (line : List ℕ) (moment : ℕ) (new : Farm) (text : List ℕ) (before now : ℕ) (asked : Request) → length line ≤ LINE_LIMIT
-    → request_of line ≡ Ok asked → AnswersAsked f asked moment new text before now → AnswersLine f line moment new text before now
-answered_line f line moment new text before now asked fits asks answered =
-    retold f new text before now (λ mark. unless_memory mark (asked_answer f moment mark asked)) (answer_to f line moment) (MayStore f moment asked) (IsMarked f line moment)
-    (λ mark. sym (line_within f line moment mark fits ∙ ap (λ r. unless_memory mark (request_answer f moment mark r)) asks)) (λ mark may is. (asked, asks, may)) answered
+pub answered_line : (f : Farm) (line : List ℕ) (moment : ℕ) (new : Farm) (text : List ℕ) (before now : ℕ) (what : Request) → length line ≤ LINE_LIMIT
+    → request_of line ≡ Ok what → AnswersAsked f (asked_of what) moment new text before now → AnswersLine f line moment new text before now
+answered_line f line moment new text before now what fits asks answered =
+    retold f new text before now (λ mark. unless_memory mark (asked_answer f moment mark (asked_of what))) (answer_to f line moment) (MayStore f moment (asked_of what))
+    (IsMarked f line moment)
+    (λ mark. sym (line_within f line moment mark fits ∙ ap (λ r. unless_memory mark (request_answer f moment mark r)) asks)) (λ mark may is. (what, asks, may)) answered
 
 -- ---- a reply alone
 
@@ -107,29 +118,51 @@ faulted_line f line moment found text before now fits fails told =
 
 -- ---- a request of one entry
 
--- what is asked is no booking
-pub asked_condition : (f : Farm) (asked : Request) → HasCondition f (act_of asked)
-asked_condition f request.Tick = tt
-asked_condition f asked = tt
+-- requests ask for no booking
+pub unbooked : (what : Request) → IsUnbooked (asked_of what)
+unbooked request.Tick = tt
+unbooked what = tt
 
-asked_entry : (f : Farm) (moment : ℕ) (mark : Mark) (asked : Request) → ((report : Report) → asked ≡ request.Report report → ⊥)
-    → asked_answer f moment mark asked ≡ entry_answer f (entry_of asked moment) mark (refusal_of f (entry_of asked moment))
-asked_entry f moment mark (request.Report report) other = absurd (other report refl)
-asked_entry f moment mark asked other = refl
+pub no_booking : (f : Farm) (does : Act) → IsNoBooking does → HasCondition f does
+no_booking f (act.Book slot host) none = absurd none
+no_booking f does none = tt
 
-asked_may : (f : Farm) (moment : ℕ) (asked : Request) (e : Entry) → e ≡ entry_of asked moment → (mark : Mark) → MayStoreEntry f e mark → MayStore f moment asked mark
-asked_may f moment asked e is Store may = subst (MayFail f) is may
-asked_may f moment asked e is (StoreAfter k) may = absurd may
-asked_may f moment asked e is (LateStore k) may = absurd may
-asked_may f moment asked e is mark may = tt
+-- the entry of a report is within its forms and limits
+pub report_formed : (moment : ℕ) (what : Asked) (report : Report) → moment < 2 ^ 64 → what ≡ asked.Report report → IsFormedAsked what → IsFormed (heard_entry report moment)
+report_formed moment what report low is formed = record { moment_within = low; act_formed = subst IsFormedAsked is formed }
 
--- a request but a report is answered by its entry
-pub answered_entry : (f new : Farm) (moment : ℕ) (text : List ℕ) (before now : ℕ) (asked : Request) (e : Entry) → ((report : Report) → asked ≡ request.Report report → ⊥)
-    → e ≡ entry_of asked moment → AnswersEntry f e new text before now → AnswersAsked f asked moment new text before now
-answered_entry f new moment text before now asked e other is answered =
-    retold f new text before now (λ mark. unless_memory mark (entry_answer f e mark (refusal_of f e))) (λ mark. unless_memory mark (asked_answer f moment mark asked))
-    (MayStoreEntry f e) (MayStore f moment asked)
-    (λ mark. ap (unless_memory mark) (ap (λ d. entry_answer f d mark (refusal_of f d)) is ∙ sym (asked_entry f moment mark asked other))) (asked_may f moment asked e is) answered
+-- a report is answered as one
+pub answered_report : (f new : Farm) (moment : ℕ) (text : List ℕ) (before now : ℕ) (what : Asked) (report : Report) → what ≡ asked.Report report
+    → AnswersReport f report moment new text before now → AnswersAsked f what moment new text before now
+answered_report f new moment text before now what report is answered = subst (λ (a : Asked). AnswersAsked f a moment new text before now) (sym is) answered
+
+-- an act is answered by its entry
+pub answered_act : (f new : Farm) (moment : ℕ) (text : List ℕ) (before now : ℕ) (what : Asked) (does : Act) → what ≡ asked.Act does
+    → AnswersEntry f (entry_at moment does) new text before now → AnswersAsked f what moment new text before now
+answered_act f new moment text before now what does is answered = subst (λ (a : Asked). AnswersAsked f a moment new text before now) (sym is) answered
+
+-- an act's entry is within its forms and limits, and has what it asks for
+pub act_formed : (moment : ℕ) (what : Asked) (does : Act) → moment < 2 ^ 64 → what ≡ asked.Act does → IsFormedAsked what → IsFormed (entry_at moment does)
+act_formed moment what does low is formed = record { moment_within = low; act_formed = subst IsFormedAsked is formed }
+
+pub act_condition : (f : Farm) (what : Asked) (does : Act) → what ≡ asked.Act does → IsUnbooked what → HasCondition f does
+act_condition f what does is none = no_booking f does (subst IsUnbooked is none)
+
+-- the line of a list, or of its refusal
+pub listed_page : (listed : Result ListReply Refusal) (page : ListReply) (text : List ℕ) → listed ≡ Ok page → IsLineOf (reply.List page) text → IsLineOf (list_reply listed) text
+listed_page listed page text is line = subst (λ (l : Result ListReply Refusal). IsLineOf (list_reply l) text) (sym is) line
+
+pub listed_refusal : (listed : Result ListReply Refusal) (why : Refusal) (text : List ℕ) → listed ≡ Err why → IsLineOf (reply.Refused why) text → IsLineOf (list_reply listed) text
+listed_refusal listed why text is line = subst (λ (l : Result ListReply Refusal). IsLineOf (list_reply l) text) (sym is) line
+
+-- a list is only replied to, by what is read of the farm
+pub answered_list : (f read : Farm) (moment : ℕ) (text : List ℕ) (before now : ℕ) (what : Asked) (query : Query) → what ≡ asked.List query → read ≡ f
+    → IsLineOf (list_reply (list_of read query)) text → AnswersAsked f what moment f text before now
+answered_list f read moment text before now what query is same line =
+    subst (λ (a : Asked). AnswersAsked f a moment f text before now) (sym is) (
+    replied f (list_reply (list_of f query)) text before now (λ mark. asked_answer f moment mark (asked.List query)) (MayStore f moment (asked.List query)) refl refl refl
+    (subst (λ (g : Farm). IsLineOf (list_reply (list_of g query)) text) same line)
+    )
 
 -- no change was prepared for the entry
 pub unprepared_entry : (f : Farm) (e : Entry) (found : PrepareFault) (text : List ℕ) (before now : ℕ) → Prepares f e (Err found) → IsUnprepared found text

@@ -15,12 +15,16 @@ use Rattle.farm_types.specs.Step.{HasCondition, refusal_of, after}
 use Rattle.farm_types.specs.Run.{run_of, IsLegal, IsLegalStep}
 use Rattle.farm_types.specs.Dispatch.{book_entry, round_from, round_for, plan_for}
 use Rattle.farm_lines.specs.declared.request.Request.{Request}
-use Rattle.farm_lines.specs.declared.request.Request.TheVariants as request
+use Rattle.farm_lines.specs.declared.asked.Asked.{Asked}
+use Rattle.farm_lines.specs.declared.asked.Asked.TheVariants as asked
 use Rattle.farm_lines.specs.Request.{RequestError, request_of}
-use Rattle.farm_lines.specs.Transcript.{Mark, Plain, Memory, Store, CutAfter, StoreAfter, LatePlain, LateCut, LateStore, Answered, Exchange, heard_entry, entry_of, marked_answer, accepted_answer, report_answer, entry_answer, asked_answer, request_answer, unless_memory, answer_to, answer_at, farm_next, entries_in, only_reply}
+use Rattle.farm_lines.specs.Asked.{IsFormedAt, asked_of, entry_at, heard_entry}
+use Rattle.farm_lines.specs.Transcript.{Mark, Plain, Memory, Store, CutAfter, StoreAfter, LatePlain, LateCut, LateStore, Answered, Exchange, marked_answer, accepted_answer, report_answer, entry_answer, asked_answer, request_answer, unless_memory, answer_to, answer_at, farm_next, entries_in, only_reply}
 use Rattle.farm_lines.specs.declared.reply.Reply.TheVariants as reply
 use Rattle.farm_lines.proofs.RequestLemmas.{requests_formed}
-use Rattle.line_answers.proofs.AnswerLemmas.{asked_condition}
+use Rattle.line_answers.specs.Asking.{IsUnbooked}
+use Rattle.line_answers.specs.LineAnswers.{reported}
+use Rattle.line_answers.proofs.AnswerLemmas.{no_booking, unbooked}
 use Rattle.farm_types.specs.declared.limits.TheConstants.{BOOKINGS_EACH}
 use Rattle.farm_lines.specs.declared.limits.TheConstants.{LINE_LIMIT}
 
@@ -96,21 +100,26 @@ entry_legal f e mark (Some why) formed h condition = tt
 entry_legal f e Store None formed h condition = tt
 entry_legal f e mark None formed h condition = (record { formed = formed; accepted = h; condition = condition }, tt)
 
-one : (f : Farm) (moment : ℕ) (mark : Mark) (asked : Request) → IsFormed (entry_of asked moment) → IsLegal f (entry_answer f (entry_of asked moment) mark (refusal_of f (entry_of asked moment))).entries
-one f moment mark asked formed = entry_legal f (entry_of asked moment) mark (refusal_of f (entry_of asked moment)) formed refl (asked_condition f asked)
+asked_legal : (f : Farm) (moment : ℕ) (mark : Mark) (what : Asked) → IsFormedAt moment what → IsUnbooked what → IsLegal f (asked_answer f moment mark what).entries
+asked_legal f moment mark (asked.Report report) formed none = report_legal f report moment formed mark (refusal_of f (heard_entry report moment)) refl
+asked_legal f moment mark (asked.Act does) formed none =
+    entry_legal f (entry_at moment does) mark (refusal_of f (entry_at moment does)) formed refl (no_booking f does none)
+asked_legal f moment mark (asked.List query) formed none = tt
 
-asked_legal : (f : Farm) (moment : ℕ) (mark : Mark) (asked : Request) → IsFormed (entry_of asked moment) → IsLegal f (asked_answer f moment mark asked).entries
-asked_legal f moment mark (request.Report report) formed = report_legal f report moment formed mark (refusal_of f (heard_entry report moment)) refl
-asked_legal f moment mark asked formed = one f moment mark asked formed
-
-request_legal : (f : Farm) (moment : ℕ) (mark : Mark) (read : Result Request RequestError) → ((asked : Request) → read ≡ Ok asked → IsFormed (entry_of asked moment))
+request_legal : (f : Farm) (moment : ℕ) (mark : Mark) (read : Result Request RequestError) → ((what : Request) → read ≡ Ok what → IsFormedAt moment (asked_of what))
     → IsLegal f (request_answer f moment mark read).entries
 request_legal f moment mark (Err error) formed = tt
-request_legal f moment mark (Ok asked) formed = asked_legal f moment mark asked (formed asked refl)
+request_legal f moment mark (Ok what) formed = asked_legal f moment mark (asked_of what) (formed what refl) (unbooked what)
 
 unless_legal : (f : Farm) (mark : Mark) (answered : Answered) → IsLegal f answered.entries → IsLegal f (unless_memory mark answered).entries
 unless_legal f Memory answered l = tt
 unless_legal f mark answered l = l
+
+-- what a report makes
+pub reported_legal : (f : Farm) (report : Report) (moment : ℕ) (mark : Mark) → IsFormed (heard_entry report moment) → IsLegal f (reported f report moment mark).entries
+reported_legal f report moment mark formed =
+    unless_legal f mark (report_answer f report moment mark (refusal_of f (heard_entry report moment)))
+    (report_legal f report moment formed mark (refusal_of f (heard_entry report moment)) refl)
 
 -- what one line makes
 answer_legal : (f : Farm) (line : List ℕ) (moment : ℕ) (mark : Mark) → moment < 2 ^ 64 → IsLegal f (answer_to f line moment mark).entries
@@ -121,7 +130,7 @@ answer_legal f line moment mark low = by (nat_lt LINE_LIMIT (length line))
     by true = tt
     by false =
         unless_legal f mark (request_answer f moment mark (request_of line))
-        (request_legal f moment mark (request_of line) (λ asked is. requests_formed line asked moment low is))
+        (request_legal f moment mark (request_of line) (λ what is. requests_formed line what moment low is))
 
 -- what all lines make, each at a moment of 64 bits
 pub exchanges_legal : (f : Farm) (ts : List Exchange) → All (λ (t : Exchange). t.moment < 2 ^ 64) ts → IsLegal f (entries_in f ts)

@@ -1,4 +1,5 @@
 mod AnswerLemmas
+mod BookingLemmas
 mod LegalLemmas
 mod LineLemmas
 mod OutcomeLemmas

@@ -5,13 +5,15 @@ use Rattle.farm_types.specs.declared.entry.Entry.{Entry}
 use Rattle.farm_types.specs.declared.refusal.Refusal.{Refusal}
 use Rattle.farm_lines.specs.declared.report.Report.{Report}
 use Rattle.farm_lines.specs.declared.request.Request.{Request}
-use Rattle.farm_lines.specs.declared.request.Request.TheVariants as request
+use Rattle.farm_lines.specs.declared.asked.Asked.{Asked}
+use Rattle.farm_lines.specs.declared.asked.Asked.TheVariants as asked
 use Rattle.farm_types.specs.Dispatch.{round_for}
 use Rattle.farm_types.specs.Farm.{Farm, host_named}
 use Rattle.farm_lines.specs.declared.reply.Reply.TheVariants as reply
 use Rattle.farm_lines.specs.Request.{RequestError, request_of}
 use Rattle.farm_types.specs.Step.{refusal_of, after}
-use Rattle.farm_lines.specs.Transcript.{Mark, Plain, LatePlain, answer_to, heard_entry, marked_answer, accepted_answer, report_answer, request_answer, unless_memory, only_reply}
+use Rattle.farm_lines.specs.Asked.{asked_of, entry_at, heard_entry}
+use Rattle.farm_lines.specs.Transcript.{Mark, Plain, LatePlain, answer_to, marked_answer, accepted_answer, asked_answer, entry_answer, report_answer, request_answer, unless_memory, only_reply}
 use Rattle.line_answers.specs.Outcomes.{WalksWhole, IsTaken, HasWholeRound, IsAnsweredFully}
 use Rattle.line_answers.proofs.AnswerLemmas.{line_within, long_answer}
 use Rattle.line_answers.proofs.ReportLemmas.{accepted_is, host_of}
@@ -49,10 +51,18 @@ late_report : (f : Farm) (report : Report) (moment : ℕ) (why : Option Refusal)
 late_report f report moment None = late_accepted f report moment (host_named f report.host)
 late_report f report moment (Some why) = refl
 
+late_entry : (f : Farm) (e : Entry) (why : Option Refusal) → (entry_answer f e LatePlain why).entries ≡ (entry_answer f e Plain why).entries
+late_entry f e None = refl
+late_entry f e (Some why) = refl
+
+late_asked : (f : Farm) (moment : ℕ) (what : Asked) → (asked_answer f moment LatePlain what).entries ≡ (asked_answer f moment Plain what).entries
+late_asked f moment (asked.Report report) = late_report f report moment (refusal_of f (heard_entry report moment))
+late_asked f moment (asked.Act does) = late_entry f (entry_at moment does) (refusal_of f (entry_at moment does))
+late_asked f moment (asked.List query) = refl
+
 late_request : (f : Farm) (moment : ℕ) (read : Result Request RequestError) → (request_answer f moment LatePlain read).entries ≡ (request_answer f moment Plain read).entries
 late_request f moment (Err error) = refl
-late_request f moment (Ok (request.Report report)) = late_report f report moment (refusal_of f (heard_entry report moment))
-late_request f moment (Ok asked) = refl
+late_request f moment (Ok what) = late_asked f moment (asked_of what)
 
 late_line : (f : Farm) (line : List ℕ) (moment : ℕ) → (answer_to f line moment LatePlain).entries ≡ (answer_to f line moment Plain).entries
 unfolding answer_to

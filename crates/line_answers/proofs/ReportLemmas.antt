@@ -5,7 +5,8 @@ use Rattle.std.proofs.lemmas.Bool.{false≢true}
 use Rattle.std.proofs.lemmas.Result.{err_from_is_err_and}
 use Rattle.std.specs.Prelude.{is_some}
 use Rattle.std.specs.Result.{IsErrOf}
-use Rattle.dispatch_plan.specs.Rounds.{IsRound}
+use Rattle.dispatch_plan.specs.declared.walked.Walked.{Walked}
+use Rattle.dispatch_plan.specs.Rounds.{EndsBy, IsRound}
 use Rattle.farm_types.specs.declared.entry.Act.{Act}
 use Rattle.farm_types.specs.declared.entry.Act.TheVariants as act
 use Rattle.farm_types.specs.declared.attempt.Attempt.{Attempt}
@@ -14,10 +15,10 @@ use Rattle.farm_types.specs.declared.entry.HeardAct.{HeardAct}
 use Rattle.farm_types.specs.declared.refusal.Refusal.{Refusal}
 use Rattle.farm_types.specs.declared.dispatch.Cut.{Cut}
 use Rattle.farm_types.specs.declared.dispatch.Cut.TheVariants as cut
+use Rattle.farm_lines.specs.declared.reply.Reply.{Reply}
 use Rattle.farm_lines.specs.declared.reply.Reply.TheVariants as reply
 use Rattle.farm_lines.specs.declared.report.Report.{Report}
-use Rattle.farm_lines.specs.declared.request.Request.{Request}
-use Rattle.farm_lines.specs.declared.request.Request.TheVariants as request
+use Rattle.farm_lines.specs.declared.asked.Asked.TheVariants as asked
 use Rattle.farm_core.specs.Change.{Makes, Prepares, after_change}
 use Rattle.farm_core.specs.declared.change.Change.{Change}
 use Rattle.farm_changes.specs.Change.{HasHeard}
@@ -30,21 +31,20 @@ use Rattle.farm_types.specs.Farm.{Farm, host_named}
 use Rattle.farm_lines.specs.Reply.{reply_text, report_reply}
 use Rattle.farm_types.specs.Run.{run_of}
 use Rattle.farm_types.specs.Step.{HasCondition, refusal_of, after, host_refusal}
-use Rattle.farm_lines.specs.Transcript.{Mark, Plain, Memory, Store, CutAfter, StoreAfter, LatePlain, LateCut, LateStore, Answered, accepted_answer, heard_entry, marked_answer, report_answer, unless_memory}
+use Rattle.farm_lines.specs.Asked.{heard_entry, heard_of}
+use Rattle.farm_lines.specs.Transcript.{Mark, Plain, Memory, Store, CutAfter, StoreAfter, LatePlain, LateCut, LateStore, Answered, accepted_answer, marked_answer, only_reply, report_answer, unless_memory}
 use Rattle.recorder.specs.declared.refusal.CommitRefusal.{CommitRefusal}
 use Rattle.recorder.specs.declared.refusal.CommitRefusal.TheVariants as refusal
 use Rattle.recorder.specs.declared.refusal.RecordFault.{RecordFault}
 use Rattle.recorder.specs.declared.refusal.RecordFault.TheVariants as fault
 use Rattle.recorder.specs.Faults.{of_prepare, of_record}
 use Rattle.recorder.specs.Recording.{ChangesRows, FailsToRecord}
-use Rattle.line_answers.specs.LineAnswers.{AnswersAsked, AnswersReport, Hears, IsAnswer, IsRoundAnswer, IsUnrecorded, MayCutRound, MayStore}
-use Rattle.line_answers.specs.Reports.{IsHeard, IsTold, heard_of}
-use Rattle.line_answers.proofs.AnswerLemmas.{replied, unreplied}
-
--- a report is answered as one
-pub answered_report : (f new : Farm) (moment : ℕ) (text : List ℕ) (before now : ℕ) (asked : Request) (report : Report) → asked ≡ request.Report report
-    → AnswersReport f report moment new text before now → AnswersAsked f asked moment new text before now
-answered_report f new moment text before now asked report is answered = subst (λ (a : Request). AnswersAsked f a moment new text before now) (sym is) answered
+use Rattle.line_answers.specs.LineAnswers.{AnswersReport, HasCause, Hears, MayCutRound, MayStore, TakesReport, TakesRound, bookings_in, is_calm, reported, tells_memory, unrecorded_reply}
+use Rattle.line_answers.specs.Lines.{IsLineOf}
+use Rattle.line_answers.specs.declared.taken.Taken.{Taken}
+use Rattle.line_answers.specs.Reports.{IsHeard, IsTold}
+use Rattle.line_answers.proofs.AnswerLemmas.{unreplied}
+use Rattle.line_answers.proofs.BookingLemmas.{booked_front, booked_whole}
 
 -- what acts of a report tell
 abbrev told_in : HeardAct → Act → HeardAct
@@ -153,32 +153,39 @@ accepted_is f report moment host mark accepts named =
     (report_answer f report moment mark (refusal_of f (heard_entry report moment)))
     (ap (report_answer f report moment mark) accepts ∙ ap (accepted_answer f report moment mark) named)
 
--- the store failed before anything was recorded
-failed_report : (f : Farm) (report : Report) (moment : ℕ) (text : List ℕ) (before now : ℕ) → refusal_of f (heard_entry report moment) ≡ None
-    → ChangesRows f (after f (heard_entry report moment)) → text ≡ reply_text reply.Store ++ 10 ∷ [] → HasRisen before now
-    → AnswersReport f report moment f text before now
-failed_report f report moment text before now accepts changes line risen =
-    let found = host_of f report moment (host_named f report.host) refl accepts in
-    record {
-      mark = Store;
-      answer = subst (λ (a : Answered). IsAnswer f a f text) (sym (accepted_is f report moment found.0 Store accepts found.1)) (record { farm = refl; text = line });
-      may_stand = record { accepted = accepts; changes = changes };
-      cause = λ store. risen;
-    }
+-- nothing was recorded, and this is replied
+unchanged : (f : Farm) (report : Report) (moment : ℕ) (mark : Mark) (taken : Taken) (before now : ℕ) → reported f report moment mark ≡ only_reply taken.reply → taken.booked ≡ 0
+    → (tells_memory taken.reply ≡ false → is_calm mark ≡ true) → MayStore f moment (asked.Report report) mark → HasCause mark before now
+    → TakesReport f report moment f taken before now
+unchanged f report moment mark taken before now is none calm may cause = record {
+  mark = mark;
+  farm = sym (ap (λ (a : Answered). run_of f a.entries) is);
+  reply = sym (ap (λ (a : Answered). a.reply) is);
+  booked = none ∙ sym (ap (λ (a : Answered). bookings_in a.entries) is);
+  calm = calm;
+  may_stand = may;
+  cause = cause;
+}
+
+-- memory didn't run out for the reply
+never_cause : (before now : ℕ) → false ≡ true → HasRisen before now
+never_cause before now store = absurd (false≢true store)
 
 -- it wasn't recorded
-pub unrecorded_report : (f new : Farm) (report : Report) (moment : ℕ) (why : CommitRefusal) (text : List ℕ) (before now : ℕ)
-    → Hears f (heard_entry report moment) (Err why) new → IsUnrecorded why text → (IsErrOf {T = ℕ} (Err why) refusal.Store → HasRisen before now)
-    → AnswersReport f report moment new text before now
-unrecorded_report f new report moment (refusal.Refused why) text before now heard line cause =
-    subst (λ (g : Farm). AnswersReport f report moment g text before now) (sym heard.1)
-    (replied f (reply.Refused why) text before now (λ mark. report_answer f report moment mark (refusal_of f (heard_entry report moment)))
-    (MayStore f moment (request.Report report)) tt tt (ap (report_answer f report moment Plain) heard.0) line)
-unrecorded_report f new report moment refusal.Store text before now heard line cause =
-    subst (λ (g : Farm). AnswersReport f report moment g text before now) (sym heard.2) (failed_report f report moment text before now heard.0 heard.1 line (cause refl))
-unrecorded_report f new report moment refusal.NoMemory text before now heard line cause =
-    subst (λ (g : Farm). AnswersReport f report moment g text before now) (sym heard)
-    (unreplied f text before now (λ mark. report_answer f report moment mark (refusal_of f (heard_entry report moment))) (MayStore f moment (request.Report report)) tt line)
+pub unrecorded_report : (f new : Farm) (report : Report) (moment : ℕ) (why : CommitRefusal) (taken : Taken) (before now : ℕ)
+    → Hears f (heard_entry report moment) (Err why) new → taken.reply ≡ unrecorded_reply why → taken.booked ≡ 0
+    → (IsErrOf {T = ℕ} (Err why) refusal.Store → HasRisen before now) → TakesReport f report moment new taken before now
+unrecorded_report f new report moment (refusal.Refused why) taken before now heard is none cause =
+    subst (λ (g : Farm). TakesReport f report moment g taken before now) (sym heard.1)
+    (unchanged f report moment Plain taken before now (ap (report_answer f report moment Plain) heard.0 ∙ ap only_reply (sym is)) none (λ calm. refl) tt (never_cause before now))
+unrecorded_report f new report moment refusal.Store taken before now heard is none cause =
+    let found = host_of f report moment (host_named f report.host) refl heard.0 in
+    subst (λ (g : Farm). TakesReport f report moment g taken before now) (sym heard.2)
+    (unchanged f report moment Store taken before now (accepted_is f report moment found.0 Store heard.0 found.1 ∙ ap only_reply (sym is)) none (λ calm. refl)
+    (record { accepted = heard.0; changes = heard.1 }) (λ store. cause refl))
+unrecorded_report f new report moment refusal.NoMemory taken before now heard is none cause =
+    subst (λ (g : Farm). TakesReport f report moment g taken before now) (sym heard)
+    (unchanged f report moment Memory taken before now (ap only_reply (sym is)) none (λ calm. absurd (false≢true (sym calm ∙ ap tells_memory is))) tt (never_cause before now))
 
 -- a count that rose from a later one rose
 risen_since : (before since now : ℕ) → before ≤ since → HasRisen since now → HasRisen before now
@@ -187,7 +194,7 @@ risen_since before since now low (inr full) = inr full
 
 -- a mark of the round stands for the report
 round_may : (f next : Farm) (report : Report) (moment host : ℕ) → refusal_of f (heard_entry report moment) ≡ None → host_named f report.host ≡ Some host
-    → next ≡ after f (heard_entry report moment) → (mark : Mark) → MayCutRound (length (round_for next host moment)) mark → MayStore f moment (request.Report report) mark
+    → next ≡ after f (heard_entry report moment) → (mark : Mark) → MayCutRound (length (round_for next host moment)) mark → MayStore f moment (asked.Report report) mark
 round_may f next report moment host accepts named is Store may = absurd may
 round_may f next report moment host accepts named is (StoreAfter k) may =
     record { accepted = accepts; host = host; named = named; left = subst (λ (g : Farm). k < length (round_for g host moment)) is may }
@@ -195,78 +202,195 @@ round_may f next report moment host accepts named is (LateStore k) may =
     record { accepted = accepts; host = host; named = named; left = subst (λ (g : Farm). k < length (round_for g host moment)) is may }
 round_may f next report moment host accepts named is mark may = tt
 
--- the answer after the round is that of the report
-pub taken_report : (f next new : Farm) (report : Report) (moment host : ℕ) (text : List ℕ) (before since now : ℕ) → Hears f (heard_entry report moment) (Ok host) next
-    → before ≤ since → IsRoundAnswer next host report moment new text since now → AnswersReport f report moment new text before now
-taken_report f next new report moment host text before since now heard low answered = record {
-  mark = answered.mark;
-  answer = subst (λ (a : Answered). IsAnswer f a new text) (sym (accepted_is f report moment host answered.mark heard.0 heard.1))
-      (subst (λ (g : Farm). IsAnswer f (marked_answer f host report (heard_entry report moment) (round_for g host moment) answered.mark) new text) heard.2
-      (answered.answer f (heard_entry report moment) (sym heard.2)));
-  may_stand = round_may f next report moment host heard.0 heard.1 heard.2 answered.mark answered.may_stand;
-  cause = λ store. risen_since before since now low (answered.cause store);
-}
+-- what the round makes is what the report makes
+pub taken_report : (f next new : Farm) (report : Report) (moment host : ℕ) (taken : Taken) (before since now : ℕ) → Hears f (heard_entry report moment) (Ok host) next
+    → before ≤ since → TakesRound next host report moment new taken since now → TakesReport f report moment new taken before now
+taken_report f next new report moment host taken before since now heard low walked =
+    let round = round_for next host moment in
+    let made = marked_answer f host report (heard_entry report moment) round walked.mark in
+    let is : reported f report moment walked.mark ≡ made =
+    accepted_is f report moment host walked.mark heard.0 heard.1
+    ∙ sym (ap (λ (g : Farm). marked_answer f host report (heard_entry report moment) (round_for g host moment) walked.mark) heard.2) in
+    record {
+      mark = walked.mark;
+      farm = walked.farm f (heard_entry report moment) (sym heard.2) ∙ sym (ap (λ (a : Answered). run_of f a.entries) is);
+      reply = walked.reply f (heard_entry report moment) (sym heard.2) ∙ sym (ap (λ (a : Answered). a.reply) is);
+      booked = walked.booked f (heard_entry report moment) refl ∙ sym (ap (λ (a : Answered). bookings_in a.entries) is);
+      calm = walked.calm;
+      may_stand = round_may f next report moment host heard.0 heard.1 heard.2 walked.mark walked.may_stand;
+      cause = λ store. risen_since before since now low (walked.cause store);
+    }
 
 -- ---- the round's marks
 
 -- after so many bookings of the round the farm is that of the entry and them
 walked_from : (old f new : Farm) (heard : Entry) (round : List Entry) → new ≡ run_of old round → after f heard ≡ old → new ≡ run_of (after f heard) round
-walked_from old f new heard round walked e = walked ∙ ap (λ g. run_of g round) (sym e)
+walked_from old f new heard round walked e = walked ∙ ap (λ (g : Farm). run_of g round) (sym e)
 
 -- the reply is that over the farm that the round left
-told_from : (old f new : Farm) (host : ℕ) (report : Report) (heard : Entry) (round : List Entry) (ended : Cut) (text : List ℕ) → new ≡ run_of old round → after f heard ≡ old
-    → text ≡ reply_text (report_reply new host report ended) ++ 10 ∷ [] → text ≡ reply_text (report_reply (run_of (after f heard) round) host report ended) ++ 10 ∷ []
-told_from old f new host report heard round ended text walked e line =
-    line ∙ ap (λ g. reply_text (report_reply g host report ended) ++ 10 ∷ []) (walked_from old f new heard round walked e)
+told_from : (old f new : Farm) (host : ℕ) (report : Report) (heard : Entry) (round : List Entry) (ended : Cut) (told : Reply) → new ≡ run_of old round → after f heard ≡ old
+    → told ≡ report_reply new host report ended → told ≡ report_reply (run_of (after f heard) round) host report ended
+told_from old f new host report heard round ended told walked e is = is ∙ ap (λ (g : Farm). report_reply g host report ended) (walked_from old f new heard round walked e)
 
-module _ (old : Farm) (host : ℕ) (report : Report) (moment : ℕ) (new : Farm) (text : List ℕ) (before now : ℕ) where
-  pub round_replied : (ended : Cut) → IsRound old host moment ended new → (ended ≡ cut.Store → HasRisen before now)
-      → text ≡ reply_text (report_reply new host report ended) ++ 10 ∷ [] → IsRoundAnswer old host report moment new text before now
-  round_replied cut.Whole walked cause line = record {
+-- a reply that tells that memory ran out tells it
+not_calm : {P : Type 0} (told other : Reply) → told ≡ other → tells_memory other ≡ true → tells_memory told ≡ false → P
+not_calm told other is tells calm = absurd (false≢true (sym calm ∙ (ap tells_memory is ∙ tells)))
+
+module _ (old : Farm) (host : ℕ) (report : Report) (moment : ℕ) (new : Farm) (taken : Taken) (before now : ℕ) where
+  abbrev round : List Entry
+  round = round_for old host moment
+
+  replied_by : (ended : Cut) → EndsBy old round ended taken.booked new → (ended ≡ cut.Store → HasRisen before now) → taken.reply ≡ report_reply new host report ended
+      → TakesRound old host report moment new taken before now
+  replied_by cut.Whole walked cause is = record {
     mark = Plain;
-    answer = λ f heard e. record {
-      farm = walked_from old f new heard (round_for old host moment) walked e;
-      text = told_from old f new host report heard (round_for old host moment) cut.Whole text walked e line;
-    };
+    farm = λ f heard e. walked_from old f new heard round walked.1 e;
+    reply = λ f heard e. told_from old f new host report heard round cut.Whole taken.reply walked.1 e is;
+    booked = λ f heard other. booked_whole old host moment heard taken.booked other walked.0;
+    calm = λ calm. refl;
     may_stand = tt;
-    cause = λ store. absurd (false≢true store);
+    cause = never_cause before now;
   }
-  round_replied cut.Store walked cause line = record {
-    mark = StoreAfter walked.0;
-    answer = λ f heard e. record {
-      farm = walked_from old f new heard (take walked.0 (round_for old host moment)) walked.2 e;
-      text = told_from old f new host report heard (take walked.0 (round_for old host moment)) cut.Store text walked.2 e line;
-    };
-    may_stand = walked.1;
+  replied_by cut.Store walked cause is = record {
+    mark = StoreAfter taken.booked;
+    farm = λ f heard e. walked_from old f new heard (take taken.booked round) walked.1 e;
+    reply = λ f heard e. told_from old f new host report heard (take taken.booked round) cut.Store taken.reply walked.1 e is;
+    booked = λ f heard other. booked_front old host moment heard taken.booked other (omega (arith, walked.0));
+    calm = λ calm. refl;
+    may_stand = walked.0;
     cause = λ store. cause refl;
   }
-  round_replied cut.Memory walked cause line = record {
-    mark = CutAfter walked.0;
-    answer = λ f heard e. record {
-      farm = walked_from old f new heard (take walked.0 (round_for old host moment)) walked.1 e;
-      text = told_from old f new host report heard (take walked.0 (round_for old host moment)) cut.Memory text walked.1 e line;
-    };
+  replied_by cut.Memory walked cause is = record {
+    mark = CutAfter taken.booked;
+    farm = λ f heard e. walked_from old f new heard (take taken.booked round) walked.1 e;
+    reply = λ f heard e. told_from old f new host report heard (take taken.booked round) cut.Memory taken.reply walked.1 e is;
+    booked = λ f heard other. booked_front old host moment heard taken.booked other walked.0;
+    calm = not_calm taken.reply (report_reply new host report cut.Memory) is refl;
     may_stand = tt;
-    cause = λ store. absurd (false≢true store);
+    cause = never_cause before now;
   }
 
-  pub round_unreplied : (ended : Cut) → IsRound old host moment ended new → (ended ≡ cut.Store → HasRisen before now)
-      → text ≡ reply_text reply.NoMemory ++ 10 ∷ [] → IsRoundAnswer old host report moment new text before now
-  round_unreplied cut.Whole walked cause line = record {
+  unreplied_by : (ended : Cut) → EndsBy old round ended taken.booked new → (ended ≡ cut.Store → HasRisen before now) → taken.reply ≡ reply.NoMemory
+      → TakesRound old host report moment new taken before now
+  unreplied_by cut.Whole walked cause is = record {
     mark = LatePlain;
-    answer = λ f heard e. record { farm = walked_from old f new heard (round_for old host moment) walked e; text = line };
+    farm = λ f heard e. walked_from old f new heard round walked.1 e;
+    reply = λ f heard e. is;
+    booked = λ f heard other. booked_whole old host moment heard taken.booked other walked.0;
+    calm = not_calm taken.reply reply.NoMemory is refl;
     may_stand = tt;
-    cause = λ store. absurd (false≢true store);
+    cause = never_cause before now;
   }
-  round_unreplied cut.Store walked cause line = record {
-    mark = LateStore walked.0;
-    answer = λ f heard e. record { farm = walked_from old f new heard (take walked.0 (round_for old host moment)) walked.2 e; text = line };
-    may_stand = walked.1;
+  unreplied_by cut.Store walked cause is = record {
+    mark = LateStore taken.booked;
+    farm = λ f heard e. walked_from old f new heard (take taken.booked round) walked.1 e;
+    reply = λ f heard e. is;
+    booked = λ f heard other. booked_front old host moment heard taken.booked other (omega (arith, walked.0));
+    calm = not_calm taken.reply reply.NoMemory is refl;
+    may_stand = walked.0;
     cause = λ store. cause refl;
   }
-  round_unreplied cut.Memory walked cause line = record {
-    mark = LateCut walked.0;
-    answer = λ f heard e. record { farm = walked_from old f new heard (take walked.0 (round_for old host moment)) walked.1 e; text = line };
+  unreplied_by cut.Memory walked cause is = record {
+    mark = LateCut taken.booked;
+    farm = λ f heard e. walked_from old f new heard (take taken.booked round) walked.1 e;
+    reply = λ f heard e. is;
+    booked = λ f heard other. booked_front old host moment heard taken.booked other walked.0;
+    calm = not_calm taken.reply reply.NoMemory is refl;
     may_stand = tt;
-    cause = λ store. absurd (false≢true store);
+    cause = never_cause before now;
   }
+
+  -- the round that was walked is what was taken
+  ends_as : (walked : Walked) → taken.booked ≡ walked.booked → IsRound old host moment walked new → EndsBy old round walked.cut taken.booked new
+  ends_as walked booked ends = subst (λ (k : ℕ). EndsBy old round walked.cut k new) (sym booked) ends
+
+  pub round_replied : (walked : Walked) → IsRound old host moment walked new → (walked.cut ≡ cut.Store → HasRisen before now) → taken.booked ≡ walked.booked
+      → taken.reply ≡ report_reply new host report walked.cut → TakesRound old host report moment new taken before now
+  round_replied walked ends cause booked is = replied_by walked.cut (ends_as walked booked ends) cause is
+
+  pub round_unreplied : (walked : Walked) → IsRound old host moment walked new → (walked.cut ≡ cut.Store → HasRisen before now) → taken.booked ≡ walked.booked
+      → taken.reply ≡ reply.NoMemory → TakesRound old host report moment new taken before now
+  round_unreplied walked ends cause booked is = unreplied_by walked.cut (ends_as walked booked ends) cause is
+
+-- ---- the line of its reply
+
+-- memory ran out for the reply alone, or for all where nothing was recorded
+abbrev late_mark : Mark → Mark
+late_mark Plain = LatePlain
+late_mark Memory = Memory
+late_mark Store = Memory
+late_mark (CutAfter k) = LateCut k
+late_mark (StoreAfter k) = LateStore k
+late_mark late = late
+
+-- the same is recorded, and memory is told
+record IsLate (f : Farm) (host : ℕ) (report : Report) (moment : ℕ) (heard : Entry) (bookings : List Entry) (mark : Mark) (before now : ℕ) : Type 0 where
+  entries : (marked_answer f host report heard bookings (late_mark mark)).entries ≡ (marked_answer f host report heard bookings mark).entries
+  reply : (marked_answer f host report heard bookings (late_mark mark)).reply ≡ reply.NoMemory
+  may_stand : MayStore f moment (asked.Report report) mark → MayStore f moment (asked.Report report) (late_mark mark)
+  cause : HasCause mark before now → HasCause (late_mark mark) before now
+
+is_late : (f : Farm) (host : ℕ) (report : Report) (moment : ℕ) (heard : Entry) (bookings : List Entry) (mark : Mark) (before now : ℕ)
+    → IsLate f host report moment heard bookings mark before now
+is_late f host report moment heard bookings Plain before now = record { entries = refl; reply = refl; may_stand = λ may. tt; cause = λ cause. cause }
+is_late f host report moment heard bookings Memory before now = record { entries = refl; reply = refl; may_stand = λ may. tt; cause = λ cause. cause }
+is_late f host report moment heard bookings Store before now = record { entries = refl; reply = refl; may_stand = λ may. tt; cause = λ cause. never_cause before now }
+is_late f host report moment heard bookings (CutAfter k) before now = record { entries = refl; reply = refl; may_stand = λ may. tt; cause = λ cause. cause }
+is_late f host report moment heard bookings (StoreAfter k) before now = record { entries = refl; reply = refl; may_stand = λ may. may; cause = λ cause. cause }
+is_late f host report moment heard bookings LatePlain before now = record { entries = refl; reply = refl; may_stand = λ may. tt; cause = λ cause. cause }
+is_late f host report moment heard bookings (LateCut k) before now = record { entries = refl; reply = refl; may_stand = λ may. tt; cause = λ cause. cause }
+is_late f host report moment heard bookings (LateStore k) before now = record { entries = refl; reply = refl; may_stand = λ may. may; cause = λ cause. cause }
+
+-- a report that is refused records nothing, whatever the mark
+refused_nothing : (f : Farm) (report : Report) (moment : ℕ) (mark : Mark) (why : Refusal) → refusal_of f (heard_entry report moment) ≡ Some why
+    → (reported f report moment mark).entries ≡ []
+refused_nothing f report moment mark why refused = ap (λ (o : Option Refusal). (unless_memory mark (report_answer f report moment mark o)).entries) refused ∙ by mark
+  where
+    by : (mark : Mark) → (unless_memory mark (only_reply (reply.Refused why))).entries ≡ []
+    by Memory = refl
+    by mark = refl
+
+module _ (f new : Farm) (report : Report) (moment : ℕ) (text : List ℕ) (taken : Taken) (before now : ℕ) (took : TakesReport f report moment new taken before now)
+    (memory : text ≡ reply_text reply.NoMemory ++ 10 ∷ []) where
+  -- memory ran out before anything was recorded
+  late_refused : (why : Refusal) → refusal_of f (heard_entry report moment) ≡ Some why → AnswersReport f report moment new text before now
+  late_refused why refused =
+      let same : new ≡ f = took.farm ∙ ap (run_of f) (refused_nothing f report moment took.mark why refused) in
+      subst (λ (g : Farm). AnswersReport f report moment g text before now) (sym same)
+      (unreplied f text before now (λ mark. report_answer f report moment mark (refusal_of f (heard_entry report moment))) (MayStore f moment (asked.Report report)) tt memory)
+
+  -- memory ran out for the reply alone
+  late_accepted : refusal_of f (heard_entry report moment) ≡ None → AnswersReport f report moment new text before now
+  late_accepted accepted =
+      let host = host_of f report moment (host_named f report.host) refl accepted in
+      let heard = heard_entry report moment in
+      let bookings = round_for (after f heard) host.0 moment in
+      let late = is_late f host.0 report moment heard bookings took.mark before now in
+      let is : reported f report moment took.mark ≡ marked_answer f host.0 report heard bookings took.mark = accepted_is f report moment host.0 took.mark accepted host.1 in
+      let lately : reported f report moment (late_mark took.mark) ≡ marked_answer f host.0 report heard bookings (late_mark took.mark) =
+      accepted_is f report moment host.0 (late_mark took.mark) accepted host.1 in
+      record {
+        mark = late_mark took.mark;
+        answer = record {
+          farm = took.farm ∙ ap (run_of f) (ap (λ (a : Answered). a.entries) is ∙ (sym late.entries ∙ sym (ap (λ (a : Answered). a.entries) lately)));
+          text = memory ∙ ap (λ (told : Reply). reply_text told ++ 10 ∷ []) (sym late.reply ∙ sym (ap (λ (a : Answered). a.reply) lately));
+        };
+        may_stand = late.may_stand took.may_stand;
+        cause = late.cause took.cause;
+      }
+
+  late_by : (why : Option Refusal) → refusal_of f (heard_entry report moment) ≡ why → AnswersReport f report moment new text before now
+  late_by None accepted = late_accepted accepted
+  late_by (Some why) refused = late_refused why refused
+
+-- the line is that of what is replied, or memory ran out for it
+pub told_report : (f new : Farm) (report : Report) (moment : ℕ) (text : List ℕ) (taken : Taken) (before now : ℕ) → TakesReport f report moment new taken before now
+    → IsLineOf taken.reply text → AnswersReport f report moment new text before now
+told_report f new report moment text taken before now took (inl line) = record {
+  mark = took.mark;
+  answer = record { farm = took.farm; text = line ∙ ap (λ (told : Reply). reply_text told ++ 10 ∷ []) took.reply };
+  may_stand = took.may_stand;
+  cause = took.cause;
+}
+told_report f new report moment text taken before now took (inr memory) =
+    late_by f new report moment text taken before now took memory (refusal_of f (heard_entry report moment)) refl

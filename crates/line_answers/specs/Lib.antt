@@ -1,4 +1,5 @@
 pub mod LineAnswers
+pub mod Asking
 pub mod Launches
 pub mod Lines
 pub mod Outcomes

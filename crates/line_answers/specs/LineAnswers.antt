@@ -1,11 +1,16 @@
 -- What answering one line does.
-use Rattle.std.specs.Prelude.{◌≡◌, ◌<◌, ◌++◌, ◌∷◌, [], ℕ, List, length, true, Result, None, Some, Ok, Err}
+use Rattle.std.specs.Prelude.{◌≡◌, ◌<◌, ◌++◌, ◌∷◌, [], ℕ, List, length, count_by, Bool, true, false, Result, None, Some, Ok, Err}
+use Rattle.farm_types.specs.declared.dispatch.Cut.{Cut}
+use Rattle.farm_types.specs.declared.dispatch.Cut.TheVariants as cut
+use Rattle.farm_types.specs.declared.entry.Act.{Act}
+use Rattle.farm_types.specs.declared.entry.Act.TheVariants as act
 use Rattle.farm_types.specs.declared.entry.Entry.{Entry}
+use Rattle.farm_lines.specs.declared.asked.Asked.{Asked}
+use Rattle.farm_lines.specs.declared.asked.Asked.TheVariants as asked
 use Rattle.farm_lines.specs.declared.reply.Reply.{Reply}
 use Rattle.farm_lines.specs.declared.reply.Reply.TheVariants as reply
 use Rattle.farm_lines.specs.declared.report.Report.{Report}
 use Rattle.farm_lines.specs.declared.request.Request.{Request}
-use Rattle.farm_lines.specs.declared.request.Request.TheVariants as request
 use Rattle.farm_lines.specs.declared.request.RequestFault.{RequestFault}
 use Rattle.farm_lines.specs.declared.request.RequestFault.TheVariants as fault
 use Rattle.farm_places.specs.declared.fault.PrepareFault.{PrepareFault}
@@ -14,18 +19,20 @@ use Rattle.line_answers.specs.declared.reply_line.ReplyLine.{ReplyLine}
 use Rattle.line_answers.specs.declared.reply_line.ReplyLine.TheVariants.{Written}
 use Rattle.line_answers.specs.declared.reply_line.ReplyLine.TheVariants as reply_line
 use Rattle.line_answers.specs.Lines.{IsLineOf}
+use Rattle.line_answers.specs.declared.taken.Taken.{Taken}
 use Rattle.farm_keeper.specs.Faults.{HasRisen}
 use Rattle.recorder.specs.declared.refusal.CommitRefusal.{CommitRefusal}
 use Rattle.recorder.specs.declared.refusal.CommitRefusal.TheVariants as commit
 use Rattle.recorder.specs.Recording.{ChangesRows}
 use Rattle.farm_changes.specs.Change.{HasHeard}
+use Rattle.farm_lines.specs.Asked.{asked_of, entry_at, heard_entry}
 use Rattle.farm_lines.specs.Request.{request_of}
 use Rattle.farm_types.specs.Dispatch.{round_for}
 use Rattle.farm_types.specs.Farm.{Farm, host_named}
 use Rattle.farm_lines.specs.Reply.{reply_text}
 use Rattle.farm_types.specs.Run.{run_of}
 use Rattle.farm_types.specs.Step.{after, refusal_of}
-use Rattle.farm_lines.specs.Transcript.{Answered, Mark, Store, StoreAfter, LateStore, answer_to, asked_answer, entry_answer, entry_of, heard_entry, is_store_mark, marked_answer, report_answer, unless_memory}
+use Rattle.farm_lines.specs.Transcript.{Answered, Mark, Plain, Store, StoreAfter, LateStore, answer_to, asked_answer, entry_answer, is_store_mark, marked_answer, report_answer, unless_memory}
 
 -- the farm took the entries of the answer, and the line is the reply's text with its newline
 pub record IsAnswer (old : Farm) (answered : Answered) (new : Farm) (line : List ℕ) : Type 0 where
@@ -46,14 +53,21 @@ pub record MayCut (f : Farm) (report : Report) (moment k : ℕ) : Type 0 where
   pub named : host_named f report.host ≡ Some host
   pub left : k < length (round_for (after f (heard_entry report moment)) host moment)
 
+-- an entry but a report's may meet the store's mark alone
+abbrev pub MayStoreEntry : Farm → Entry → Mark → Type 0
+MayStoreEntry f e Store = MayFail f e
+MayStoreEntry f e (StoreAfter k) = ⊥
+MayStoreEntry f e (LateStore k) = ⊥
+MayStoreEntry f e mark = Unit {0}
+
 -- where a mark of the store may stand: of what is asked, an entry that changes a row, or a booking of a round
-abbrev pub MayStore : Farm → ℕ → Request → Mark → Type 0
-MayStore f moment asked Store = MayFail f (entry_of asked moment)
-MayStore f moment (request.Report report) (StoreAfter k) = MayCut f report moment k
-MayStore f moment (request.Report report) (LateStore k) = MayCut f report moment k
-MayStore f moment asked (StoreAfter k) = ⊥
-MayStore f moment asked (LateStore k) = ⊥
-MayStore f moment asked mark = Unit {0}
+abbrev pub MayStore : Farm → ℕ → Asked → Mark → Type 0
+MayStore f moment (asked.Report report) Store = MayFail f (heard_entry report moment)
+MayStore f moment (asked.Report report) (StoreAfter k) = MayCut f report moment k
+MayStore f moment (asked.Report report) (LateStore k) = MayCut f report moment k
+MayStore f moment (asked.Act does) mark = MayStoreEntry f (entry_at moment does) mark
+MayStore f moment (asked.List query) mark = is_store_mark mark ≡ false
+MayStore f moment (asked.Report report) mark = Unit {0}
 
 -- a mark of the store stands only where the count of the keeper's faults rose
 abbrev pub HasCause : Mark → ℕ → ℕ → Type 0
@@ -61,7 +75,7 @@ HasCause mark before now = is_store_mark mark ≡ true → HasRisen before now
 
 -- The line asks something that may meet a mark of the store, where it has one.
 abbrev pub IsMarked : Farm → List ℕ → ℕ → Mark → Type 0
-IsMarked f line moment mark = is_store_mark mark ≡ true → (asked : Request) × (request_of line ≡ Ok asked) × MayStore f moment asked mark
+IsMarked f line moment mark = is_store_mark mark ≡ true → (what : Request) × (request_of line ≡ Ok what) × MayStore f moment (asked_of what) mark
 
 -- ---- answers
 
@@ -77,16 +91,9 @@ abbrev pub AnswersLine : Farm → List ℕ → ℕ → Farm → List ℕ → ℕ
 AnswersLine old line moment new text before now = IsMarkedAnswer old (answer_to old line moment) (IsMarked old line moment) new text before now
 
 -- what is asked was answered
-abbrev pub AnswersAsked : Farm → Request → ℕ → Farm → List ℕ → ℕ → ℕ → Type 0
-AnswersAsked old asked moment new text before now =
-    IsMarkedAnswer old (λ mark. unless_memory mark (asked_answer old moment mark asked)) (MayStore old moment asked) new text before now
-
--- an entry but a report's may meet the store's mark alone
-abbrev pub MayStoreEntry : Farm → Entry → Mark → Type 0
-MayStoreEntry f e Store = MayFail f e
-MayStoreEntry f e (StoreAfter k) = ⊥
-MayStoreEntry f e (LateStore k) = ⊥
-MayStoreEntry f e mark = Unit {0}
+abbrev pub AnswersAsked : Farm → Asked → ℕ → Farm → List ℕ → ℕ → ℕ → Type 0
+AnswersAsked old what moment new text before now =
+    IsMarkedAnswer old (λ mark. unless_memory mark (asked_answer old moment mark what)) (MayStore old moment what) new text before now
 
 -- the entry was answered, by one of the marks
 abbrev pub AnswersEntry : Farm → Entry → Farm → List ℕ → ℕ → ℕ → Type 0
@@ -97,7 +104,49 @@ AnswersEntry old e new line before now =
 abbrev pub AnswersReport : Farm → Report → ℕ → Farm → List ℕ → ℕ → ℕ → Type 0
 AnswersReport old report moment new line before now =
     IsMarkedAnswer old (λ mark. unless_memory mark (report_answer old report moment mark (refusal_of old (heard_entry report moment))))
-    (MayStore old moment (request.Report report)) new line before now
+    (MayStore old moment (asked.Report report)) new line before now
+
+-- ---- reports
+
+-- what a report makes of a farm at a moment, by what the outside did
+abbrev pub reported : Farm → Report → ℕ → Mark → Answered
+reported f report moment mark = unless_memory mark (report_answer f report moment mark (refusal_of f (heard_entry report moment)))
+
+-- the entry is a booking, and how many of these are
+abbrev pub is_booking : Act → Bool
+is_booking (act.Book slot host) = true
+is_booking other = false
+
+abbrev pub bookings_in : List Entry → ℕ
+bookings_in es = count_by (λ (e : Entry). is_booking e.act) es
+
+-- memory didn't run out
+abbrev pub is_calm : Mark → Bool
+is_calm Plain = true
+is_calm Store = true
+is_calm (StoreAfter k) = true
+is_calm mark = false
+
+-- the reply to a report tells that it did
+abbrev pub is_short : Cut → Bool
+is_short cut.Memory = true
+is_short other = false
+
+abbrev pub tells_memory : Reply → Bool
+tells_memory reply.NoMemory = true
+tells_memory (reply.Report told) = is_short told.cut
+tells_memory other = false
+
+-- The report was recorded at the moment with its round, or it wasn't, by one of the marks; the reply is the one of that mark, and so many frames were
+-- booked. Where the reply tells nothing of memory, it didn't run out.
+pub record TakesReport (old : Farm) (report : Report) (moment : ℕ) (new : Farm) (taken : Taken) (before now : ℕ) : Type 0 where
+  pub mark : Mark
+  pub farm : new ≡ run_of old (reported old report moment mark).entries
+  pub reply : taken.reply ≡ (reported old report moment mark).reply
+  pub booked : taken.booked ≡ bookings_in (reported old report moment mark).entries
+  pub calm : tells_memory taken.reply ≡ false → is_calm mark ≡ true
+  pub may_stand : MayStore old moment (asked.Report report) mark
+  pub cause : HasCause mark before now
 
 -- A change was recorded, and the line is the one that was written for it; or the store failed or memory ran out, and the farm is as before. The store
 -- fails only at a change of a row.
@@ -114,11 +163,11 @@ Hears old e (Err (commit.Refused why)) new = (refusal_of old e ≡ Some why) × 
 Hears old e (Err commit.Store) new = (refusal_of old e ≡ None) × ChangesRows old (after old e) × (new ≡ old)
 Hears old e (Err commit.NoMemory) new = new ≡ old
 
--- the report wasn't recorded: the line tells the refusal, that the store failed, or that memory ran out
-abbrev pub IsUnrecorded : CommitRefusal → List ℕ → Type 0
-IsUnrecorded (commit.Refused why) line = IsLineOf (reply.Refused why) line
-IsUnrecorded commit.Store line = line ≡ reply_text reply.Store ++ 10 ∷ []
-IsUnrecorded commit.NoMemory line = line ≡ reply_text reply.NoMemory ++ 10 ∷ []
+-- what is replied where the report wasn't recorded: the refusal, that the store failed, or that memory ran out
+abbrev pub unrecorded_reply : CommitRefusal → Reply
+unrecorded_reply (commit.Refused why) = reply.Refused why
+unrecorded_reply commit.Store = reply.Store
+unrecorded_reply commit.NoMemory = reply.NoMemory
 
 -- no change was prepared: the line tells the refusal, or that memory ran out
 abbrev pub IsUnprepared : PrepareFault → List ℕ → Type 0
@@ -139,10 +188,12 @@ MayCutRound bookings (StoreAfter k) = k < bookings
 MayCutRound bookings (LateStore k) = k < bookings
 MayCutRound bookings mark = Unit {0}
 
--- A round was walked over a farm, and the line replies to the report before it: whatever entry of the report made that farm, the line is
--- the answer by this mark.
-pub record IsRoundAnswer (old : Farm) (host : ℕ) (report : Report) (moment : ℕ) (new : Farm) (line : List ℕ) (before now : ℕ) : Type 0 where
+-- A round was walked over a farm, and the reply is to the report before it: whatever entry of the report made that farm, it is the answer by this mark.
+pub record TakesRound (old : Farm) (host : ℕ) (report : Report) (moment : ℕ) (new : Farm) (taken : Taken) (before now : ℕ) : Type 0 where
   pub mark : Mark
-  pub answer : (f : Farm) (heard : Entry) → after f heard ≡ old → IsAnswer f (marked_answer f host report heard (round_for old host moment) mark) new line
+  pub farm : (f : Farm) (heard : Entry) → after f heard ≡ old → new ≡ run_of f (marked_answer f host report heard (round_for old host moment) mark).entries
+  pub reply : (f : Farm) (heard : Entry) → after f heard ≡ old → taken.reply ≡ (marked_answer f host report heard (round_for old host moment) mark).reply
+  pub booked : (f : Farm) (heard : Entry) → is_booking heard.act ≡ false → taken.booked ≡ bookings_in (marked_answer f host report heard (round_for old host moment) mark).entries
+  pub calm : tells_memory taken.reply ≡ false → is_calm mark ≡ true
   pub may_stand : MayCutRound (length (round_for old host moment)) mark
   pub cause : HasCause mark before now

@@ -7,7 +7,8 @@ use Rattle.farm_types.specs.Farm.{Farm, host_named}
 use Rattle.farm_lines.specs.declared.reply.Reply.TheVariants as reply
 use Rattle.farm_lines.specs.Request.{request_of}
 use Rattle.farm_types.specs.Step.{refusal_of, after}
-use Rattle.farm_lines.specs.Transcript.{Mark, Plain, LatePlain, answer_to, heard_entry, only_reply, request_answer}
+use Rattle.farm_lines.specs.Asked.{heard_entry}
+use Rattle.farm_lines.specs.Transcript.{Mark, Plain, LatePlain, answer_to, only_reply, request_answer}
 use Rattle.farm_lines.specs.declared.limits.TheConstants.{LINE_LIMIT}
 
 -- the round that follows a report was walked to its end, whatever came of the reply

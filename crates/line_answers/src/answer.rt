@@ -1,7 +1,10 @@
 //! Answering one line.
 
 ghost use Rattle.std.specs.Prelude.{◌≡◌, ◌≤◌, length};
-ghost use Rattle.farm_lines.specs.Transcript.{act_of, entry_of};
+ghost use Rattle.farm_lines.specs.Asked.{IsFormedAsked, asked_of};
+ghost use Rattle.farm_lines.specs.Lists.{list_of};
+ghost use Rattle.farm_lines.specs.Transcript.{list_reply};
+ghost use Rattle.line_answers.specs.Asking.{IsUnbooked};
 ghost use Rattle.farm_types.specs.Formed.{IsFormed};
 ghost use Rattle.farm_types.specs.Step.{HasCondition};
 ghost use Rattle.report_codec.specs.Reads.{AsksWithin};
@@ -11,10 +14,12 @@ ghost use Rattle.farm_lines.specs.declared.limits.TheConstants.{LINE_LIMIT};
 
 use crate::answer_entry::answer_entry;
 use crate::answer_report::answer_report;
-use crate::reply_line::{ReplyLine, line_of};
+use crate::reply_line::{ReplyLine, line_of, refusal_line};
+use cue_query::{QueryFault, list};
+use farm_core::Farm;
 use farm_keeper::Keeper;
-use farm_lines::{Reply, Request, RequestFault};
-use farm_types::{Act, Entry, HeardAct};
+use farm_lines::{Asked, Query, Reply, Request, RequestFault};
+use farm_types::{Act, Entry};
 use recorder::PlainRecorder;
 use report_codec::read_request;
 use std::alloc::Global;
@@ -37,21 +42,50 @@ pub fn answer_line<K: Keeper>(
     }
 }
 
-// Answers what a line asks.
+// Answers a request.
 fn answer_request<K: Keeper>(
     alloc: Global,
     recorder: &mut PlainRecorder<K>,
-    asked: Request,
+    request: Request,
     moment: u64,
 ) -> ReplyLine
-    requires { AsksWithin asked }
+    requires { AsksWithin request }
+    ensures answer { AnswersAsked recorder.old.farm (asked_of request) moment recorder.new.farm (shown result) (K.faults recorder.old.keeper) (K.faults recorder.new.keeper) }
+    ensures told { K.tells recorder.new.keeper → K.tells recorder.old.keeper }
+    ensures rises { K.faults recorder.old.keeper ≤ K.faults recorder.new.keeper }
+{
+    answer_asked(alloc, recorder, asked_of(request), moment)
+}
+
+// Answers what is asked.
+fn answer_asked<K: Keeper>(
+    alloc: Global,
+    recorder: &mut PlainRecorder<K>,
+    asked: Asked,
+    moment: u64,
+) -> ReplyLine
+    requires formed { IsFormedAsked asked }
+    requires unbooked { IsUnbooked asked }
     ensures answer { AnswersAsked recorder.old.farm asked moment recorder.new.farm (shown result) (K.faults recorder.old.keeper) (K.faults recorder.new.keeper) }
     ensures told { K.tells recorder.new.keeper → K.tells recorder.old.keeper }
     ensures rises { K.faults recorder.old.keeper ≤ K.faults recorder.new.keeper }
 {
     match asked {
-        Request::Report(report) => answer_report(alloc, recorder, report, moment),
-        asked => answer_taken(alloc, recorder, entry_of(asked, moment)),
+        Asked::Report(report) => answer_report(alloc, recorder, report, moment),
+        Asked::Act(act) => answer_taken(alloc, recorder, Entry { moment, act }),
+        Asked::List(query) => answer_list(alloc, recorder.read(), query),
+    }
+}
+
+// Answers a list, and lets the question go.
+#[tactic(auto, using(crate::proofs::AnswerLemmas::listed_page, crate::proofs::AnswerLemmas::listed_refusal))]
+fn answer_list(alloc: Global, farm: &Farm, query: Query) -> ReplyLine
+    ensures { IsLineOf (list_reply (list_of farm.now query)) (shown result) }
+{
+    match list(alloc, farm, &query) {
+        Ok(page) => line_of(alloc, &Reply::List(page)),
+        Err(QueryFault::Refused { why }) => refusal_line(alloc, why),
+        Err(QueryFault::NoMemory) => ReplyLine::NoMemory,
     }
 }
 
@@ -70,41 +104,28 @@ fn answer_taken<K: Keeper>(
     answer_entry(alloc, recorder, &entry)
 }
 
-// The entry of a request.
-fn entry_of(asked: Request, moment: u64) -> Entry
-    ensures { result ≡ entry_of asked moment }
+// What a request comes to.
+fn asked_of(request: Request) -> Asked
+    ensures value { result ≡ asked_of request }
+    ensures unbooked { IsUnbooked result }
 {
-    Entry {
-        moment,
-        act: act_of(asked),
-    }
-}
-
-// What the entry of a request does.
-fn act_of(asked: Request) -> Act
-    ensures { result ≡ act_of asked }
-{
-    match asked {
-        Request::Show { name } => Act::Show { name },
-        Request::Alloc { facility, tag } => Act::Alloc { facility, tag },
-        Request::Sub(line) => Act::Sub(line),
-        Request::Boot(line) => Act::Boot(line),
-        Request::Report(report) => Act::Heard(HeardAct {
-            host: report.host,
-            boot: report.boot,
-            seq: report.seq,
-            done: report.done,
-        }),
-        Request::Lock { host, lock } => Act::Lock { host, lock },
-        Request::Submit(spec) => Act::Submit(spec),
-        Request::Depend(spec) => Act::AddDepend(spec),
-        Request::Drop { depend } => Act::DropDepend { depend },
-        Request::Pause { job, paused } => Act::Pause { job, paused },
-        Request::KillJob { job } => Act::KillJob { job },
-        Request::KillFrame(place) => Act::KillFrame(place),
-        Request::EatFrame(place) => Act::EatFrame(place),
-        Request::RetryFrame(place) => Act::RetryFrame(place),
-        Request::Tick => Act::Tick,
+    match request {
+        Request::Show { name } => Asked::Act(Act::Show { name }),
+        Request::Alloc { facility, tag } => Asked::Act(Act::Alloc { facility, tag }),
+        Request::Sub(line) => Asked::Act(Act::Sub(line)),
+        Request::Boot(line) => Asked::Act(Act::Boot(line)),
+        Request::Report(report) => Asked::Report(report),
+        Request::Lock { host, lock } => Asked::Act(Act::Lock { host, lock }),
+        Request::Submit(spec) => Asked::Act(Act::Submit(spec)),
+        Request::Depend(spec) => Asked::Act(Act::AddDepend(spec)),
+        Request::Drop { depend } => Asked::Act(Act::DropDepend { depend }),
+        Request::Pause { job, paused } => Asked::Act(Act::Pause { job, paused }),
+        Request::KillJob { job } => Asked::Act(Act::KillJob { job }),
+        Request::KillFrame(place) => Asked::Act(Act::KillFrame(place)),
+        Request::EatFrame(place) => Asked::Act(Act::EatFrame(place)),
+        Request::RetryFrame(place) => Asked::Act(Act::RetryFrame(place)),
+        Request::Tick => Asked::Act(Act::Tick),
+        Request::List(query) => Asked::List(query),
     }
 }
 

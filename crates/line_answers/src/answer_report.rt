@@ -3,24 +3,26 @@
 ghost use Rattle.std.specs.Prelude.{◌≡◌, ◌≤◌, ◌++◌, ◌∷◌, [], ℕ, IfOk, Some};
 ghost use Rattle.std.specs.Result.{IsErrOf};
 ghost use Rattle.farm_types.specs.declared.entry.Act.TheVariants as act;
+ghost use Rattle.farm_types.specs.declared.limits.TheConstants.{BOOKINGS_EACH};
 ghost use Rattle.farm_types.specs.Farm.{Farm};
 ghost use Rattle.farm_keeper.specs.Faults.{HasRisen};
 ghost use Rattle.recorder.specs.declared.refusal.CommitRefusal.TheVariants as refusal;
 ghost use Rattle.recorder.specs.Recording.{IsOfEntry};
 ghost use Rattle.farm_types.specs.Formed.{IsFormed};
-ghost use Rattle.farm_lines.specs.Reply.{reply_text, report_reply};
-ghost use Rattle.farm_lines.specs.Transcript.{heard_entry};
-ghost use Rattle.line_answers.specs.LineAnswers.{AnswersReport, Hears, IsRoundAnswer, IsUnrecorded};
-ghost use Rattle.line_answers.specs.Lines.{shown};
-ghost use Rattle.line_answers.specs.Reports.{IsHeard, IsTold, heard_of};
+ghost use Rattle.farm_lines.specs.Asked.{heard_entry, heard_of};
+ghost use Rattle.farm_lines.specs.Reply.{report_reply};
+ghost use Rattle.line_answers.specs.LineAnswers.{AnswersReport, Hears, TakesReport, TakesRound, unrecorded_reply};
+ghost use Rattle.line_answers.specs.Lines.{IsLineOf, shown};
+ghost use Rattle.line_answers.specs.Reports.{IsHeard, IsTold};
 
 use crate::launches::{acks, kills, launches};
-use crate::reply_line::{ReplyLine, refusal_line, write_line};
+use crate::reply_line::{ReplyLine, line_of};
+use crate::taken::Taken;
 use dispatch_plan::round;
 use farm_core::{Change, Farm};
 use farm_keeper::Keeper;
 use farm_lines::{Reply, Report, ReportReply};
-use farm_types::{Act, Attempt, Cut, Entry, HeardAct, HostNo, Items, Text};
+use farm_types::{Act, Attempt, Cut, Entry, HeardAct, HostNo, Items};
 use recorder::{CommitRefusal, PlainRecorder};
 use std::alloc::{AllocError, Global};
 
@@ -36,19 +38,47 @@ pub fn answer_report<K: Keeper>(
     ensures told { K.tells recorder.new.keeper → K.tells recorder.old.keeper }
     ensures rises { K.faults recorder.old.keeper ≤ K.faults recorder.new.keeper }
 {
+    let taken = take_report(alloc, recorder, report, moment);
+    taken_line(alloc, taken.reply)
+}
+
+/// Records a report and its round, and says what is replied to it and how many frames were booked.
+pub fn take_report<K: Keeper>(
+    alloc: Global,
+    recorder: &mut PlainRecorder<K>,
+    report: Report,
+    moment: u64,
+) -> Taken
+    requires { IsFormed (heard_entry report moment) }
+    ensures taken { TakesReport recorder.old.farm report moment recorder.new.farm result (K.faults recorder.old.keeper) (K.faults recorder.new.keeper) }
+    ensures few { result.booked ≤ BOOKINGS_EACH }
+    ensures told { K.tells recorder.new.keeper → K.tells recorder.old.keeper }
+    ensures rises { K.faults recorder.old.keeper ≤ K.faults recorder.new.keeper }
+{
     let (heard, running) = parts_of(report);
     let entry = Entry {
         moment,
         act: Act::Heard(heard),
     };
     let recorded = record_heard(alloc, recorder, &entry);
-    answer_recorded(
+    take_recorded(
         alloc,
         recorder,
         recorded,
         &report_of(heard_in(entry), running),
         moment,
     )
+}
+
+// The line of the reply to a report, or that memory ran out.
+fn taken_line(alloc: Global, reply: Reply) -> ReplyLine
+    ensures { IsLineOf reply (shown result) }
+{
+    match reply {
+        Reply::Store => ReplyLine::Store,
+        Reply::NoMemory => ReplyLine::NoMemory,
+        reply => line_of(alloc, &reply),
+    }
 }
 
 // Records what a report tells, and says which host it is of.
@@ -87,34 +117,38 @@ fn record_change<K: Keeper>(
     Ok(host)
 }
 
-// Walks the round after a report that was recorded, and gives the line of the report's reply.
-fn answer_recorded<K: Keeper>(
+// Walks the round after a report that was recorded, and says what is replied.
+fn take_recorded<K: Keeper>(
     alloc: Global,
     recorder: &mut PlainRecorder<K>,
     recorded: Result<HostNo, CommitRefusal>,
     report: &Report,
     moment: u64,
-) -> ReplyLine
-    ensures answer { (f : Farm) (before : ℕ) → Hears f (heard_entry report.now moment) recorded recorder.old.farm → before ≤ K.faults recorder.old.keeper
+) -> Taken
+    ensures taken { (f : Farm) (before : ℕ) → Hears f (heard_entry report.now moment) recorded recorder.old.farm → before ≤ K.faults recorder.old.keeper
         → (IsErrOf recorded refusal.Store → HasRisen before (K.faults recorder.old.keeper))
-        → AnswersReport f report.now moment recorder.new.farm (shown result) before (K.faults recorder.new.keeper) }
+        → TakesReport f report.now moment recorder.new.farm result before (K.faults recorder.new.keeper) }
+    ensures few { result.booked ≤ BOOKINGS_EACH }
     ensures told { K.tells recorder.new.keeper → K.tells recorder.old.keeper }
     ensures rises { K.faults recorder.old.keeper ≤ K.faults recorder.new.keeper }
 {
     match recorded {
-        Ok(host) => line_after_round(alloc, recorder, host, report, moment),
-        Err(why) => unrecorded_line(alloc, why),
+        Ok(host) => take_round(alloc, recorder, host, report, moment),
+        Err(why) => Taken {
+            reply: unrecorded_reply(why),
+            booked: 0,
+        },
     }
 }
 
-// The line of the reply where the report wasn't recorded.
-fn unrecorded_line(alloc: Global, why: CommitRefusal) -> ReplyLine
-    ensures { IsUnrecorded why (shown result) }
+// What is replied where the report wasn't recorded.
+fn unrecorded_reply(why: CommitRefusal) -> Reply
+    ensures { result ≡ unrecorded_reply why }
 {
     match why {
-        CommitRefusal::Refused { why } => refusal_line(alloc, why),
-        CommitRefusal::Store => ReplyLine::Store,
-        CommitRefusal::NoMemory => ReplyLine::NoMemory,
+        CommitRefusal::Refused { why } => Reply::Refused(why),
+        CommitRefusal::Store => Reply::Store,
+        CommitRefusal::NoMemory => Reply::NoMemory,
     }
 }
 
@@ -168,37 +202,30 @@ fn report_of(heard: HeardAct, running: Items<Attempt>) -> Report
     }
 }
 
-// Walks the round that follows a report, and gives the line of the report's reply.
-fn line_after_round<K: Keeper>(
+// Walks the round that follows a report, and says what is replied to the report.
+fn take_round<K: Keeper>(
     alloc: Global,
     recorder: &mut PlainRecorder<K>,
     host: HostNo,
     report: &Report,
     moment: u64,
-) -> ReplyLine
-    ensures answer { IsRoundAnswer recorder.old.farm host report.now moment recorder.new.farm (shown result) (K.faults recorder.old.keeper) (K.faults recorder.new.keeper) }
+) -> Taken
+    ensures taken { TakesRound recorder.old.farm host report.now moment recorder.new.farm result (K.faults recorder.old.keeper) (K.faults recorder.new.keeper) }
+    ensures few { result.booked ≤ BOOKINGS_EACH }
     ensures told { K.tells recorder.new.keeper → K.tells recorder.old.keeper }
     ensures rises { K.faults recorder.old.keeper ≤ K.faults recorder.new.keeper }
 {
-    let cut = round(alloc, recorder, host, moment);
-    match report_line(alloc, recorder.read(), host, report, cut) {
-        Ok(line) => ReplyLine::Written(line),
-        Err(_) => ReplyLine::NoMemory,
+    let walked = round(alloc, recorder, host, moment);
+    match report_reply(alloc, recorder.read(), host, report, walked.cut) {
+        Ok(reply) => Taken {
+            reply,
+            booked: walked.booked,
+        },
+        Err(_) => Taken {
+            reply: Reply::NoMemory,
+            booked: walked.booked,
+        },
     }
-}
-
-// The line of the reply to a report over the farm as it is.
-fn report_line(
-    alloc: Global,
-    farm: &Farm,
-    host: HostNo,
-    report: &Report,
-    cut: Cut,
-) -> Result<Text, AllocError>
-    ensures { IfOk result (λ line. line ≡ reply_text (report_reply farm.now host report.now cut) ++ 10 ∷ []) }
-{
-    let reply = report_reply(alloc, farm, host, report, cut)?;
-    write_line(alloc, &reply)
 }
 
 // The reply to a report over the farm as it is.

@@ -5,13 +5,22 @@ ghost use Rattle.std.specs.List.{All};
 ghost use Rattle.farm_lines.specs.declared.report.Report.{Report};
 ghost use Rattle.farm_types.specs.Farm.{Farm};
 ghost use Rattle.farm_types.specs.Run.{IsLegal};
+ghost use Rattle.farm_lines.specs.Asked.{heard_entry};
 ghost use Rattle.farm_lines.specs.Transcript.{Mark, Exchange, entries_in};
+ghost use Rattle.farm_types.specs.Formed.{IsFormed};
+ghost use Rattle.line_answers.specs.LineAnswers.{reported};
 ghost use Rattle.line_answers.specs.Outcomes.{WalksWhole, IsTaken, HasWholeRound, IsAnsweredFully};
 
 /// Whatever lines come, at whatever moments of 64 bits, and wherever memory runs out or the store fails, the entries that are recorded are a legal run.
 #[tactic(auto, using(crate::proofs::LegalLemmas::exchanges_legal))]
 pub fn sessions_are_legal()
     ensures { (f : Farm) (exchanges : List Exchange) → All (λ t. t.moment < 2 ^ 64) exchanges → IsLegal f (entries_in f exchanges) }
+{}
+
+/// Whatever a formed report tells, at whatever moment, and wherever memory runs out or the store fails, the entries that are recorded for it are a legal run.
+#[tactic(auto, using(crate::proofs::LegalLemmas::reported_legal))]
+pub fn reports_are_legal()
+    ensures { (f : Farm) (report : Report) (moment : ℕ) (mark : Mark) → IsFormed (heard_entry report moment) → IsLegal f (reported f report moment mark).entries }
 {}
 
 /// A report that the farm takes is recorded with exactly its round of bookings, unless memory ran out or the store failed before it was recorded or

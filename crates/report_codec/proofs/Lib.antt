@@ -1,3 +1,1 @@
-pub mod Newlines
-pub mod Printed
 pub mod ReadLemmas

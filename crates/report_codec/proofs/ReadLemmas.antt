@@ -6,10 +6,10 @@ use Rattle.cue_json.specs.Lines.{object_in}
 use Rattle.farm_lines.specs.declared.request.Request.{Request}
 use Rattle.farm_lines.specs.declared.request.RequestFault.{RequestFault}
 use Rattle.farm_lines.specs.Request.{request_in, request_of}
-use Rattle.farm_lines.proofs.RequestLemmas.{act_formed}
+use Rattle.farm_lines.proofs.RequestLemmas.{asked_is_formed}
 use Rattle.report_codec.specs.Reads.{AsksWithin, IsRequest}
 
 pub asks_within : (line : List ℕ) (found : Option Members) (read : Result Request RequestFault) → object_in line ≡ found → IsRequest read (request_in found) → IfOk read AsksWithin
 unfolding request_of
-asks_within line found (Ok asked) is gives = act_formed line asked (ap request_in is ∙ gives)
+asks_within line found (Ok asked) is gives = asked_is_formed line asked (ap request_in is ∙ gives)
 asks_within line found (Err fault) is gives = tt

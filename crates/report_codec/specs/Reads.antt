@@ -5,8 +5,7 @@ use Rattle.farm_lines.specs.declared.request.RequestFault.{RequestFault}
 use Rattle.farm_lines.specs.declared.request.RequestFault.TheVariants.{BadLine, BadRange, BadAmount, NoMemory}
 use Rattle.farm_lines.specs.Request.{RequestError}
 use Rattle.farm_lines.specs.Request as error
-use Rattle.farm_types.specs.Formed.{IsFormedAct}
-use Rattle.farm_lines.specs.Transcript.{act_of}
+use Rattle.farm_lines.specs.Asked.{IsFormedAsked, asked_of}
 
 -- the call's fault is the one that was to be read, unless memory ran out
 abbrev pub Fails : RequestFault → Result Request RequestError → Type 0
@@ -20,6 +19,6 @@ abbrev pub IsRequest : Result Request RequestFault → Result Request RequestErr
 IsRequest (Ok asked) read = read ≡ Ok asked
 IsRequest (Err fault) read = Fails fault read
 
--- what is asked makes an act within its forms and limits
+-- what is asked is within the forms and limits of its act
 abbrev pub AsksWithin : Request → Type 0
-AsksWithin asked = IsFormedAct (act_of asked)
+AsksWithin what = IsFormedAsked (asked_of what)

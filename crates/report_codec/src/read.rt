@@ -9,6 +9,7 @@ use crate::alloc_line::read_alloc;
 use crate::boot_line::read_boot;
 use crate::depend_line::read_depend;
 use crate::drop_line::read_drop;
+use crate::list_line::read_list;
 use crate::lock_line::read_lock;
 use crate::operator_line::{read_eat, read_kill, read_pause, read_retry};
 use crate::report_line::read_report;
@@ -21,7 +22,7 @@ use farm_lines::{Request, RequestFault};
 use farm_types::Text;
 use std::alloc::Global;
 
-/// What the line asks, or its first fault. What is asked makes an act within its forms and limits.
+/// What the line asks, or its first fault. What is asked is within the forms and limits of its act.
 #[tactic(auto, unfolding(farm_lines::specs::Request::request_of))]
 pub fn read_request(alloc: Global, line: &[u8]) -> Result<Request, RequestFault>
     ensures gives { IsRequest result (request_of line.now) }
@@ -72,6 +73,7 @@ fn request_by_op(alloc: Global, object: &Map, op: &str) -> Result<Request, Reque
         "eat" => read_eat(alloc, object),
         "retry" => read_retry(alloc, object),
         "tick" => read_tick(alloc, object),
+        "list" => read_list(alloc, object),
         _ => Err(RequestFault::from(FieldFault::wrong_kind(alloc, "op"))),
     }
 }

@@ -2,15 +2,16 @@
 
 ghost use Rattle.std.specs.Prelude.{◌≡◌, OnOk};
 ghost use Rattle.farm_types.specs.declared.refusal.Refusal.TheVariants.{Unknown, Finished, Exists, WrongBoot, Stale, FarmFull, Satisfied, WrongState, VersionSpent, SelfDepend, Started, Full};
-ghost use Rattle.farm_lines.specs.Reply.{counted_word, refusal_data, state_word};
-ghost use Rattle.report_codec.specs.Tokens.{added, tokens_of};
+ghost use Rattle.farm_lines.specs.Reply.{counted_word, refusal_data};
+ghost use Rattle.farm_lines.specs.Words.{state_word};
+ghost use Rattle.line_writer.specs.Tokens.{added, tokens_of};
 
-use crate::reply_writer::ReplyWriter;
 use farm_types::{Counted, FrameState, Refusal};
+use line_writer::{LineWriter, state_word};
 use std::alloc::AllocError;
 
 /// The refusal with its code and what it shows.
-pub fn write_refusal(out: &mut ReplyWriter, why: &Refusal) -> Result<(), AllocError>
+pub fn write_refusal(out: &mut LineWriter, why: &Refusal) -> Result<(), AllocError>
     ensures { OnOk result (out.new ≡ added out.old (tokens_of (refusal_data why.now))) }
 {
     match why {
@@ -30,7 +31,7 @@ pub fn write_refusal(out: &mut ReplyWriter, why: &Refusal) -> Result<(), AllocEr
 }
 
 #[tactic(auto, unfolding(farm_lines::specs::Reply::refusal_data))]
-fn write_unknown(out: &mut ReplyWriter, name: &str) -> Result<(), AllocError>
+fn write_unknown(out: &mut LineWriter, name: &str) -> Result<(), AllocError>
     ensures { OnOk result (out.new ≡ added out.old (tokens_of (refusal_data (Unknown name.now)))) }
 {
     out.begin_object()?;
@@ -42,7 +43,7 @@ fn write_unknown(out: &mut ReplyWriter, name: &str) -> Result<(), AllocError>
 }
 
 #[tactic(auto, unfolding(farm_lines::specs::Reply::refusal_data))]
-fn write_finished(out: &mut ReplyWriter, name: &str) -> Result<(), AllocError>
+fn write_finished(out: &mut LineWriter, name: &str) -> Result<(), AllocError>
     ensures { OnOk result (out.new ≡ added out.old (tokens_of (refusal_data (Finished name.now)))) }
 {
     out.begin_object()?;
@@ -54,7 +55,7 @@ fn write_finished(out: &mut ReplyWriter, name: &str) -> Result<(), AllocError>
 }
 
 #[tactic(auto, unfolding(farm_lines::specs::Reply::refusal_data))]
-fn write_exists(out: &mut ReplyWriter, name: &str) -> Result<(), AllocError>
+fn write_exists(out: &mut LineWriter, name: &str) -> Result<(), AllocError>
     ensures { OnOk result (out.new ≡ added out.old (tokens_of (refusal_data (Exists name.now)))) }
 {
     out.begin_object()?;
@@ -66,7 +67,7 @@ fn write_exists(out: &mut ReplyWriter, name: &str) -> Result<(), AllocError>
 }
 
 #[tactic(auto, unfolding(farm_lines::specs::Reply::refusal_data))]
-fn write_wrong_boot(out: &mut ReplyWriter, boot: u32) -> Result<(), AllocError>
+fn write_wrong_boot(out: &mut LineWriter, boot: u32) -> Result<(), AllocError>
     ensures { OnOk result (out.new ≡ added out.old (tokens_of (refusal_data (WrongBoot boot)))) }
 {
     out.begin_object()?;
@@ -78,7 +79,7 @@ fn write_wrong_boot(out: &mut ReplyWriter, boot: u32) -> Result<(), AllocError>
 }
 
 #[tactic(auto, unfolding(farm_lines::specs::Reply::refusal_data))]
-fn write_stale(out: &mut ReplyWriter, last: u64) -> Result<(), AllocError>
+fn write_stale(out: &mut LineWriter, last: u64) -> Result<(), AllocError>
     ensures { OnOk result (out.new ≡ added out.old (tokens_of (refusal_data (Stale last)))) }
 {
     out.begin_object()?;
@@ -90,7 +91,7 @@ fn write_stale(out: &mut ReplyWriter, last: u64) -> Result<(), AllocError>
 }
 
 #[tactic(auto, unfolding(farm_lines::specs::Reply::refusal_data))]
-fn write_farm_full(out: &mut ReplyWriter, free: u32) -> Result<(), AllocError>
+fn write_farm_full(out: &mut LineWriter, free: u32) -> Result<(), AllocError>
     ensures { OnOk result (out.new ≡ added out.old (tokens_of (refusal_data (FarmFull free)))) }
 {
     out.begin_object()?;
@@ -102,7 +103,7 @@ fn write_farm_full(out: &mut ReplyWriter, free: u32) -> Result<(), AllocError>
 }
 
 #[tactic(auto, unfolding(farm_lines::specs::Reply::refusal_data))]
-fn write_satisfied(out: &mut ReplyWriter) -> Result<(), AllocError>
+fn write_satisfied(out: &mut LineWriter) -> Result<(), AllocError>
     ensures { OnOk result (out.new ≡ added out.old (tokens_of (refusal_data Satisfied))) }
 {
     out.begin_object()?;
@@ -114,7 +115,7 @@ fn write_satisfied(out: &mut ReplyWriter) -> Result<(), AllocError>
 }
 
 #[tactic(auto, unfolding(farm_lines::specs::Reply::refusal_data))]
-fn write_wrong_state(out: &mut ReplyWriter, state: FrameState) -> Result<(), AllocError>
+fn write_wrong_state(out: &mut LineWriter, state: FrameState) -> Result<(), AllocError>
     ensures { OnOk result (out.new ≡ added out.old (tokens_of (refusal_data (WrongState state)))) }
 {
     let state = state_word(state);
@@ -127,7 +128,7 @@ fn write_wrong_state(out: &mut ReplyWriter, state: FrameState) -> Result<(), All
 }
 
 #[tactic(auto, unfolding(farm_lines::specs::Reply::refusal_data))]
-fn write_version_spent(out: &mut ReplyWriter, frame: &str) -> Result<(), AllocError>
+fn write_version_spent(out: &mut LineWriter, frame: &str) -> Result<(), AllocError>
     ensures { OnOk result (out.new ≡ added out.old (tokens_of (refusal_data (VersionSpent frame.now)))) }
 {
     out.begin_object()?;
@@ -139,7 +140,7 @@ fn write_version_spent(out: &mut ReplyWriter, frame: &str) -> Result<(), AllocEr
 }
 
 #[tactic(auto, unfolding(farm_lines::specs::Reply::refusal_data))]
-fn write_self_depend(out: &mut ReplyWriter, frame: &str) -> Result<(), AllocError>
+fn write_self_depend(out: &mut LineWriter, frame: &str) -> Result<(), AllocError>
     ensures { OnOk result (out.new ≡ added out.old (tokens_of (refusal_data (SelfDepend frame.now)))) }
 {
     out.begin_object()?;
@@ -151,7 +152,7 @@ fn write_self_depend(out: &mut ReplyWriter, frame: &str) -> Result<(), AllocErro
 }
 
 #[tactic(auto, unfolding(farm_lines::specs::Reply::refusal_data))]
-fn write_started(out: &mut ReplyWriter, frame: &str) -> Result<(), AllocError>
+fn write_started(out: &mut LineWriter, frame: &str) -> Result<(), AllocError>
     ensures { OnOk result (out.new ≡ added out.old (tokens_of (refusal_data (Started frame.now)))) }
 {
     out.begin_object()?;
@@ -163,7 +164,7 @@ fn write_started(out: &mut ReplyWriter, frame: &str) -> Result<(), AllocError>
 }
 
 #[tactic(auto, unfolding(farm_lines::specs::Reply::refusal_data))]
-fn write_full(out: &mut ReplyWriter, limit: u64, what: Counted) -> Result<(), AllocError>
+fn write_full(out: &mut LineWriter, limit: u64, what: Counted) -> Result<(), AllocError>
     ensures { OnOk result (out.new ≡ added out.old (tokens_of (refusal_data (Full limit what)))) }
 {
     let what = counted_word(what);
@@ -174,21 +175,6 @@ fn write_full(out: &mut ReplyWriter, limit: u64, what: Counted) -> Result<(), Al
     out.text("what", what)?;
     out.text("why", "full")?;
     out.end_object()
-}
-
-// The word of a reply for a frame's state.
-fn state_word(state: FrameState) -> &'static str
-    ensures { result.now ≡ state_word state }
-{
-    match state {
-        FrameState::Waiting => "WAITING",
-        FrameState::Setup => "SETUP",
-        FrameState::Running => "RUNNING",
-        FrameState::Succeeded => "SUCCEEDED",
-        FrameState::Depend => "DEPEND",
-        FrameState::Dead => "DEAD",
-        FrameState::Eaten => "EATEN",
-    }
 }
 
 // The word of a reply for what is counted.

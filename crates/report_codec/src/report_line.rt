@@ -8,13 +8,13 @@ ghost use Rattle.farm_lines.specs.declared.request.Request.TheVariants as reques
 ghost use Rattle.farm_lines.specs.Reply.{attempt_data, attempts_data, cut_text, launch_data, launches_data, report_data};
 ghost use Rattle.farm_lines.specs.Request.{asked, report_at};
 ghost use Rattle.report_codec.specs.Reads.{IsRequest};
-ghost use Rattle.report_codec.specs.Tokens.{added, tokens_of};
+ghost use Rattle.line_writer.specs.Tokens.{added, tokens_of};
 
 use crate::item;
-use crate::reply_writer::ReplyWriter;
 use cue_json::{FieldFault, Map};
 use farm_lines::{Launch, Report, ReportReply, Request, RequestFault, read_name};
 use farm_types::{Attempt, Cut, LAST_BOOT};
+use line_writer::LineWriter;
 use std::alloc::{AllocError, Global};
 
 /// The report that the object is, or its first fault.
@@ -51,7 +51,7 @@ fn report(alloc: Global, object: &Map) -> Result<Report, FieldFault>
 
 /// The reply to a report: cores in hundredths of a core, memory in KB.
 #[tactic(auto, unfolding(farm_lines::specs::Reply::report_data))]
-pub fn write_report(out: &mut ReplyWriter, report: &ReportReply) -> Result<(), AllocError>
+pub fn write_report(out: &mut LineWriter, report: &ReportReply) -> Result<(), AllocError>
     ensures { OnOk result (out.new ≡ added out.old (tokens_of (report_data report.now.boot report.now.seq (cut_text report.now.cut) report.now.acks report.now.kills report.now.launches))) }
 {
     out.begin_object()?;
@@ -65,7 +65,7 @@ pub fn write_report(out: &mut ReplyWriter, report: &ReportReply) -> Result<(), A
     out.end_object()
 }
 
-fn write_attempts(out: &mut ReplyWriter, name: &str, attempts: &[Attempt]) -> Result<(), AllocError>
+fn write_attempts(out: &mut LineWriter, name: &str, attempts: &[Attempt]) -> Result<(), AllocError>
     ensures { OnOk result (out.new ≡ added out.old (key name.now ∷ tokens_of (attempts_data attempts.now))) }
 {
     out.begin_list(name)?;
@@ -75,7 +75,7 @@ fn write_attempts(out: &mut ReplyWriter, name: &str, attempts: &[Attempt]) -> Re
     out.end_list()
 }
 
-fn write_launches(out: &mut ReplyWriter, name: &str, launches: &[Launch]) -> Result<(), AllocError>
+fn write_launches(out: &mut LineWriter, name: &str, launches: &[Launch]) -> Result<(), AllocError>
     ensures { OnOk result (out.new ≡ added out.old (key name.now ∷ tokens_of (launches_data launches.now))) }
 {
     out.begin_list(name)?;
@@ -86,7 +86,7 @@ fn write_launches(out: &mut ReplyWriter, name: &str, launches: &[Launch]) -> Res
 }
 
 #[tactic(auto, unfolding(farm_lines::specs::Reply::attempt_data))]
-fn write_attempt(out: &mut ReplyWriter, attempt: Attempt) -> Result<(), AllocError>
+fn write_attempt(out: &mut LineWriter, attempt: Attempt) -> Result<(), AllocError>
     ensures { OnOk result (out.new ≡ added out.old (tokens_of (attempt_data attempt))) }
 {
     out.begin_object()?;
@@ -96,7 +96,7 @@ fn write_attempt(out: &mut ReplyWriter, attempt: Attempt) -> Result<(), AllocErr
 }
 
 #[tactic(auto, unfolding(farm_lines::specs::Reply::launch_data))]
-fn write_launch(out: &mut ReplyWriter, launch: &Launch) -> Result<(), AllocError>
+fn write_launch(out: &mut LineWriter, launch: &Launch) -> Result<(), AllocError>
     ensures { OnOk result (out.new ≡ added out.old (tokens_of (launch_data launch.now))) }
 {
     out.begin_object()?;

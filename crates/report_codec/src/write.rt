@@ -2,38 +2,39 @@
 
 ghost use Rattle.std.specs.Prelude.{◌≡◌, IfOk, OnOk};
 ghost use Rattle.farm_lines.specs.Reply.{done_data, reply_data, reply_text};
-ghost use Rattle.report_codec.specs.Tokens.{added, tokens_of};
+ghost use Rattle.line_writer.specs.Tokens.{added, tokens_of};
 
 use crate::boot_line::write_boot;
 use crate::depend_line::write_depend;
 use crate::drop_line::write_dropped;
 use crate::fault_reply::{
-    write_bad_amount, write_bad_line, write_bad_range, write_no_memory, write_store_fault,
-    write_too_long,
+    write_bad_amount, write_bad_line, write_bad_range, write_entries_full, write_no_memory,
+    write_still_held, write_store_fault, write_too_long,
 };
+use crate::list_reply::write_list;
 use crate::operator_line::write_ended;
 use crate::refusal_reply::write_refusal;
-use crate::reply_writer::ReplyWriter;
 use crate::report_line::write_report;
 use crate::sub_line::write_sub;
 use crate::submit_line::write_submitted;
 use crate::tick_line::write_tick;
 use farm_lines::Reply;
 use farm_types::Text;
+use line_writer::LineWriter;
 use std::alloc::{AllocError, Global};
 
 /// The reply as compact JSON, its keys in byte order, without a newline.
-#[tactic(auto, using(crate::proofs::Printed::reply_printed))]
+#[tactic(auto, using(line_writer::proofs::Printed::data_printed))]
 pub fn write_reply(alloc: Global, reply: &Reply) -> Result<Text, AllocError>
     ensures { IfOk result (λ text. text ≡ reply_text reply.now) }
 {
-    let mut out = ReplyWriter::new(alloc)?;
+    let mut out = LineWriter::new(alloc)?;
     write_object(&mut out, reply)?;
     Ok(out.into_text())
 }
 
 // The reply as an object, its keys in byte order. Amounts of cores are in hundredths of a core.
-fn write_object(out: &mut ReplyWriter, reply: &Reply) -> Result<(), AllocError>
+fn write_object(out: &mut LineWriter, reply: &Reply) -> Result<(), AllocError>
     ensures { OnOk result (out.new ≡ added out.old (tokens_of (reply_data reply.now))) }
 {
     match reply {
@@ -50,11 +51,14 @@ fn write_object(out: &mut ReplyWriter, reply: &Reply) -> Result<(), AllocError>
         Reply::Dropped { opened } => write_dropped(out, *opened),
         Reply::Ended { ended } => write_ended(out, *ended),
         Reply::Report(report) => write_report(out, report),
+        Reply::List(list) => write_list(out, list),
         Reply::BadLine { field } => write_bad_line(out, field.as_str()),
         Reply::TooLong => write_too_long(out),
         Reply::BadRange { layer, fault } => write_bad_range(out, layer.as_str(), *fault),
         Reply::BadAmount { field } => write_bad_amount(out, field.as_str()),
         Reply::Refused(why) => write_refusal(out, why),
+        Reply::StillHeld { cores, memory } => write_still_held(out, *cores, *memory),
+        Reply::EntriesFull => write_entries_full(out),
         Reply::Store => write_store_fault(out),
         Reply::NoMemory => write_no_memory(out),
     }
@@ -62,7 +66,7 @@ fn write_object(out: &mut ReplyWriter, reply: &Reply) -> Result<(), AllocError>
 
 // Done, with nothing to tell.
 #[tactic(auto, unfolding(farm_lines::specs::Reply::done_data))]
-fn write_done(out: &mut ReplyWriter) -> Result<(), AllocError>
+fn write_done(out: &mut LineWriter) -> Result<(), AllocError>
     ensures { OnOk result (out.new ≡ added out.old (tokens_of done_data)) }
 {
     out.begin_object()?;

@@ -1,5 +1,7 @@
 mod ExchangeLemmas
+mod LoadLemmas
 pub mod NewKeepers
+mod NumberLemmas
 mod OpenedLegal
 mod OpenedRun
 mod OpenedStore

@@ -5,11 +5,12 @@ use Rattle.farm_types.specs.declared.entry.Entry.{Entry}
 use Rattle.farm_types.specs.Farm.{Farm}
 use Rattle.farm_types.specs.Run.{IsLegal, run_of}
 use Rattle.farm_types.specs.Step.{after}
+use Rattle.farm_gen.specs.Load.{load_entries}
 use Rattle.farm_law.specs.DemoRun.{demo_entries}
 use Rattle.farm_keeper.specs.Faults.{HasRisen}
 use Rattle.recorder.specs.declared.refusal.RecordFault.{RecordFault}
 use Rattle.session.specs.Opening.{GoesThrough}
-use Rattle.session.specs.Words.{WordForm, Demo, Script, opened_entry, opening_entries}
+use Rattle.session.specs.Words.{WordForm, Demo, Load, Script, opened_at, opened_entry, opening_entries}
 
 -- ---- counts of faults
 
@@ -47,18 +48,28 @@ goes_on f mid new e es (Err why) first (done, is) = (suc done, is ∙ ap (λ (g 
 
 -- ---- the opening, and then the entries of the form
 
-abbrev later_entries : WordForm → ℕ → List Entry
+abbrev pub later_entries : WordForm → ℕ → List Entry
 later_entries Demo moment = demo_entries moment
 later_entries (Script store) moment = []
+later_entries (Load n) moment = load_entries n
 
-opening_is : (form : WordForm) (moment : ℕ) → opening_entries form moment ≡ opened_entry moment ∷ later_entries form moment
+opening_is : (form : WordForm) (moment : ℕ) → opening_entries form moment ≡ opened_entry (opened_at form moment) ∷ later_entries form moment
 opening_is Demo moment = refl
 opening_is (Script store) moment = refl
+opening_is (Load n) moment = refl
 
-pub opening_stops : (f new : Farm) (form : WordForm) (moment : ℕ) (why : RecordFault) (r : Result (Unit {0}) RecordFault) → IsErrAnd r (λ told. told ≡ why)
-    → GoesThrough {T = Unit {0}} f (opened_entry moment ∷ []) (Err why) new → GoesThrough f (opening_entries form moment) r new
-opening_stops f new form moment why r err goes =
-    subst (λ (es : List Entry). GoesThrough f es r new) (sym (opening_is form moment)) (stops_there f new (opened_entry moment) (later_entries form moment) why r err goes)
+pub opening_stops : (f new : Farm) (form : WordForm) (moment at : ℕ) (why : RecordFault) (r : Result (Unit {0}) RecordFault) → at ≡ opened_at form moment → IsErrAnd r (λ told. told ≡ why)
+    → GoesThrough {T = Unit {0}} f (opened_entry at ∷ []) (Err why) new → GoesThrough f (opening_entries form moment) r new
+opening_stops f new form moment at why r is err goes =
+    subst (λ (es : List Entry). GoesThrough f es r new) (sym (opening_is form moment))
+    (stops_there f new (opened_entry (opened_at form moment)) (later_entries form moment) why r err
+    (subst (λ (n : ℕ). GoesThrough {T = Unit {0}} f (opened_entry n ∷ []) (Err why) new) is goes))
+
+pub opening_goes : (f mid new : Farm) (form : WordForm) (moment at : ℕ) (r : Result (Unit {0}) RecordFault) → at ≡ opened_at form moment → mid ≡ after f (opened_entry at)
+    → GoesThrough mid (later_entries form moment) r new → GoesThrough f (opening_entries form moment) r new
+opening_goes f mid new form moment at r is first goes =
+    subst (λ (es : List Entry). GoesThrough f es r new) (sym (opening_is form moment))
+    (goes_on f mid new (opened_entry (opened_at form moment)) (later_entries form moment) r (first ∙ ap (λ (n : ℕ). after f (opened_entry n)) is) goes)
 
 -- ---- a list of entries, one by one
 

@@ -17,7 +17,7 @@ use Rattle.recovery.specs.Recovered.{recovered, spelled_row}
 use Rattle.recovery.specs.declared.fault.RecoverFault.{RecoverFault}
 use Rattle.store_law.specs.Stored.{stored}
 use Rattle.session.specs.Opening.{MayOpen, Says}
-use Rattle.session.specs.Words.{WordForm, Demo, IsScript, Script}
+use Rattle.session.specs.Words.{WordForm, Demo, IsScript, IsStated, Load, Script}
 
 -- ---- what a keeper has
 
@@ -65,15 +65,24 @@ says_empty tells held none is told rows there list lists =
 
 -- ---- before the opening
 
-pub made_recorded : (held left : Rows → Type 0) (f : Farm) → f ≡ empty_farm → MayOpen Demo held left → HasRecorded held left f
-made_recorded held left f is may = recorded_of held left empty f (ap stored is ∙ stored_empty) may.0
+-- a farm that is stated begins with no rows
+stated_empty : (form : WordForm) (held left : Rows → Type 0) → IsStated form → MayOpen form held left → HasKept held left empty [] × ((rows : Rows) → held rows → rows ≡ empty)
+stated_empty Demo held left stated may = may
+stated_empty (Load n) held left stated may = may
+stated_empty (Script store) held left stated may = absurd stated
 
-pub made_says : (tells : Type 0) (held left : Rows → Type 0) (f : Farm) → f ≡ empty_farm → (tells → MayOpen Demo held left) → recovered [] ≡ Ok empty_farm → Says tells held f
-made_says tells held left f is may none = subst (Says tells held) (sym is) (says_empty tells held (λ told. (may told).1) none)
+pub made_recorded : (form : WordForm) (held left : Rows → Type 0) (f : Farm) → f ≡ empty_farm → IsStated form → MayOpen form held left → HasRecorded held left f
+made_recorded form held left f is stated may = recorded_of held left empty f (ap stored is ∙ stored_empty) (stated_empty form held left stated may).0
+
+pub made_says : (form : WordForm) (tells : Type 0) (held left : Rows → Type 0) (f : Farm) → f ≡ empty_farm → IsStated form → (tells → MayOpen form held left)
+    → recovered [] ≡ Ok empty_farm → Says tells held f
+made_says form tells held left f is stated may none =
+    subst (Says tells held) (sym is) (says_empty tells held (λ told. (stated_empty form held left stated (may told)).1) none)
 
 script_kept : (form : WordForm) (held left : Rows → Type 0) → IsScript form → MayOpen form held left → (rows : Rows) × HasKept held left rows []
 script_kept Demo held left script may = absurd script
 script_kept (Script store) held left script may = may
+script_kept (Load n) held left script may = absurd script
 
 -- the farm that was recovered of the rows that were loaded is the one that the keeper has
 pub loaded_recorded : (form : WordForm) (held left held' left' : Rows → Type 0) (list : List Row) (f : Farm) → IsScript form → MayOpen form held left

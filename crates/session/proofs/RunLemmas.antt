@@ -6,7 +6,7 @@ use Rattle.cue_io.specs.Faults.{HasRisen}
 use Rattle.cue_io.specs.Input.{Takes-none}
 use Rattle.cue_io.specs.Output.{Adds, Adds-none}
 use Rattle.cue_io.specs.declared.limits.TheConstants.{BYTE_LIMIT}
-use Rattle.cue_io.specs.Readings.{Tells, Tells-append}
+use Rattle.cue_io.specs.Readings.{Tells, Tells-append, Tells-none}
 use Rattle.farm_types.specs.declared.entry.Entry.{Entry}
 use Rattle.farm_types.specs.Farm.{Farm}
 use Rattle.farm_types.specs.Kept.{IsKeptFarm}
@@ -23,8 +23,10 @@ use Rattle.session.specs.declared.exchanged.Exchanged.TheVariants as exchanged
 use Rattle.session.specs.declared.opening.OpenFault.{OpenFault}
 use Rattle.session.specs.declared.opening.OpenFault.TheVariants as fault
 use Rattle.session.specs.Opening.{HasFailed, IsOpened, IsPartOpened, Says}
-use Rattle.session.specs.Sessions.{AnswersAll, Call, EndsWell, Ends, HasLines, HasMoved, HaveCauses, IsBadStore, IsCall, IsNoSession, IsOpening, IsSession, MayTell, Streams, TellsBad, TellsFault, TellsLine, status_of, streams}
-use Rattle.session.specs.Words.{WordForm, form_of, opened_farm, word_form}
+use Rattle.session.specs.Loads.{AnswersLoad}
+use Rattle.session.specs.Sessions.{AnswersAll, AnswersForm, AnswersLoadCall, Call, EndsEarly, EndsWell, Ends, HasLines, HasMoved, HaveCauses, IsBadStore, IsCall, IsNoSession, IsOpening, MayTell, Streams, TellsBad, TellsFault, TellsLine, status_of, streams}
+use Rattle.session.specs.Words.{WordForm, Demo, Script, Load, TakesLines, form_of, opened_farm, word_form}
+use Rattle.session.proofs.LoadLemmas.{called_load}
 
 -- the code found no form
 pub no_form : (found : Option Form) (formed : Option WordForm) → option_map word_form found ≡ formed → ((form : Form) → found ≡ Some form → ⊥) → formed ≡ None
@@ -44,6 +46,13 @@ idle seen = told_call [] seen
 unspent_idle : (status : ℕ) → (status ≡ 8 → ⊥) → (status ≡ 8) ↔ ((0 ≡ BYTE_LIMIT) × (status ≡ 5 → ⊥))
 unspent_idle status other = (λ is. absurd (other is), λ both. absurd (omega (arith, both.0)))
 
+-- so it ends well, whatever was asked for
+ends_early : (form : Option WordForm) (status : ℕ) (call : Call) → EndsEarly status call → EndsWell form status call
+ends_early None status call early = early
+ends_early (Some Demo) status call early = early
+ends_early (Some (Script store)) status call early = early
+ends_early (Some (Load n)) status call early = inl early
+
 -- the arguments are invalid
 pub called_for_usage : (words : List (List ℕ)) (left : Option (List ℕ)) (r : ℕ) (written : Option (List ℕ)) (w : ℕ) (readings : Option (List ℕ)) (k : ℕ)
     (says : Farm → Type 0) (bad : RecoverFault → Type 0) (untouched : Type 0) (holds : Farm → Type 0) → untouched → form_of words ≡ None → Tells readings readings []
@@ -51,7 +60,7 @@ pub called_for_usage : (words : List (List ℕ)) (left : Option (List ℕ)) (r :
 called_for_usage words left r written w readings k says bad untouched holds kept none tells = record {
   moved = record { taken = Takes-none left; written = Adds-none written; readings = tells };
   session = inl (record { status_is = inl refl; none_taken = refl; none_written = refl; kept = inl kept });
-  spent = unspent_idle 2 (λ is. omega (arith, is));
+  spent = λ lines. unspent_idle 2 (λ is. omega (arith, is));
   complete = λ formed right unfailed unread unwritten few. absurd (true≢false (sym formed ∙ ap is_some none));
 }
 
@@ -62,8 +71,8 @@ pub called_for_memory : (words : List (List ℕ)) (left : Option (List ℕ)) (r 
 called_for_memory words left r written w readings k says bad untouched holds kept tells = record {
   moved = record { taken = Takes-none left; written = Adds-none written; readings = tells };
   session = inl (record { status_is = inr (inr refl); none_taken = refl; none_written = refl; kept = inl kept });
-  spent = unspent_idle 7 (λ is. omega (arith, is));
-  complete = λ formed right unfailed unread unwritten few. inr (refl, refl, refl);
+  spent = λ lines. unspent_idle 7 (λ is. omega (arith, is));
+  complete = λ formed right unfailed unread unwritten few. ends_early (form_of words) 7 (idle []) (inr (refl, refl, refl));
 }
 
 -- ---- no farm was opened
@@ -112,24 +121,24 @@ module _ (words : List (List ℕ)) (form : WordForm) (opened : ℕ) (says : Farm
       })
 
   -- a row at fault was told, or memory ran out for it
-  bad_told : (why : RecoverFault) (status : ℕ) (call : Call) (left : Option (List ℕ)) (k k' : ℕ) → call.taken ≡ [] → MayTell (TellsBad why status call.written) status call.written → bad why → untouched
-      → IsNoSession words status call says untouched holds ⊎ (IsBadStore status call bad untouched ⊎ IsSession words status call left k k' says holds)
-  bad_told why status call left k k' none (inl told) is_bad kept = inr (inl (record { fault = why; is_bad = is_bad; told = told; none_taken = none; kept = kept }))
-  bad_told why status call left k k' none (inr told) is_bad kept = inl (record { status_is = inr (inr told.0); none_taken = none; none_written = told.1; kept = inl kept })
+  bad_told : (why : RecoverFault) (status : ℕ) (call : Call) (More : Type 0) → call.taken ≡ [] → MayTell (TellsBad why status call.written) status call.written → bad why → untouched
+      → IsNoSession words status call says untouched holds ⊎ (IsBadStore status call bad untouched ⊎ More)
+  bad_told why status call More none (inl told) is_bad kept = inr (inl (record { fault = why; is_bad = is_bad; told = told; none_taken = none; kept = kept }))
+  bad_told why status call More none (inr told) is_bad kept = inl (record { status_is = inr (inr told.0); none_taken = none; none_written = told.1; kept = inl kept })
 
   -- how no farm was opened
-  failed_session : (why : OpenFault) (status : ℕ) (call : Call) (left : Option (List ℕ)) (k k' : ℕ) (risen : Type 0) → call.taken ≡ [] → call.readings ≡ opened ∷ []
+  failed_session : (why : OpenFault) (status : ℕ) (call : Call) (More risen : Type 0) → call.taken ≡ [] → call.readings ≡ opened ∷ []
       → TellsFault why status call.written → HasFailed why bad untouched (IsPartOpened says holds form opened) risen
-      → IsNoSession words status call says untouched holds ⊎ (IsBadStore status call bad untouched ⊎ IsSession words status call left k k' says holds)
-  failed_session fault.Store status call left k k' risen none reads told failed =
+      → IsNoSession words status call says untouched holds ⊎ (IsBadStore status call bad untouched ⊎ More)
+  failed_session fault.Store status call More risen none reads told failed =
       inl (record { status_is = inr (inl told.0); none_taken = none; none_written = told.1; kept = part_opened call reads failed.1 })
-  failed_session (fault.Bad why) status call left k k' risen none reads told failed = bad_told why status call left k k' none told failed.0 failed.1
-  failed_session fault.NoMemory status call left k k' risen none reads told failed =
+  failed_session (fault.Bad why) status call More risen none reads told failed = bad_told why status call More none told failed.0 failed.1
+  failed_session fault.NoMemory status call More risen none reads told failed =
       inl (record { status_is = inr (inr told.0); none_taken = none; none_written = told.1; kept = part_opened call reads failed })
 
   -- it ends early by a fault of the store, a row at fault or memory alone
   failed_complete : (why : OpenFault) (status : ℕ) (call : Call) (risen : Type 0) → call.taken ≡ [] → TellsFault why status call.written
-      → HasFailed why bad untouched (IsPartOpened says holds form opened) risen → ((why : RecoverFault) → bad why → ⊥) → (risen → ⊥) → EndsWell status call
+      → HasFailed why bad untouched (IsPartOpened says holds form opened) risen → ((why : RecoverFault) → bad why → ⊥) → (risen → ⊥) → EndsEarly status call
   failed_complete fault.Store status call risen none told failed right unfailed = absurd (unfailed failed.0)
   failed_complete (fault.Bad why) status call risen none told failed right unfailed = absurd (right why failed.0)
   failed_complete fault.NoMemory status call risen none told failed right unfailed = inr (told.0, none, told.1)
@@ -144,9 +153,10 @@ module _ (words : List (List ℕ)) (form : WordForm) (opened : ℕ) (says : Farm
       let other : status ≡ 8 → ⊥ = λ is. omega (arith, is, fault_low why status wrote told) in
       record {
         moved = record { taken = Takes-none left; written = adds; readings = reads };
-        session = failed_session why status call left k k' (HasRisen k k') refl refl told failed;
-        spent = unspent_idle status other;
-        complete = λ valid right unfailed unread unwritten few. failed_complete why status call (HasRisen k k') refl told failed right unfailed;
+        session = failed_session why status call _ (HasRisen k k') refl refl told failed;
+        spent = λ lines. unspent_idle status other;
+        complete = λ valid right unfailed unread unwritten few.
+            ends_early (form_of words) status call (failed_complete why status call (HasRisen k k') refl told failed right unfailed);
       }
 
 -- ---- a session
@@ -204,13 +214,13 @@ pub opened_still : (told_then told_now : Type 0) (held : Rows → Type 0) (form 
 opened_still told_then told_now held form opened farm told o = record { first = o.first; said = λ tells. o.said (told tells); legal = o.legal; farm_is = o.farm_is }
 
 -- a session over a farm that was opened
-pub called_session : (words : List (List ℕ)) (form : WordForm) (status : ℕ) (opened : ℕ) (farm : Farm) (call : Call) (before after : Streams) (mid : Option (List ℕ)) (k : ℕ)
+called_session : (words : List (List ℕ)) (form : WordForm) (status : ℕ) (opened : ℕ) (farm : Farm) (call : Call) (before after : Streams) (mid : Option (List ℕ)) (k : ℕ)
     (says : Farm → Type 0) (bad : RecoverFault → Type 0) (untouched : Type 0) (holds : Farm → Type 0)
-    → form_of words ≡ Some form → IsOpened says form opened farm → Tells before.readings mid (opened ∷ []) → before.store_faults ≤ k
+    → TakesLines form → form_of words ≡ Some form → IsOpened says form opened farm → Tells before.readings mid (opened ∷ []) → before.store_faults ≤ k
     → AnswersAll status farm (streams before.left before.read_faults before.written before.write_faults mid k) after call holds
     → (status ≡ 4 → HasRisen before.read_faults after.read_faults) → (status ≡ 5 → HasRisen before.write_faults after.write_faults)
     → IsCall words status before after (opened_call opened call) says bad untouched holds
-called_session words form status opened farm call before after mid k says bad untouched holds formed opening reads rises answered read write =
+called_session words form status opened farm call before after mid k says bad untouched holds of_lines formed opening reads rises answered read write =
     let first : Farm = opened_farm form opening.first opened in
     let over : AnswersAll status first (streams before.left before.read_faults before.written before.write_faults mid k) after call holds
     = subst (λ (f : Farm). AnswersAll status f (streams before.left before.read_faults before.written before.write_faults mid k) after call holds) opening.farm_is answered in
@@ -222,12 +232,13 @@ called_session words form status opened farm call before after mid k says bad un
         written = moved.written;
         readings = Tells-append before.readings mid after.readings (opened ∷ []) call.readings reads moved.readings;
       };
-      session = inr (inr (record {
+      session = inr (inr (inl (record {
         form = form;
         opened = opened;
         ended = over.ended;
         first = opening.first;
         formed = formed;
+        of_lines = of_lines;
         said = opening.said;
         status_is = over.status_is;
         lines = ends.lines;
@@ -239,7 +250,35 @@ called_session words form status opened farm call before after mid k says bad un
         marked = ends.marked;
         causes = causes_earlier call.exchanges before.store_faults k after.store_faults rises ends.causes;
         held = subst holds ends.farm_is over.held;
-      }));
-      spent = spent_session over.ended status call after.left over.status_is ends.lines;
-      complete = λ valid right unfailed unread unwritten few. inl (complete_session over.ended status call after.left _ _ over.status_is ends.lines read write unread unwritten few);
+      })));
+      spent = λ lines. spent_session over.ended status call after.left over.status_is ends.lines;
+      complete = λ valid right unfailed unread unwritten few.
+          ends_early (form_of words) status (opened_call opened call)
+          (inl (complete_session over.ended status call after.left _ _ over.status_is ends.lines read write unread unwritten few));
     }
+
+-- a load moves nothing but its sink and the keeper
+pub load_called : (n status : ℕ) (first : Farm) (left : Option (List ℕ)) (r : ℕ) (written written' : Option (List ℕ)) (w w' : ℕ) (readings : Option (List ℕ)) (k k' : ℕ)
+    (wrote : List ℕ) (holds : Farm → Type 0) → Adds written written' wrote → AnswersLoad n first status wrote k k' holds
+    → AnswersLoadCall n status first (streams left r written w readings k) (streams left r written' w' readings k') (told_call wrote []) holds
+load_called n status first left r written written' w w' readings k k' wrote holds adds answered = record {
+  moved = record { taken = Takes-none left; written = adds; readings = Tells-none readings };
+  none_taken = refl;
+  none_read = refl;
+  no_lines = refl;
+  answered = answered;
+}
+
+-- a session or a load over a farm that was opened
+pub called_opened : (words : List (List ℕ)) (form : WordForm) (status : ℕ) (opened : ℕ) (farm : Farm) (call : Call) (before after : Streams) (mid : Option (List ℕ)) (k : ℕ)
+    (says : Farm → Type 0) (bad : RecoverFault → Type 0) (untouched : Type 0) (holds : Farm → Type 0)
+    → form_of words ≡ Some form → IsOpened says form opened farm → Tells before.readings mid (opened ∷ []) → before.store_faults ≤ k
+    → AnswersForm form status farm (streams before.left before.read_faults before.written before.write_faults mid k) after call holds
+    → (status ≡ 4 → HasRisen before.read_faults after.read_faults) → (status ≡ 5 → HasRisen before.write_faults after.write_faults)
+    → IsCall words status before after (opened_call opened call) says bad untouched holds
+called_opened words Demo status opened farm call before after mid k says bad untouched holds formed opening reads rises answered read write =
+    called_session words Demo status opened farm call before after mid k says bad untouched holds tt formed opening reads rises answered read write
+called_opened words (Script store) status opened farm call before after mid k says bad untouched holds formed opening reads rises answered read write =
+    called_session words (Script store) status opened farm call before after mid k says bad untouched holds tt formed opening reads rises answered read write
+called_opened words (Load n) status opened farm call before after mid k says bad untouched holds formed opening reads rises answered read write =
+    called_load words n status opened farm call before after mid k says bad untouched holds formed opening reads rises answered write

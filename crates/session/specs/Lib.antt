@@ -1,4 +1,5 @@
 pub mod Hints
+pub mod Loads
 pub mod Opening
 pub mod Sessions
 pub mod Words

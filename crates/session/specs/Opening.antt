@@ -20,14 +20,15 @@ use Rattle.session.specs.declared.opening.OpenFault.{OpenFault}
 use Rattle.session.specs.declared.opening.OpenFault.TheVariants as fault
 use Rattle.session.specs.declared.opening.Opening.{Opening}
 use Rattle.session.specs.declared.opening.Opening.TheVariants as opening
-use Rattle.session.specs.Words.{WordForm, Demo, Script, opened_farm, opening_entries}
+use Rattle.session.specs.Words.{WordForm, Demo, Script, Load, opened_farm, opening_entries}
 
 -- ---- what is known of a keeper
 
--- a store in which a farm may be opened: no commit was refused since the last one that was taken, and the demonstration begins with no rows
+-- a store in which a farm may be opened: no commit was refused since the last one that was taken, and the demonstration and a load begin with no rows
 abbrev pub MayOpen : WordForm → (Rows → Type 0) → (Rows → Type 0) → Type 0
 MayOpen Demo held left = HasKept held left empty [] × ((rows : Rows) → held rows → rows ≡ empty)
 MayOpen (Script store) held left = (rows : Rows) × HasKept held left rows []
+MayOpen (Load n) held left = HasKept held left empty [] × ((rows : Rows) → held rows → rows ≡ empty)
 
 -- the rows that were held say the farm, or why there is none, where the keeper tells the truth
 abbrev pub Says : Type 0 → (Rows → Type 0) → Farm → Type 0

@@ -23,7 +23,8 @@ use Rattle.session.specs.declared.exchanged.Exchanged.{Exchanged}
 use Rattle.session.specs.declared.exchanged.Exchanged.TheVariants as exchanged
 use Rattle.session.specs.declared.opening.OpenFault.{OpenFault}
 use Rattle.session.specs.declared.opening.OpenFault.TheVariants as fault
-use Rattle.session.specs.Words.{WordForm, form_of, opened_farm, opening_entries}
+use Rattle.session.specs.Loads.{AnswersLoad}
+use Rattle.session.specs.Words.{WordForm, Load, TakesLines, form_of, is_load, opened_farm, opening_entries}
 use Rattle.farm_lines.specs.declared.limits.TheConstants.{LINE_LIMIT}
 
 -- ---- one line
@@ -209,7 +210,20 @@ pub record AnswersAll (status : ℕ) (first : Farm) (before after : Streams) (ca
   pub safe : IsSafe first (entries_in first call.exchanges)
   pub held : holds last
 
--- The arguments have a form, and the farm of the store was opened at the clock's first reading, with the entries of the form. The session over it
+-- A load over a farm that was opened moved nothing but its sink and the keeper.
+pub record AnswersLoadCall (n : ℕ) (status : ℕ) (first : Farm) (before after : Streams) (call : Call) (holds : Farm → Type 0) : Type 0 where
+  pub moved : HasMoved before after call
+  pub none_taken : call.taken ≡ []
+  pub none_read : call.readings ≡ []
+  pub no_lines : call.exchanges ≡ []
+  pub answered : AnswersLoad n first status call.written before.store_faults after.store_faults holds
+
+-- what the arguments ask for was done over a farm that was opened
+abbrev pub AnswersForm : WordForm → ℕ → Farm → Streams → Streams → Call → (Farm → Type 0) → Type 0
+AnswersForm (Load n) status first before after call holds = AnswersLoadCall n status first before after call holds
+AnswersForm other status first before after call holds = AnswersAll status first before after call holds
+
+-- The arguments ask for a session of lines, and the farm of the store was opened at the clock's first reading, with the entries of the form. The session over it
 -- ended with this status. Its lines are those of the bytes taken, and what it wrote are their replies, each at a reading of the clock. The entries that
 -- it recorded are a legal run from the opened farm, and a safe one, and the store holds the farm that they make.
 pub record IsSession (words : List (List ℕ)) (status : ℕ) (call : Call) (left : Option (List ℕ)) (faults faults_now : ℕ) (says holds : Farm → Type 0) : Type 0 where
@@ -218,6 +232,7 @@ pub record IsSession (words : List (List ℕ)) (status : ℕ) (call : Call) (lef
   pub ended : Exchanged
   pub first : Farm
   pub formed : form_of words ≡ Some form
+  pub of_lines : TakesLines form
   pub said : says first
   pub status_is : status ≡ status_of ended
   pub lines : HasLines ended call.taken (lines_in call.exchanges) left
@@ -229,6 +244,20 @@ pub record IsSession (words : List (List ℕ)) (status : ℕ) (call : Call) (lef
   pub marked : AreMarked (opened_farm form first opened) call.exchanges
   pub causes : HaveCauses call.exchanges faults faults_now
   pub held : holds (farm_after (opened_farm form first opened) call.exchanges)
+
+-- The arguments ask for a load, and its farm was opened, at moment 0: the clock was read once, for nothing, and no line was taken. The load was run over
+-- that farm.
+pub record IsLoadCall (words : List (List ℕ)) (status : ℕ) (call : Call) (faults faults_now : ℕ) (says holds : Farm → Type 0) : Type 0 where
+  pub n : ℕ
+  pub reading : ℕ
+  pub first : Farm
+  pub formed : form_of words ≡ Some (Load n)
+  pub said : says first
+  pub readings : call.readings ≡ reading ∷ []
+  pub none_taken : call.taken ≡ []
+  pub no_lines : call.exchanges ≡ []
+  pub opening_legal : IsLegal first (opening_entries (Load n) reading)
+  pub answered : AnswersLoad n (opened_farm (Load n) first reading) status call.written faults faults_now holds
 
 -- The opening, at the clock's one reading, went so far: these of its entries, which are a legal run, are in the store.
 pub record IsOpening (words : List (List ℕ)) (call : Call) (says holds : Farm → Type 0) : Type 0 where
@@ -277,19 +306,24 @@ pub record IsBadStore (status : ℕ) (call : Call) (bad : RecoverFault → Type 
   pub none_taken : call.taken ≡ []
   pub kept : untouched
 
--- the input was read to its end, each of its lines answered; or memory ran out before the first line, and nothing was taken or written
-abbrev pub EndsWell : ℕ → Call → Type 0
-EndsWell status call = (status ≡ 0) ⊎ ((status ≡ 7) × (call.taken ≡ []) × (call.written ≡ []))
+-- the input was read to its end, each of its lines answered, or the job of a load finished; or memory ran out, and nothing was taken or written
+abbrev pub EndsEarly : ℕ → Call → Type 0
+EndsEarly status call = (status ≡ 0) ⊎ ((status ≡ 7) × (call.taken ≡ []) × (call.written ≡ []))
+
+-- or the job of a load isn't finished after the most rounds
+abbrev pub EndsWell : Option WordForm → ℕ → Call → Type 0
+EndsWell (Some (Load n)) status call = EndsEarly status call ⊎ (status ≡ 8)
+EndsWell other status call = EndsEarly status call
 
 -- A call for these arguments that answered this status. Of its keeper it is known which farm its rows say, or why they say none, that it is as it was, or
--- that it holds a farm. It was a session, or none. Status 8 comes exactly where the bytes that one session
+-- that it holds a farm. It was a session, a load, or none. But for a load, status 8 comes exactly where the bytes that one session
 -- takes are spent and no write failed. Where the arguments are valid and the store's rows say a farm, nothing but an I/O error, a fault of the store and
 -- that limit ends the call early.
 pub record IsCall (words : List (List ℕ)) (status : ℕ) (before after : Streams) (call : Call) (says : Farm → Type 0) (bad : RecoverFault → Type 0) (untouched : Type 0)
     (holds : Farm → Type 0) : Type 0 where
   pub moved : HasMoved before after call
   pub session : IsNoSession words status call says untouched holds ⊎ (IsBadStore status call bad untouched
-      ⊎ IsSession words status call after.left before.store_faults after.store_faults says holds)
-  pub spent : (status ≡ 8) ↔ ((length call.taken ≡ BYTE_LIMIT) × (status ≡ 5 → ⊥))
+      ⊎ (IsSession words status call after.left before.store_faults after.store_faults says holds ⊎ IsLoadCall words status call before.store_faults after.store_faults says holds))
+  pub spent : is_load (form_of words) ≡ false → (status ≡ 8) ↔ ((length call.taken ≡ BYTE_LIMIT) × (status ≡ 5 → ⊥))
   pub complete : is_some (form_of words) ≡ true → ((fault : RecoverFault) → bad fault → ⊥) → (HasRisen before.store_faults after.store_faults → ⊥)
-      → (HasRisen before.read_faults after.read_faults → ⊥) → (HasRisen before.write_faults after.write_faults → ⊥) → length call.taken < BYTE_LIMIT → EndsWell status call
+      → (HasRisen before.read_faults after.read_faults → ⊥) → (HasRisen before.write_faults after.write_faults → ⊥) → length call.taken < BYTE_LIMIT → EndsWell (form_of words) status call

@@ -3,6 +3,8 @@
 
 mod exchange;
 mod exchanged;
+mod load;
+mod number;
 mod opening;
 mod program;
 mod run;

@@ -9,11 +9,12 @@ ghost use Rattle.farm_keeper.specs.Faults.{HasRisen};
 ghost use Rattle.farm_keeper.specs.Keeping.{Keeps};
 ghost use Rattle.recovery.specs.Recovered.{recovered};
 ghost use Rattle.session.specs.Opening.{Begins, GoesThrough, HasRecovered, IsLoaded, MayOpen, Opens, of_keeper, of_record, of_recovery};
-ghost use Rattle.session.specs.Words.{Demo, IsScript, opened_entry, opening_entries, word_form};
+ghost use Rattle.farm_gen.specs.Load.{IsLoad, load_entries};
+ghost use Rattle.session.specs.Words.{IsScript, IsStated, IsWithin, opened_at, opened_entry, opening_entries, word_form};
 
 use crate::words::Form;
 use farm_core::Farm;
-use farm_gen::demo_entries;
+use farm_gen::{demo_entries, load_entries, loads_are_runs};
 use farm_keeper::{Keeper, KeeperFault, Row};
 use farm_law::the_demonstration_is_a_run;
 use farm_types::{Act, Entry};
@@ -37,26 +38,30 @@ pub enum Opening<K: Keeper> {
 }
 
 /// Opens the farm of the arguments at a moment (seconds): recovers the farm that the keeper's rows say, and records that it was opened, and what the
-/// arguments state. The demonstration begins with no rows, so that none are loaded.
+/// arguments state. The demonstration and a load begin with no rows, so that none are loaded; a load is opened at moment 0, whatever the time.
 pub fn open<K: Keeper>(alloc: Global, form: Form<'_>, keeper: K, moment: u64) -> Opening<K>
-    requires { K.tells keeper → MayOpen (word_form form) (K.holds keeper) (K.left keeper) }
+    requires within { IsWithin (word_form form) }
+    requires kept { K.tells keeper → MayOpen (word_form form) (K.holds keeper) (K.left keeper) }
     ensures { Opens K.tells K.holds K.left K.faults (word_form form.entry) moment keeper result }
 {
     match form {
-        Form::Demo => open_new(alloc, keeper, moment),
+        Form::Demo | Form::Load { .. } => open_new(alloc, form, keeper, moment),
         Form::Script { .. } => open_stored(alloc, form, keeper, moment),
     }
 }
 
-// Opens the farm of the demonstration.
-fn open_new<K: Keeper>(alloc: Global, keeper: K, moment: u64) -> Opening<K>
-    requires { K.tells keeper → MayOpen Demo (K.holds keeper) (K.left keeper) }
-    ensures { Opens K.tells K.holds K.left K.faults Demo moment keeper result }
+// Opens the farm of the demonstration or of a load.
+fn open_new<K: Keeper>(alloc: Global, form: Form<'_>, keeper: K, moment: u64) -> Opening<K>
+    requires stated { IsStated (word_form form) }
+    requires within { IsWithin (word_form form) }
+    requires kept { K.tells keeper → MayOpen (word_form form) (K.holds keeper) (K.left keeper) }
+    ensures { Opens K.tells K.holds K.left K.faults (word_form form.entry) moment keeper result }
 {
     no_rows_are_the_empty_farm();
     the_demonstration_is_a_run();
+    loads_are_runs();
     match Farm::make(alloc) {
-        Ok(farm) => begin(alloc, Form::Demo, PlainRecorder::make(farm, keeper), moment),
+        Ok(farm) => begin(alloc, form, PlainRecorder::make(farm, keeper), moment),
         Err(_) => Opening::Failed {
             keeper,
             fault: OpenFault::NoMemory,
@@ -109,7 +114,8 @@ fn begin<K: Keeper>(
     recorder: PlainRecorder<K>,
     moment: u64,
 ) -> Opening<K>
-    requires { IsLegal recorder.farm (opening_entries (word_form form) moment) }
+    requires within { IsWithin (word_form form) }
+    requires legal { IsLegal recorder.farm (opening_entries (word_form form) moment) }
     ensures { Begins K.tells K.holds K.left K.faults (word_form form.entry) moment recorder result }
 {
     let mut recorder = recorder;
@@ -129,16 +135,28 @@ fn record_opening<K: Keeper>(
     recorder: &mut PlainRecorder<K>,
     moment: u64,
 ) -> Result<(), RecordFault>
-    requires { IsLegal recorder.old.farm (opening_entries (word_form form) moment) }
+    requires within { IsWithin (word_form form) }
+    requires legal { IsLegal recorder.old.farm (opening_entries (word_form form) moment) }
     ensures farm { GoesThrough recorder.old.farm (opening_entries (word_form form.entry) moment) result recorder.new.farm }
     ensures told { K.tells recorder.new.keeper → K.tells recorder.old.keeper }
     ensures cause { IsErrOf result fault.Store → HasRisen (K.faults recorder.old.keeper) (K.faults recorder.new.keeper) }
     ensures rises { K.faults recorder.old.keeper ≤ K.faults recorder.new.keeper }
 {
-    record_opened(alloc, recorder, moment)?;
+    record_opened(alloc, recorder, opened_at(form, moment))?;
     match form {
         Form::Demo => record_demo(alloc, recorder, moment),
         Form::Script { .. } => Ok(()),
+        Form::Load { n } => record_load(alloc, recorder, n),
+    }
+}
+
+// The moment at which the scheduler is opened.
+fn opened_at(form: Form<'_>, moment: u64) -> u64
+    ensures { result ≡ opened_at (word_form form.entry) moment }
+{
+    match form {
+        Form::Demo | Form::Script { .. } => moment,
+        Form::Load { .. } => 0,
     }
 }
 
@@ -174,6 +192,23 @@ fn record_demo<K: Keeper>(
     ensures rises { K.faults recorder.old.keeper ≤ K.faults recorder.new.keeper }
 {
     let entries = demo_entries(alloc, moment)?;
+    record_each(alloc, recorder, entries.as_slice())
+}
+
+// Records the entries of a load.
+fn record_load<K: Keeper>(
+    alloc: Global,
+    recorder: &mut PlainRecorder<K>,
+    n: u32,
+) -> Result<(), RecordFault>
+    requires load { IsLoad n }
+    requires legal { IsLegal recorder.old.farm (load_entries n) }
+    ensures farm { GoesThrough recorder.old.farm (load_entries n) result recorder.new.farm }
+    ensures told { K.tells recorder.new.keeper → K.tells recorder.old.keeper }
+    ensures cause { IsErrOf result fault.Store → HasRisen (K.faults recorder.old.keeper) (K.faults recorder.new.keeper) }
+    ensures rises { K.faults recorder.old.keeper ≤ K.faults recorder.new.keeper }
+{
+    let entries = load_entries(alloc, n)?;
     record_each(alloc, recorder, entries.as_slice())
 }
 

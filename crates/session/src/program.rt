@@ -1,6 +1,6 @@
 //! The program's whole work: a hint for who calls it, and then the call.
 
-ghost use Rattle.std.specs.Prelude.{◌≡◌, ◌↔◌, None, Some, is_some};
+ghost use Rattle.std.specs.Prelude.{◌≡◌, ◌↔◌, None, Some};
 ghost use Rattle.cue_io.specs.Faults.{HasRisen};
 ghost use Rattle.farm_keeper.specs.Faults as keeper_faults;
 ghost use Rattle.session.specs.Opening.{HoldsFarm, IsUntouched, MayOpen, Says, SaysBad};
@@ -10,6 +10,7 @@ ghost use Rattle.session.specs.Words.{WordForm, form_of};
 
 use crate::run::{Status, run_cuebot};
 use crate::word_forms::form;
+use crate::words::Form;
 use cue_io::{Clock, Sink, Source, write_all};
 use farm_keeper::Keeper;
 use farm_types::Text;
@@ -21,7 +22,7 @@ const USAGE: &str =
 const WAITING: &str = "cuebot: waiting for lines, each a JSON object; end the input with Ctrl-D\n";
 
 /// Runs `cuebot` for the words after its name, as `run_cuebot` does, and before that writes a hint on `errors`: the usage for invalid words,
-/// and at a terminal what is waited for. What can't be written of the hint is passed over.
+/// and at a terminal what is waited for, which is nothing for a load. What can't be written of the hint is passed over.
 pub fn run_program<S: Source, W: Sink, E: Sink, K: Keeper, C: Clock>(
     alloc: Global,
     words: &[Text],
@@ -51,7 +52,7 @@ pub fn run_program<S: Source, W: Sink, E: Sink, K: Keeper, C: Clock>(
     ensures write { result.0 ≡ 5 → HasRisen (W.faults sink.old) (W.faults sink.new) }
 
     // The hint was written, and nothing else was written there.
-    ensures hint { HasTold (hint_of (is_some (form_of words.now)) at_terminal) (E.written errors.old) (E.written errors.new)
+    ensures hint { HasTold (hint_of (form_of words.now) at_terminal) (E.written errors.old) (E.written errors.new)
         (HasRisen (E.faults errors.old) (E.faults errors.new)) }
 {
     tell(errors, hint_for(words, at_terminal));
@@ -60,10 +61,11 @@ pub fn run_program<S: Source, W: Sink, E: Sink, K: Keeper, C: Clock>(
 
 // The hint: the usage for invalid words, and at a terminal what is waited for. It is empty where there is none.
 fn hint_for(words: &[Text], at_terminal: bool) -> &'static str
-    ensures { result.now ≡ hint_of (is_some (form_of words.now)) at_terminal }
+    ensures { result.now ≡ hint_of (form_of words.now) at_terminal }
 {
     match form(words) {
         None => USAGE,
+        Some(Form::Load { .. }) => "",
         Some(_) if at_terminal => WAITING,
         Some(_) => "",
     }

@@ -8,13 +8,15 @@ ghost use Rattle.farm_keeper.specs.Faults as keeper_faults;
 ghost use Rattle.farm_lines.specs.Reply.{bad_store_line};
 ghost use Rattle.farm_lines.specs.declared.limits.TheConstants.{LINE_LIMIT};
 ghost use Rattle.session.specs.Opening.{HoldsFarm, IsUntouched, MayOpen, Says, SaysBad};
-ghost use Rattle.session.specs.Sessions.{AnswersAll, Call, IsCall, MayTell, TellsBad, TellsFault, TellsLine, status_of, streams};
-ghost use Rattle.session.specs.Words.{WordForm, form_of};
+ghost use Rattle.session.specs.Sessions.{AnswersAll, AnswersForm, Call, IsCall, MayTell, TellsBad, TellsFault, TellsLine, status_of, streams};
+ghost use Rattle.session.specs.Words.{IsWithin, WordForm, form_of, word_form};
 
 use crate::exchanged::Exchanged;
+use crate::load::answer_load;
 use crate::opening::{OpenFault, Opening, open};
 use crate::serve::serve;
 use crate::word_forms::form;
+use crate::words::Form;
 use cue_io::{Clock, LineReader, Sink, Source, write_all};
 use farm_keeper::Keeper;
 use farm_law::legal_runs_are_safe;
@@ -26,9 +28,9 @@ use recovery::RecoverFault;
 use report_codec::write_bad_store;
 use std::alloc::Global;
 
-/// What a program answers the system: 0 at the end of the input, 2 for invalid arguments, 3 where the store failed before the first line, 4 for a
-/// failed read, 5 for a failed write, 6 where the store's rows are no farm, 7 where memory ran out before the first line, and 8 where the bytes that one
-/// session takes are spent.
+/// What a program answers the system: 0 at the end of the input, or where a load's job finished and its summary was written; 2 for invalid arguments, 3 where the store failed before the first line, 4 for a
+/// failed read, 5 for a failed write, 6 where the store's rows are no farm, 7 where memory ran out before the first line, or in a load, and 8 where the bytes that one
+/// session takes are spent, or a load's job isn't finished after 20,000 rounds.
 pub type Status = u8;
 
 const USAGE: Status = 2;
@@ -42,8 +44,9 @@ const BAD_STORE: Status = 6;
 const NO_MEMORY: Status = 7;
 
 /// Runs `cuebot` for the words after its name over a keeper of rows, and gives the keeper back: opens the farm of the rows at the clock's first reading,
-/// and answers the source's lines in the sink, each at the clock's next reading, until the source ends or an I/O error comes. No commit of the keeper was
-/// refused since the last one that it took, and for `demo` it holds no rows. Where its rows are no farm, a line in the sink tells the first one at fault.
+/// and answers the source's lines in the sink, each at the clock's next reading, until the source ends or an I/O error comes. A load takes nothing of the source: it is run
+/// over its farm, and its summary is written. No commit of the keeper was
+/// refused since the last one that it took, and for `demo` and `load` it holds no rows. Where its rows are no farm, a line in the sink tells the first one at fault.
 pub fn run_cuebot<S: Source, W: Sink, K: Keeper, C: Clock>(
     alloc: Global,
     words: &[Text],
@@ -80,8 +83,9 @@ pub fn run_cuebot<S: Source, W: Sink, K: Keeper, C: Clock>(
     };
     let moment = clock.now();
     match open(alloc, form, keeper, moment) {
-        Opening::Opened { recorder } => answer_all(
+        Opening::Opened { recorder } => answer_opened(
             alloc,
+            form,
             recorder,
             &mut reader,
             source,
@@ -89,6 +93,34 @@ pub fn run_cuebot<S: Source, W: Sink, K: Keeper, C: Clock>(
             clock,
         ),
         Opening::Failed { keeper, fault } => (tell_fault(alloc, sink, fault), keeper),
+    }
+}
+
+// Runs a load over a farm that was opened, or answers the source's lines over it, and gives the keeper back.
+fn answer_opened<S: Source, W: Sink, K: Keeper, C: Clock>(
+    alloc: Global,
+    form: Form<'_>,
+    recorder: PlainRecorder<K>,
+    reader: &mut LineReader,
+    source: &mut S,
+    sink: &mut W,
+    clock: &mut C,
+) -> (Status, K)
+    requires within { IsWithin (word_form form) }
+    requires reader { reader.old ≡ new_reader LINE_LIMIT }
+    ensures answered { (call : Call) × AnswersForm (word_form form.entry) result.0 recorder.farm
+        (streams (S.left source.old) (S.faults source.old) (W.written sink.old) (W.faults sink.old) (C.readings clock.old) (K.faults recorder.keeper))
+        (streams (S.left source.new) (S.faults source.new) (W.written sink.new) (W.faults sink.new) (C.readings clock.new) (K.faults result.1)) call
+        (HoldsFarm (K.tells result.1) (K.holds result.1) (K.left result.1)) }
+    ensures told { K.tells result.1 → K.tells recorder.keeper }
+    ensures read { result.0 ≡ 4 → HasRisen (S.faults source.old) (S.faults source.new) }
+    ensures write { result.0 ≡ 5 → HasRisen (W.faults sink.old) (W.faults sink.new) }
+{
+    match form {
+        Form::Demo | Form::Script { .. } => {
+            answer_all(alloc, recorder, reader, source, sink, clock)
+        }
+        Form::Load { n } => answer_load(alloc, recorder, n, sink),
     }
 }
 

@@ -1,9 +1,12 @@
 //! The forms of the words that the program is given.
 
 ghost use Rattle.std.specs.Prelude.{◌≡◌, option_map};
-ghost use Rattle.session.specs.Words.{form_of, word_form};
+ghost use Rattle.std.specs.Option.{IfSome};
+ghost use Rattle.session.specs.Words.{IsWithin, form_of, load_form, word_form};
 
+use crate::number::read_number;
 use crate::words::Form;
+use farm_gen::MOST_LOAD;
 use farm_types::Text;
 
 // The store in memory.
@@ -11,13 +14,24 @@ const MEMORY: &str = ":memory:";
 
 /// The form of the words. None comes exactly where they are invalid.
 pub fn form(words: &[Text]) -> Option<Form<'_>>
-    ensures { option_map word_form result ≡ form_of words.now }
+    ensures value { option_map word_form result ≡ form_of words.now }
+    ensures within { IfSome result (λ form. IsWithin (word_form form)) }
 {
     match words {
         [word] if word.is("demo") => Some(Form::Demo),
         [word, store] if word.is("script") && store.is(MEMORY) => Some(Form::Script {
             store: store.as_str(),
         }),
+        [word, number] if word.is("load") => load_form(number.as_str()),
         _ => None,
     }
+}
+
+// The form of a load of that many frames a layer.
+fn load_form(number: &str) -> Option<Form<'static>>
+    ensures value { option_map word_form result ≡ load_form number.now }
+    ensures within { IfSome result (λ form. IsWithin (word_form form)) }
+{
+    let n = read_number(number, 1, MOST_LOAD)?;
+    Some(Form::Load { n })
 }

@@ -14,4 +14,4 @@ returns-in-Some-Script c =
     IfOk-weaker c.filled.result (λ (keeper : Kept). keeper.refused ≡ [])
     (λ (keeper : Kept). (form : WordForm) → form_of c.args.words.now ≡ Some form → MayOpen form (λ held. held ≡ keeper.rows) (MayRemain keeper.rows keeper.refused))
     (λ (keeper : Kept) none. may_open_script (form_of c.args.words.now) c.in-Some-Script.field-0-0.now keeper.rows keeper.refused
-    (sym c.form.ensures ∙ ap (option_map word_form) (c.in-Some-Script.is ∙ ap Some c.in-Some-Script.field-0-is)) none) c.filled.ensures
+    (sym c.form.ensures.value ∙ ap (option_map word_form) (c.in-Some-Script.is ∙ ap Some c.in-Some-Script.field-0-is)) none) c.filled.ensures

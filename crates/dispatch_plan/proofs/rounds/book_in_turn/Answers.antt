@@ -1,17 +1,5 @@
-use Rattle.dispatch_plan.proofs.UnderWay.{no_less, then_cut, then_offered, then_refused}
+use Rattle.dispatch_plan.proofs.UnderWay.{no_less, then_offered}
 use Rattle.dispatch_plan.proofs.rounds.book_in_turn.Goals as goal
-
-pub returns-in-Err-Store-clause-round : goal.returns-in-Err-Store-clause-round
-returns-in-Err-Store-clause-round g c =
-    then_refused c.args.recorder.now.farm c.args.moment c.args.candidates.now c.loop-candidate.left c.loop-candidate.recorder.farm c.candidate-item.result
-    c.loop-candidate.candidate-index c.loop-candidate-test.true c.candidate-item.is c.loop-candidate.invariant.round c.offer.new.recorder.farm
-    c.in-Err-Store.field-0 c.in-Err-Store.field-0-is c.in-Err-Store.ensures.failed
-
-pub returns-in-Err-NoMemory-clause-round : goal.returns-in-Err-NoMemory-clause-round
-returns-in-Err-NoMemory-clause-round g c =
-    then_cut c.args.recorder.now.farm c.args.moment c.args.candidates.now c.loop-candidate.left c.loop-candidate.recorder.farm c.candidate-item.result
-    c.loop-candidate.candidate-index c.loop-candidate-test.true c.candidate-item.is c.loop-candidate.invariant.round c.offer.new.recorder.farm
-    c.in-Err-NoMemory.field-0 c.in-Err-NoMemory.ensures.failed
 
 pub loop-candidate-preserved : goal.loop-candidate-preserved
 loop-candidate-preserved g c = record {

@@ -1,25 +1,30 @@
 use Rattle.std.proofs.Common.{arith}
-use Rattle.session.specs.Words.{Demo, opening_entries}
+use Rattle.session.specs.Words.{opening_entries, word_form}
 use Rattle.session.proofs.OpenedLegal.{made_opened}
 use Rattle.session.proofs.OpenedStore.{made_recorded, made_says}
 use Rattle.session.proofs.OpenedWays.{begun_legal, begun_opens}
 use Rattle.session.proofs.opening.open_new.Goals as goal
 
 pub make-requires-in-Ok : goal.make-requires-in-Ok
-make-requires-in-Ok g c = λ tells. made_recorded (g.K.Keeper.holds c.args.keeper) (g.K.Keeper.left c.args.keeper) c.in-Ok.farm c.in-Ok.ensures (c.requires tells)
+make-requires-in-Ok g c =
+    λ tells.
+    made_recorded (word_form c.args.form) (g.K.Keeper.holds c.args.keeper) (g.K.Keeper.left c.args.keeper) c.in-Ok.farm c.in-Ok.ensures c.requires.stated (c.requires.kept tells)
 
-pub begin-requires : goal.begin-requires
-begin-requires g c =
+pub begin-requires-clause-legal : goal.begin-requires-clause-legal
+begin-requires-clause-legal g c =
+    let form = word_form c.args.form in
     let moment = c.args.moment in
-    begun_legal c.in-Ok.farm c.args.keeper (opening_entries Demo moment) c.make-in-Ok.result c.make-in-Ok.ensures
-    (made_opened c.the_demonstration_is_a_run.ensures.legal c.in-Ok.farm c.in-Ok.ensures moment c.ranges.moment.fits)
+    begun_legal c.in-Ok.farm c.args.keeper (opening_entries form moment) c.make-in-Ok.result c.make-in-Ok.ensures
+    (made_opened form c.requires.stated c.requires.within c.the_demonstration_is_a_run.ensures.legal c.loads_are_runs.ensures c.in-Ok.farm c.in-Ok.ensures moment c.ranges.moment.fits)
 
 pub returns-in-Ok : goal.returns-in-Ok
 returns-in-Ok g c =
+    let form = word_form c.args.form in
     let first = c.in-Ok.farm in
     let k = c.args.keeper in
     let moment = c.args.moment in
-    begun_opens g.K.Keeper.tells g.K.Keeper.holds g.K.Keeper.left g.K.Keeper.faults Demo moment k k first
-    (made_says (g.K.Keeper.tells k) (g.K.Keeper.holds k) (g.K.Keeper.left k) first c.in-Ok.ensures c.requires c.no_rows_are_the_empty_farm.ensures)
-    (λ tells. tells) (omega arith) (made_opened c.the_demonstration_is_a_run.ensures.legal first c.in-Ok.ensures moment c.ranges.moment.fits)
+    begun_opens g.K.Keeper.tells g.K.Keeper.holds g.K.Keeper.left g.K.Keeper.faults form moment k k first
+    (made_says form (g.K.Keeper.tells k) (g.K.Keeper.holds k) (g.K.Keeper.left k) first c.in-Ok.ensures c.requires.stated c.requires.kept c.no_rows_are_the_empty_farm.ensures)
+    (λ tells. tells) (omega arith)
+    (made_opened form c.requires.stated c.requires.within c.the_demonstration_is_a_run.ensures.legal c.loads_are_runs.ensures first c.in-Ok.ensures moment c.ranges.moment.fits)
     c.make-in-Ok.result c.make-in-Ok.ensures c.begin.result c.begin.ensures

@@ -1,5 +1,5 @@
 use Rattle.session.specs.Words.{word_form}
-use Rattle.session.proofs.OpenedLegal.{script_opened}
+use Rattle.session.proofs.OpenedLegal.{script_opened, script_within}
 use Rattle.session.proofs.OpenedStore.{loaded_recorded, says_list}
 use Rattle.session.proofs.OpenedWays.{begun_opens, unloaded_opens}
 use Rattle.session.proofs.opening.open_stored.Goals as goal
@@ -11,8 +11,11 @@ make-requires g c =
     c.in-Ok.ensures.farm.0 c.in-Ok.farm c.requires.script (c.requires.kept (c.load_farm.ensures.told tells)) (c.in-Ok.ensures.farm.1 tells) c.load_farm.ensures.kept c.load_farm.ensures.left
     (c.rows_recovered_are_the_farms.ensures.rows c.in-Ok.ensures.farm.0 c.in-Ok.farm c.in-Ok.ensures.farm.2)
 
-pub begin-requires : goal.begin-requires
-begin-requires g c =
+pub begin-requires-clause-within : goal.begin-requires-clause-within
+begin-requires-clause-within g c = script_within (word_form c.args.form) c.requires.script
+
+pub begin-requires-clause-legal : goal.begin-requires-clause-legal
+begin-requires-clause-legal g c =
     script_opened (word_form c.args.form) c.make.result.farm c.args.moment c.requires.script c.ranges.moment.fits
 
 pub returns-in-Ok : goal.returns-in-Ok

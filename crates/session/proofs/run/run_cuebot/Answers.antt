@@ -4,7 +4,7 @@ use Rattle.std.specs.Prelude.{option_map}
 use Rattle.cue_io.specs.Readings.{Tells-none}
 use Rattle.session.specs.Sessions.{Streams, streams}
 use Rattle.session.specs.Words.{form_of, word_form}
-use Rattle.session.proofs.RunLemmas.{called_failed, called_for_memory, called_for_usage, called_session, idle, no_form, opened_call, opened_still, told_call}
+use Rattle.session.proofs.RunLemmas.{called_failed, called_for_memory, called_for_usage, called_opened, idle, no_form, opened_call, opened_still, told_call}
 use Rattle.session.proofs.run.run_cuebot.Goals as goal
 
 pub returns-in_default-clause-call : goal.returns-in_default-clause-call
@@ -12,7 +12,7 @@ returns-in_default-clause-call g c = (
   idle [],
   called_for_usage c.args.words.now (g.S.Source.left c.args.source.now) (g.S.Source.faults c.args.source.now) (g.W.Sink.written c.args.sink.now) (g.W.Sink.faults c.args.sink.now)
       (g.C.Clock.readings c.args.clock.now) (g.K.Keeper.faults c.args.keeper) _ _ _ _ (λ tells. record { held_still = λ rows h. h; left_still = λ rows h. h })
-      (no_form c.form.result (form_of c.args.words.now) c.form.ensures c.in_default.not-Some) (Tells-none (g.C.Clock.readings c.args.clock.now)),
+      (no_form c.form.result (form_of c.args.words.now) c.form.ensures.value c.in_default.not-Some) (Tells-none (g.C.Clock.readings c.args.clock.now)),
 )
 
 pub returns-in_default-make-clause-call : goal.returns-in_default-make-clause-call
@@ -28,20 +28,20 @@ returns-in_default-make-clause-call g c = (
 pub returns-in-Opened-clause-call : goal.returns-in-Opened-clause-call
 returns-in-Opened-clause-call g c =
     let opens = c.in-Opened.ensures in
-    let session = c.answer_all.ensures.answered in
+    let session = c.answer_opened.ensures.answered in
     let before : Streams = streams (g.S.Source.left c.args.source.now) (g.S.Source.faults c.args.source.now) (g.W.Sink.written c.args.sink.now) (g.W.Sink.faults c.args.sink.now)
     (g.C.Clock.readings c.args.clock.now) (g.K.Keeper.faults c.args.keeper) in
-    let after : Streams = streams (g.S.Source.left c.answer_all.new.source) (g.S.Source.faults c.answer_all.new.source) (g.W.Sink.written c.answer_all.new.sink)
-    (g.W.Sink.faults c.answer_all.new.sink)
-    (g.C.Clock.readings c.answer_all.new.clock) (g.K.Keeper.faults c.answer_all.result.1) in (
+    let after : Streams = streams (g.S.Source.left c.answer_opened.new.source) (g.S.Source.faults c.answer_opened.new.source) (g.W.Sink.written c.answer_opened.new.sink)
+    (g.W.Sink.faults c.answer_opened.new.sink)
+    (g.C.Clock.readings c.answer_opened.new.clock) (g.K.Keeper.faults c.answer_opened.result.1) in (
       opened_call c.now-moment.result session.0,
-      called_session c.args.words.now (word_form c.in-Some.form) c.answer_all.result.0 c.now-moment.result c.in-Opened.recorder.farm session.0 before after
+      called_opened c.args.words.now (word_form c.in-Some.form) c.answer_opened.result.0 c.now-moment.result c.in-Opened.recorder.farm session.0 before after
           (g.C.Clock.readings c.now-moment.new.self)
-          (g.K.Keeper.faults c.in-Opened.recorder.keeper) _ _ _ _ (sym c.form.ensures ∙ ap (option_map word_form) c.in-Some.is)
-          (opened_still (g.K.Keeper.tells c.in-Opened.recorder.keeper) (g.K.Keeper.tells c.answer_all.result.1) (g.K.Keeper.holds c.args.keeper)
+          (g.K.Keeper.faults c.in-Opened.recorder.keeper) _ _ _ _ (sym c.form.ensures.value ∙ ap (option_map word_form) c.in-Some.is)
+          (opened_still (g.K.Keeper.tells c.in-Opened.recorder.keeper) (g.K.Keeper.tells c.answer_opened.result.1) (g.K.Keeper.holds c.args.keeper)
           (word_form c.in-Some.form) c.now-moment.result c.in-Opened.recorder.farm
-          c.answer_all.ensures.told opens.0)
-          c.now-moment.ensures opens.1 session.1 c.answer_all.ensures.read c.answer_all.ensures.write,
+          c.answer_opened.ensures.told opens.0)
+          c.now-moment.ensures opens.1 session.1 c.answer_opened.ensures.read c.answer_opened.ensures.write,
     )
 
 -- ---- no farm
@@ -51,7 +51,7 @@ returns-clause-call g c =
     let told = c.tell_fault.ensures.told in (
       told_call told.0 (c.now-moment.result ∷ []),
       called_failed c.args.words.now (word_form c.in-Some.form) c.now-moment.result _ _ _ _
-          (sym c.form.ensures ∙ ap (option_map word_form) c.in-Some.is) c.in-Failed.fault c.tell_fault.result told.0
+          (sym c.form.ensures.value ∙ ap (option_map word_form) c.in-Some.is) c.in-Failed.fault c.tell_fault.result told.0
           (g.S.Source.left c.args.source.now) (g.S.Source.faults c.args.source.now) (g.W.Sink.written c.args.sink.now) (g.W.Sink.written c.tell_fault.new.sink)
           (g.W.Sink.faults c.args.sink.now)
           (g.W.Sink.faults c.tell_fault.new.sink) (g.C.Clock.readings c.args.clock.now) (g.C.Clock.readings c.now-moment.new.self) (g.K.Keeper.faults c.args.keeper)

@@ -1,0 +1,10 @@
+pub mod Counted
+pub mod DependsAt
+pub mod FramesAt
+pub mod HostsAt
+pub mod JobsAt
+pub mod LayersTold
+pub mod Listed
+pub mod OwnSlots
+pub mod Paged
+pub mod Told

@@ -1,0 +1,3 @@
+pub mod Counts
+pub mod Pages
+pub mod Queries

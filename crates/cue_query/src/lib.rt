@@ -1,0 +1,18 @@
+//! Lists of the farm: its shows, allocations, subscriptions, hosts, jobs and live attempts, and the layers, frames and depends of a job.
+#![tactic(auto)]
+
+mod depends;
+mod fault;
+mod frames;
+mod hosts;
+mod jobs;
+mod layers;
+mod names;
+mod page;
+mod procs;
+mod query;
+mod shows;
+mod subs;
+
+pub use fault::QueryFault;
+pub use query::list;

@@ -1,0 +1,5 @@
+mod CallLemmas
+mod EndLemmas
+mod ListingLemmas
+mod PortLemmas
+mod ProgramLemmas

@@ -1,0 +1,13 @@
+//! The operator's tool: one request by its words, and its reply.
+#![tactic(auto)]
+
+mod cells;
+mod listing;
+mod port;
+mod program;
+mod row;
+mod run;
+mod shown;
+
+pub use program::{DialFault, Dialer, SpecFault, SpecFiles, run_program};
+pub use run::{Status, run_cue};

@@ -1,0 +1,119 @@
+//! What a list shows of each thing.
+
+use farm_types::{
+    Cores, DependKind, DependNo, FrameState, HostState, JobState, Kb, LockState, Slot, Text,
+    Version,
+};
+
+/// A subscription: the names of its allocation and its show, its size and burst, and the cores that are booked of it.
+#[derive(Debug, Drop)]
+pub struct ShownSub {
+    pub alloc: Text,
+    pub booked: Cores,
+    pub burst: Cores,
+    pub show: Text,
+    pub size: Cores,
+}
+
+/// A host: the name of its allocation, the moment (seconds) when it was last heard, its cores and memory, and what of them live
+/// attempts use.
+#[derive(Debug, Drop)]
+pub struct ShownHost {
+    pub alloc: Text,
+    pub boot: u32,
+    pub cores: Cores,
+    pub heard: u64,
+    pub lock: LockState,
+    pub memory: Kb,
+    pub name: Text,
+    pub state: HostState,
+    pub used_cores: Cores,
+    pub used_memory: Kb,
+}
+
+/// A job: the name of its show, and how many of its frames are in each state.
+#[derive(Debug, Drop)]
+pub struct ShownJob {
+    pub dead: u32,
+    pub depend: u32,
+    pub eaten: u32,
+    pub name: Text,
+    pub paused: bool,
+    pub priority: u32,
+    pub running: u32,
+    pub show: Text,
+    pub state: JobState,
+    pub succeeded: u32,
+    pub waiting: u32,
+}
+
+/// A layer: its frame range as it is printed, what each attempt at one of its frames books, and how many of its frames are in each
+/// state.
+#[derive(Debug, Drop)]
+pub struct ShownLayer {
+    pub cores: Cores,
+    pub dead: u32,
+    pub depend: u32,
+    pub eaten: u32,
+    pub memory: Kb,
+    pub name: Text,
+    pub range: Text,
+    pub running: u32,
+    pub succeeded: u32,
+    pub waiting: u32,
+}
+
+/// A frame, by its name.
+#[derive(Debug, Drop)]
+pub struct ShownFrame {
+    pub frame: Text,
+    pub retries: u32,
+    pub state: FrameState,
+    pub version: Version,
+}
+
+/// A depend.
+#[derive(Debug, Drop)]
+pub struct ShownDepend {
+    pub depend: DependNo,
+    pub kind: DependKind,
+    pub satisfied: bool,
+}
+
+/// A live attempt: what it books, and the names of its frame, its host and its job.
+#[derive(Debug, Drop)]
+pub struct ShownProc {
+    pub cores: Cores,
+    pub frame: Text,
+    pub host: Text,
+    pub job: Text,
+    pub memory: Kb,
+    pub slot: Slot,
+    pub version: Version,
+}
+
+/// A row of a list. Of a show and of an allocation it is the name.
+#[derive(Debug, Drop)]
+pub enum ListRow {
+    Name { name: Text },
+    Sub(ShownSub),
+    Host(ShownHost),
+    Job(ShownJob),
+    Layer(ShownLayer),
+    Frame(ShownFrame),
+    Depend(ShownDepend),
+    Proc(ShownProc),
+}
+
+/// What keys a row has. Shows and allocations share one set.
+#[derive(Clone, Copy, Debug, PartialEq, Eq)]
+pub enum RowKind {
+    Name,
+    Sub,
+    Host,
+    Job,
+    Layer,
+    Frame,
+    Depend,
+    Proc,
+}

@@ -1,0 +1,15 @@
+//! What a list's word names.
+
+/// What is listed, whatever the job.
+#[derive(Clone, Copy, Debug, PartialEq, Eq)]
+pub enum What {
+    Shows,
+    Allocs,
+    Subs,
+    Hosts,
+    Jobs,
+    Layers,
+    Frames,
+    Depends,
+    Procs,
+}

@@ -1,0 +1,5 @@
+mod FailureLemmas
+mod LaunchLemmas
+mod LegalLemmas
+mod RunLemmas
+mod TurnLemmas

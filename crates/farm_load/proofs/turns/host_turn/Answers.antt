@@ -1,0 +1,21 @@
+use Rattle.std.proofs.Common.{ℕ, sym, subst}
+use Rattle.farm_types.specs.Formed.{IsFormed}
+use Rattle.farm_lines.specs.Asked.{heard_entry}
+use Rattle.farm_lines.specs.declared.report.Report.{Report}
+use Rattle.farm_load.specs.Loads.{load_report, round_after}
+use Rattle.farm_load.proofs.LegalLemmas.{report_formed}
+use Rattle.farm_load.proofs.TurnLemmas.{not_reported}
+use Rattle.farm_load.proofs.turns.host_turn.Goals as goal
+
+-- src/turns.rt:69:18
+pub returns-in_err-report-clause-turn : goal.returns-in_err-report-clause-turn
+returns-in_err-report-clause-turn g c =
+    not_reported _ c.args.n c.args.recorder.now.farm (load_report c.args.n (round_after c.args.reports) c.args.host.now) (round_after c.args.reports) c.args.counts.now c.from_residual.result
+    (g.K.Keeper.faults c.args.recorder.now.keeper) c.from_residual.ensures.1
+
+-- src/turns.rt:70:5
+pub take_counted-requires-clause-formed : goal.take_counted-requires-clause-formed
+take_counted-requires-clause-formed g c =
+    subst (λ (moment : ℕ). IsFormed (heard_entry c.in_ok-report.report moment)) (sym c.from.ensures)
+    (subst (λ (r : Report). IsFormed (heard_entry r (round_after c.args.reports))) (sym c.in_ok-report.ensures)
+    (report_formed c.args.n c.args.reports c.args.host.now c.requires.left c.requires.formed))

@@ -1,0 +1,115 @@
+//! The rounds of a load.
+
+ghost use Rattle.std.specs.Prelude.{◌≡◌, ◌≤◌, ◌*◌, IfOk};
+ghost use Rattle.farm_gen.specs.Load.{IsLoad};
+ghost use Rattle.farm_load.specs.Loads.{has_finished, load_hosts, new_host};
+ghost use Rattle.farm_load.specs.Summaries.{RunsLoad, rounds_of};
+ghost use Rattle.farm_load.specs.declared.load_end.LoadEnd.TheVariants.{Finished};
+
+use crate::counts::Counts;
+use crate::limits::{HOSTS, LOAD_JOB, MOST_ROUNDS};
+use crate::load_end::LoadEnd;
+use crate::load_host::LoadHost;
+use crate::summary::Summary;
+use crate::turns::take_turn;
+use farm_core::Farm;
+use farm_keeper::Keeper;
+use farm_types::{Items, JobNo, JobState, Text};
+use recorder::PlainRecorder;
+use std::alloc::{AllocError, Global};
+use std::collections::VecDeque;
+
+/// Runs a load of n frames a layer over its farm: round after round each host reports in turn, at the moment that is the round's number, and is answered as a
+/// line would be, until the job is finished. Each report says that all that the reply before it launched is done.
+pub fn run_load<K: Keeper>(alloc: Global, recorder: &mut PlainRecorder<K>, n: u32) -> LoadEnd
+    requires { IsLoad n }
+    ensures run { RunsLoad n recorder.old.farm result recorder.new.farm (K.faults recorder.old.keeper) (K.faults recorder.new.keeper) }
+    ensures told { K.tells recorder.new.keeper → K.tells recorder.old.keeper }
+    ensures rises { K.faults recorder.old.keeper ≤ K.faults recorder.new.keeper }
+{
+    match load_hosts(alloc) {
+        Ok(hosts) => run_rounds(alloc, recorder, n, hosts),
+        Err(_) => LoadEnd::NoMemory,
+    }
+}
+
+// Runs it from its first round on.
+fn run_rounds<K: Keeper>(
+    alloc: Global,
+    recorder: &mut PlainRecorder<K>,
+    n: u32,
+    hosts: VecDeque<LoadHost>,
+) -> LoadEnd
+    requires load { IsLoad n }
+    requires hosts { hosts.items ≡ load_hosts }
+    ensures run { RunsLoad n recorder.old.farm result recorder.new.farm (K.faults recorder.old.keeper) (K.faults recorder.new.keeper) }
+    ensures told { K.tells recorder.new.keeper → K.tells recorder.old.keeper }
+    ensures rises { K.faults recorder.old.keeper ≤ K.faults recorder.new.keeper }
+{
+    let mut hosts = hosts;
+    let mut counts = Counts {
+        attempts: 0,
+        failed: 0,
+    };
+    for reports in 0..HOSTS * MOST_ROUNDS {
+        if has_finished(recorder.read()) {
+            return finished(n, reports, counts);
+        }
+        let Ok(()) = take_turn(alloc, recorder, n, reports, &mut hosts, &mut counts) else {
+            return LoadEnd::NoMemory;
+        };
+    }
+    if has_finished(recorder.read()) {
+        finished(n, HOSTS * MOST_ROUNDS, counts)
+    } else {
+        LoadEnd::Spent
+    }
+}
+
+// The hosts before the first report.
+fn load_hosts(alloc: Global) -> Result<VecDeque<LoadHost>, AllocError>
+    ensures { IfOk result (λ hosts. hosts.items ≡ load_hosts) }
+{
+    let mut hosts = VecDeque::new(alloc);
+    hosts.push_back(new_host(alloc, "h1")?)?;
+    hosts.push_back(new_host(alloc, "h2")?)?;
+    hosts.push_back(new_host(alloc, "h3")?)?;
+    hosts.push_back(new_host(alloc, "h4")?)?;
+    Ok(hosts)
+}
+
+// A host to which nothing was replied yet.
+fn new_host(alloc: Global, name: &str) -> Result<LoadHost, AllocError>
+    ensures { IfOk result (λ host. host ≡ new_host name.now) }
+{
+    Ok(LoadHost {
+        name: Text::from_str(alloc, name)?,
+        launched: Items::new(alloc),
+    })
+}
+
+// Whether the job is finished.
+fn has_finished(farm: &Farm) -> bool
+    ensures { result ≡ has_finished farm.now }
+{
+    match farm.job(JobNo(LOAD_JOB)) {
+        Some(job) => matches!(job.state, JobState::Finished),
+        None => false,
+    }
+}
+
+// The end of a run whose job finished at the last of so many reports.
+fn finished(n: u32, reports: u32, counts: Counts) -> LoadEnd
+    requires load { IsLoad n }
+    requires within { reports ≤ HOSTS * MOST_ROUNDS }
+    ensures { result ≡ Finished (record { frames = 2 * n; attempts = counts.attempts; failed = counts.failed; rounds = rounds_of reports }) }
+{
+    LoadEnd::Finished {
+        summary: Summary {
+            frames: 2 * n,
+            attempts: counts.attempts,
+            failed: counts.failed,
+            rounds: (reports + (HOSTS - 1)) / HOSTS,
+        },
+    }
+}

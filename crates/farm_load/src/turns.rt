@@ -1,0 +1,160 @@
+//! One report of a load.
+
+ghost use Rattle.std.specs.Prelude.{◌≡◌, ◌≤◌, ◌<◌, IfOk, false, length};
+ghost use Rattle.farm_types.specs.Formed.{IsFormed};
+ghost use Rattle.farm_lines.specs.Asked.{heard_entry};
+ghost use Rattle.farm_lines.specs.declared.limits.TheConstants.{LAUNCHES_EACH};
+ghost use Rattle.line_answers.specs.LineAnswers.{is_short, tells_memory};
+ghost use Rattle.farm_load.specs.Loads.{launched_by, launches_in, load_done, load_report, most_reports, round_after};
+ghost use Rattle.farm_load.specs.Turns.{HasReported, HasRoom, IsFormedHost, IsReady, TakesTurn, failures_told};
+
+use crate::counts::Counts;
+use crate::failures::failures;
+use crate::limits::HOSTS;
+use crate::load_host::LoadHost;
+use farm_gen::load_exit;
+use farm_keeper::Keeper;
+use farm_lines::{Reply, Report, ReportReply};
+use farm_types::{Attempt, Cut, DoneItem, Items};
+use line_answers::take_report;
+use recorder::PlainRecorder;
+use std::alloc::{AllocError, Global};
+use std::collections::VecDeque;
+
+/// The host whose turn it is reports, and waits behind the others then, with what the reply launches. The counts are those of the run so far. The only error is
+/// that memory ran out.
+pub(crate) fn take_turn<K: Keeper>(
+    alloc: Global,
+    recorder: &mut PlainRecorder<K>,
+    n: u32,
+    reports: u32,
+    hosts: &mut VecDeque<LoadHost>,
+    counts: &mut Counts,
+) -> Result<(), AllocError>
+    requires { IsReady hosts.old.items counts.old reports }
+    ensures turn { TakesTurn n recorder.old.farm reports hosts.old.items counts.old result recorder.new.farm hosts.new.items counts.new
+        (K.faults recorder.old.keeper) (K.faults recorder.new.keeper) }
+    ensures told { K.tells recorder.new.keeper → K.tells recorder.old.keeper }
+    ensures rises { K.faults recorder.old.keeper ≤ K.faults recorder.new.keeper }
+{
+    let Some(host) = hosts.pop_front() else {
+        unreachable!()
+    };
+    let launched = host_turn(alloc, recorder, n, reports, &host, counts)?;
+    hosts.push_back_reserved(LoadHost {
+        name: host.name,
+        launched,
+    });
+    Ok(())
+}
+
+// The host reports, and what the reply launches is told.
+fn host_turn<K: Keeper>(
+    alloc: Global,
+    recorder: &mut PlainRecorder<K>,
+    n: u32,
+    reports: u32,
+    host: &LoadHost,
+    counts: &mut Counts,
+) -> Result<Items<Attempt>, AllocError>
+    requires left { reports < most_reports }
+    requires formed { IsFormedHost host.now }
+    requires room { HasRoom counts.old }
+    ensures turn { HasReported n recorder.old.farm (load_report n (round_after reports) host.now) (round_after reports) counts.old result recorder.new.farm counts.new
+        (K.faults recorder.old.keeper) (K.faults recorder.new.keeper) }
+    ensures told { K.tells recorder.new.keeper → K.tells recorder.old.keeper }
+    ensures rises { K.faults recorder.old.keeper ≤ K.faults recorder.new.keeper }
+{
+    let round = reports / HOSTS + 1;
+    let report = report_of(alloc, n, round, host)?;
+    take_counted(alloc, recorder, n, u64::from(round), report, counts)
+}
+
+// The report is taken at the moment and counted, and what the reply launches is told.
+fn take_counted<K: Keeper>(
+    alloc: Global,
+    recorder: &mut PlainRecorder<K>,
+    n: u32,
+    moment: u64,
+    report: Report,
+    counts: &mut Counts,
+) -> Result<Items<Attempt>, AllocError>
+    requires formed { IsFormed (heard_entry report moment) }
+    requires few { length report.done ≤ LAUNCHES_EACH }
+    requires room { HasRoom counts.old }
+    ensures turn { HasReported n recorder.old.farm report moment counts.old result recorder.new.farm counts.new (K.faults recorder.old.keeper) (K.faults recorder.new.keeper) }
+    ensures told { K.tells recorder.new.keeper → K.tells recorder.old.keeper }
+    ensures rises { K.faults recorder.old.keeper ≤ K.faults recorder.new.keeper }
+{
+    let failing = failures(recorder.read(), n, &report, moment);
+    let taken = take_report(alloc, recorder, report, moment);
+    recorder.read().kept();
+    counts.attempts += u64::from(taken.booked);
+    counts.failed += counted(&taken.reply, failing);
+    launched_by(alloc, taken.reply)
+}
+
+// The failures of a report: none where it wasn't taken.
+fn counted(reply: &Reply, failing: u64) -> u64
+    ensures { result ≡ failures_told reply.now failing }
+{
+    match reply {
+        Reply::Report(_) => failing,
+        _ => 0,
+    }
+}
+
+// What the reply launches, unless it tells that memory ran out.
+fn launched_by(alloc: Global, reply: Reply) -> Result<Items<Attempt>, AllocError>
+    ensures launched { IfOk result (λ launched. launched ≡ launched_by reply) }
+    ensures calm { IfOk result (λ _. tells_memory reply ≡ false) }
+{
+    match reply {
+        Reply::NoMemory => Err(AllocError),
+        Reply::Report(told) => launches_in(alloc, &told),
+        _ => Ok(Items::new(alloc)),
+    }
+}
+
+// The attempts of the launches, unless memory cut the round short.
+fn launches_in(alloc: Global, told: &ReportReply) -> Result<Items<Attempt>, AllocError>
+    ensures launched { IfOk result (λ launched. launched ≡ launches_in told.now) }
+    ensures calm { IfOk result (λ _. is_short told.now.cut ≡ false) }
+{
+    if told.cut == Cut::Memory {
+        return Err(AllocError);
+    }
+    let mut launched = Items::new(alloc);
+    for launch in told.launches.as_slice() {
+        launched.push(launch.attempt)?;
+    }
+    Ok(launched)
+}
+
+// The host's report of a round.
+fn report_of(alloc: Global, n: u32, round: u32, host: &LoadHost) -> Result<Report, AllocError>
+    ensures { IfOk result (λ report. report ≡ load_report n round host.now) }
+{
+    Ok(Report {
+        host: host.name.copy(alloc)?,
+        boot: 1,
+        seq: u64::from(round),
+        running: Items::new(alloc),
+        done: done_items(alloc, n, host.launched.as_slice())?,
+    })
+}
+
+// The completions of the attempts that were launched.
+fn done_items(alloc: Global, n: u32, launched: &[Attempt]) -> Result<Items<DoneItem>, AllocError>
+    ensures { IfOk result (λ done. done ≡ load_done n launched.now) }
+{
+    let mut done = Items::new(alloc);
+    for attempt in launched {
+        done.push(DoneItem {
+            attempt: *attempt,
+            exit: load_exit(n, *attempt),
+            free: None,
+        })?;
+    }
+    Ok(done)
+}

@@ -1,0 +1,160 @@
+//! The text of a line as it is written, a token at a time into one buffer.
+
+ghost use Rattle.std.specs.Prelude.{◌≡◌, ◌∷◌, [], IfOk, OnOk, decimal};
+ghost use Rattle.std.specs.Fmt.{signed_decimal};
+ghost use Rattle.json.specs.Token.{begin_array, begin_object, boolean, end_array, end_object, key, number, string};
+ghost use Rattle.json.specs.Print.{print};
+ghost use Rattle.line_writer.specs.Tokens.{added};
+
+use farm_types::{Cores, Kb, Slot, Text, Version};
+use json::Writer;
+use std::alloc::{AllocError, Global};
+use std::marker::Model;
+
+// Most lines need no more, with their newline.
+const FIRST_ROOM: usize = 128;
+
+/// A line as far as it is written, which contracts see as its tokens. Commas and colons are placed by themselves.
+#[derive(Drop)]
+pub struct LineWriter {
+    out: Writer,
+}
+
+impl Model for LineWriter {
+    ghost use Rattle.std.specs.Prelude.{◌≡◌, List, []};
+    ghost use Rattle.json.specs.Token.{Token, tokens_code};
+
+    ghost Value = { List Token };
+
+    ghost coded = { tokens_code };
+
+    ghost view = { λ writer. writer.out.tokens };
+
+    ghost invariant = { λ writer. writer.out.before ≡ [] };
+}
+
+impl LineWriter {
+    /// Nothing yet.
+    pub fn new(alloc: Global) -> Result<LineWriter, AllocError>
+        ensures { IfOk result (λ writer. writer ≡ []) }
+    {
+        let room = Vec::with_capacity(alloc, FIRST_ROOM)?;
+        Ok(LineWriter {
+            out: Writer::new(room),
+        })
+    }
+
+    /// The text of what was written, with no copy.
+    pub fn into_text(self) -> Text
+        ensures { result ≡ print self }
+    {
+        let LineWriter { out } = self;
+        match String::from_utf8(out.into_inner()) {
+            Ok(string) => Text::from_string(string),
+            Err(_) => unreachable!(),
+        }
+    }
+
+    /// The beginning of an object: of the line, or of an item of a list.
+    pub fn begin_object(&mut self) -> Result<(), AllocError>
+        ensures { OnOk result (self.new ≡ added self.old (begin_object ∷ [])) }
+    {
+        self.out.begin_object()
+    }
+
+    /// The end of the object.
+    pub fn end_object(&mut self) -> Result<(), AllocError>
+        ensures { OnOk result (self.new ≡ added self.old (end_object ∷ [])) }
+    {
+        self.out.end_object()
+    }
+
+    /// The key of a member whose value is written next.
+    pub fn key(&mut self, name: &str) -> Result<(), AllocError>
+        ensures { OnOk result (self.new ≡ added self.old (key name.now ∷ [])) }
+    {
+        self.out.key(name)
+    }
+
+    /// A member that is a list, up to its first item.
+    pub fn begin_list(&mut self, name: &str) -> Result<(), AllocError>
+        ensures { OnOk result (self.new ≡ added self.old (key name.now ∷ begin_array ∷ [])) }
+    {
+        self.out.key(name)?;
+        self.out.begin_array()
+    }
+
+    /// The end of the list.
+    pub fn end_list(&mut self) -> Result<(), AllocError>
+        ensures { OnOk result (self.new ≡ added self.old (end_array ∷ [])) }
+    {
+        self.out.end_array()
+    }
+
+    /// A member that is a whole number.
+    pub fn whole(&mut self, name: &str, value: u64) -> Result<(), AllocError>
+        ensures { OnOk result (self.new ≡ added self.old (key name.now ∷ number (decimal value) ∷ [])) }
+    {
+        self.out.key(name)?;
+        self.out.u64(value)
+    }
+
+    /// A member that is an amount of cores, in hundredths of a core.
+    pub fn cores(&mut self, name: &str, cores: Cores) -> Result<(), AllocError>
+        ensures { OnOk result (self.new ≡ added self.old (key name.now ∷ number (decimal cores) ∷ [])) }
+    {
+        self.whole(name, u64::from(cores.0))
+    }
+
+    /// A member that is an amount of memory, in KB.
+    pub fn memory(&mut self, name: &str, memory: Kb) -> Result<(), AllocError>
+        ensures { OnOk result (self.new ≡ added self.old (key name.now ∷ number (decimal memory) ∷ [])) }
+    {
+        self.whole(name, memory.0)
+    }
+
+    /// A member that is the number of a frame slot.
+    pub fn slot(&mut self, name: &str, slot: Slot) -> Result<(), AllocError>
+        ensures { OnOk result (self.new ≡ added self.old (key name.now ∷ number (decimal slot) ∷ [])) }
+    {
+        self.whole(name, u64::from(slot.0))
+    }
+
+    /// A member that is the version of a slot.
+    pub fn version(&mut self, name: &str, version: Version) -> Result<(), AllocError>
+        ensures { OnOk result (self.new ≡ added self.old (key name.now ∷ number (decimal version) ∷ [])) }
+    {
+        self.whole(name, u64::from(version.0))
+    }
+
+    /// A member that is a whole number with a sign.
+    pub fn signed(&mut self, name: &str, value: i32) -> Result<(), AllocError>
+        ensures { OnOk result (self.new ≡ added self.old (key name.now ∷ number (signed_decimal value) ∷ [])) }
+    {
+        self.out.key(name)?;
+        self.out.i64(i64::from(value))
+    }
+
+    /// A member that is a text.
+    pub fn text(&mut self, name: &str, value: &str) -> Result<(), AllocError>
+        ensures { OnOk result (self.new ≡ added self.old (key name.now ∷ string value.now ∷ [])) }
+    {
+        self.out.key(name)?;
+        self.out.string(value)
+    }
+
+    /// A member that is true or false.
+    pub fn truth(&mut self, name: &str, value: bool) -> Result<(), AllocError>
+        ensures { OnOk result (self.new ≡ added self.old (key name.now ∷ boolean value ∷ [])) }
+    {
+        self.out.key(name)?;
+        self.out.boolean(value)
+    }
+
+    /// An item of a list that is a text.
+    pub fn text_item(&mut self, value: &str) -> Result<(), AllocError>
+        ensures { OnOk result (self.new ≡ added self.old (string value.now ∷ [])) }
+    {
+        self.out.string(value)
+    }
+}
