@@ -1,44 +1,84 @@
 //! Fields of objects, and items of lists.
 
+use case_text::{Calls, LineFault};
 use cue_json::{
-    FieldFault, Map, flag, has, list, no_others, object, object_item, object_of, signed, text,
-    text_item, whole,
+    FieldFault, LineFault as ObjectFault, Map, flag, has, list, no_others, object, object_item,
+    object_of, signed, text, text_item, whole,
 };
 use std::alloc::{AllocError, Global};
 
 // The field that the values of rows are.
 const FIELD: &str = "field";
 
-/// The whole number that a value is within limits, as `7 from 0 to 9`.
-pub fn whole_number(alloc: Global, given: &str) -> Result<Option<String>, AllocError> {
+/// Calls for fields of objects and items of lists.
+#[derive(Clone, Copy, Debug, PartialEq, Eq)]
+pub enum FieldCall {
+    Whole,
+    Signed,
+    Kinds,
+    Items,
+    OtherKeys,
+}
+
+impl FieldCall {
+    /// All of them, in the order in which their files are read.
+    pub const ALL: [FieldCall; 5] = [
+        FieldCall::Whole,
+        FieldCall::Signed,
+        FieldCall::Kinds,
+        FieldCall::Items,
+        FieldCall::OtherKeys,
+    ];
+}
+
+impl Calls for FieldCall {
+    fn file_name(&self) -> &'static str {
+        match self {
+            FieldCall::Whole => "whole_numbers.rows",
+            FieldCall::Signed => "signed_numbers.rows",
+            FieldCall::Kinds => "kinds.rows",
+            FieldCall::Items => "items.rows",
+            FieldCall::OtherKeys => "other_keys.rows",
+        }
+    }
+
+    fn answer(&self, alloc: Global, given: &str) -> Result<String, LineFault> {
+        match self {
+            FieldCall::Whole => whole_number(alloc, given),
+            FieldCall::Signed => signed_number(alloc, given),
+            FieldCall::Kinds => kind(alloc, given),
+            FieldCall::Items => item_kind(alloc, given),
+            FieldCall::OtherKeys => other_key(alloc, given),
+        }
+    }
+}
+
+// The whole number that a value is within limits, as `7 from 0 to 9`.
+fn whole_number(alloc: Global, given: &str) -> Result<String, LineFault> {
     let Some((value, least, most)) = within(given) else {
-        return Ok(None);
+        return Err(LineFault::Malformed);
     };
     let (Ok(least), Ok(most)) = (least.parse::<u64>(), most.parse::<u64>()) else {
-        return Ok(None);
+        return Err(LineFault::Malformed);
     };
-    let Some(holder) = holder_of(alloc, value)? else {
-        return Ok(None);
-    };
+    let holder = holder_of(alloc, value)?;
     match whole(alloc, &holder, FIELD, least, most) {
-        Ok(number) => Ok(Some(format!(in alloc; "{number}")?)),
+        Ok(number) => Ok(format!(in alloc; "{number}")?),
         Err(fault) => told(alloc, &fault),
     }
 }
 
-/// The same with signs.
-pub fn signed_number(alloc: Global, given: &str) -> Result<Option<String>, AllocError> {
+// The same with signs.
+fn signed_number(alloc: Global, given: &str) -> Result<String, LineFault> {
     let Some((value, least, most)) = within(given) else {
-        return Ok(None);
+        return Err(LineFault::Malformed);
     };
     let (Ok(least), Ok(most)) = (least.parse::<i64>(), most.parse::<i64>()) else {
-        return Ok(None);
+        return Err(LineFault::Malformed);
     };
-    let Some(holder) = holder_of(alloc, value)? else {
-        return Ok(None);
-    };
+    let holder = holder_of(alloc, value)?;
     match signed(alloc, &holder, FIELD, least, most) {
-        Ok(number) => Ok(Some(format!(in alloc; "{number}")?)),
+        Ok(number) => Ok(format!(in alloc; "{number}")?),
         Err(fault) => told(alloc, &fault),
     }
 }
@@ -51,19 +91,26 @@ fn within(given: &str) -> Option<(&str, &str, &str)> {
 }
 
 // An object whose one field is the value, or no field where the value is `absent`.
-fn holder_of(alloc: Global, value: &str) -> Result<Option<Map>, AllocError> {
+fn holder_of(alloc: Global, value: &str) -> Result<Map, LineFault> {
     if value == "absent" {
-        return Ok(object_of(alloc, b"{}").ok());
+        return object_in(alloc, "{}");
     }
     let line = format!(in alloc; "{{\"{FIELD}\":{value}}}")?;
-    Ok(object_of(alloc, line.as_bytes()).ok())
+    object_in(alloc, line.as_str())
 }
 
-/// Which of the calls for texts, flags, lists and objects takes the value.
-pub fn kind(alloc: Global, given: &str) -> Result<Option<String>, AllocError> {
-    let Some(holder) = holder_of(alloc, given)? else {
-        return Ok(None);
-    };
+// The object that a line is.
+fn object_in(alloc: Global, line: &str) -> Result<Map, LineFault> {
+    match object_of(alloc, line.as_bytes()) {
+        Ok(object) => Ok(object),
+        Err(ObjectFault::NotAnObject) => Err(LineFault::Malformed),
+        Err(ObjectFault::NoMemory) => Err(LineFault::NoMemory),
+    }
+}
+
+// Which of the calls for texts, flags, lists and objects takes the value.
+fn kind(alloc: Global, given: &str) -> Result<String, LineFault> {
+    let holder = holder_of(alloc, given)?;
     if !has(&holder, FIELD) {
         return missing(alloc, &holder);
     }
@@ -80,7 +127,7 @@ pub fn kind(alloc: Global, given: &str) -> Result<Option<String>, AllocError> {
     if let Ok(members) = object(alloc, &holder, FIELD) {
         kinds.push_str(format!(in alloc; "object of {}", members.len())?.as_str())?;
     }
-    Ok(Some(some_kind(alloc, kinds)?))
+    Ok(some_kind(alloc, kinds)?)
 }
 
 // The kinds, or `none` where there is no kind.
@@ -93,24 +140,22 @@ fn some_kind(alloc: Global, kinds: String) -> Result<String, AllocError> {
 }
 
 // What each call says of a field that is absent.
-fn missing(alloc: Global, holder: &Map) -> Result<Option<String>, AllocError> {
+fn missing(alloc: Global, holder: &Map) -> Result<String, LineFault> {
     match text(alloc, holder, FIELD) {
-        Ok(_) => Ok(Some(String::from_str(alloc, "there")?)),
+        Ok(_) => Ok(String::from_str(alloc, "there")?),
         Err(fault) => told(alloc, &fault),
     }
 }
 
-/// Which of the calls for texts and objects takes the item of a list.
-pub fn item_kind(alloc: Global, given: &str) -> Result<Option<String>, AllocError> {
+// Which of the calls for texts and objects takes the item of a list.
+fn item_kind(alloc: Global, given: &str) -> Result<String, LineFault> {
     let line = format!(in alloc; "{{\"{FIELD}\":[{given}]}}")?;
-    let Ok(holder) = object_of(alloc, line.as_bytes()) else {
-        return Ok(None);
-    };
+    let holder = object_in(alloc, line.as_str())?;
     let Ok(items) = list(alloc, &holder, FIELD) else {
-        return Ok(None);
+        return Err(LineFault::Malformed);
     };
     let [item] = items else {
-        return Ok(None);
+        return Err(LineFault::Malformed);
     };
     let mut kinds = String::new(alloc);
     if let Ok(text) = text_item(alloc, item, FIELD) {
@@ -119,38 +164,36 @@ pub fn item_kind(alloc: Global, given: &str) -> Result<Option<String>, AllocErro
     if let Ok(members) = object_item(alloc, item, FIELD) {
         kinds.push_str(format!(in alloc; "object of {}", members.len())?.as_str())?;
     }
-    Ok(Some(some_kind(alloc, kinds)?))
+    Ok(some_kind(alloc, kinds)?)
 }
 
-/// The first key of an object that isn't among others, as `{"a":1,"b":2} beside b`.
-pub fn other_key(alloc: Global, given: &str) -> Result<Option<String>, AllocError> {
+// The first key of an object that isn't among others, as `{"a":1,"b":2} beside b`.
+fn other_key(alloc: Global, given: &str) -> Result<String, LineFault> {
     let Some((line, names)) = given.rsplit_once(" beside") else {
-        return Ok(None);
+        return Err(LineFault::Malformed);
     };
-    let Ok(holder) = object_of(alloc, line.as_bytes()) else {
-        return Ok(None);
-    };
+    let holder = object_in(alloc, line)?;
     let mut fields = Vec::new(alloc);
     for name in names.split_whitespace() {
         fields.push(name)?;
     }
     match no_others(alloc, &holder, fields.as_slice()) {
-        Ok(()) => Ok(Some(String::from_str(alloc, "none")?)),
+        Ok(()) => Ok(String::from_str(alloc, "none")?),
         Err(fault) => told(alloc, &fault),
     }
 }
 
 // The fault in words, with its field where that isn't the one of rows.
-fn told(alloc: Global, fault: &FieldFault) -> Result<Option<String>, AllocError> {
+fn told(alloc: Global, fault: &FieldFault) -> Result<String, LineFault> {
     let (words, field) = match fault {
         FieldFault::Missing { field } => ("missing", field.as_str()),
         FieldFault::WrongKind { field } => ("wrong kind", field.as_str()),
         FieldFault::Unknown { field } => ("unknown", field.as_str()),
-        FieldFault::NoMemory => return Err(AllocError),
+        FieldFault::NoMemory => return Err(LineFault::NoMemory),
     };
     if field == FIELD {
-        Ok(Some(String::from_str(alloc, words)?))
+        Ok(String::from_str(alloc, words)?)
     } else {
-        Ok(Some(format!(in alloc; "{words} {field}")?))
+        Ok(format!(in alloc; "{words} {field}")?)
     }
 }

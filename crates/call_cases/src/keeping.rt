@@ -1,17 +1,15 @@
 //! A keeper of rows in memory, call by call.
 
-use crate::streams::numbers;
+use case_text::{LineFault, numbers_of};
 use farm_keeper::{Batch, Keeper, KeeperFault, MemoryKeeper, Row};
 use farm_types::Items;
 use std::alloc::{AllocError, Global};
 
 /// What a keeper in memory answers to calls, as `fails 2; commit 5.1=a -2.7; load; calls`: the numbers of the calls that are to
 /// fail, and then the calls. A commit puts rows (KIND.ID=BYTES) and deletes rows (-KIND.ID).
-pub fn answers(alloc: Global, given: &str) -> Result<Option<String>, AllocError> {
+pub fn answers(alloc: Global, given: &str) -> Result<String, LineFault> {
     let (fails, calls) = plan(given);
-    let Some(fails) = numbers(alloc, fails)? else {
-        return Ok(None);
-    };
+    let fails = numbers_of(alloc, fails)?;
     let mut keeper = MemoryKeeper::make(alloc, &fails)?;
     answers_to(alloc, &mut keeper, calls)
 }
@@ -25,19 +23,13 @@ fn plan(given: &str) -> (&str, &str) {
 }
 
 // What the keeper answers to each of the calls.
-fn answers_to(
-    alloc: Global,
-    keeper: &mut MemoryKeeper,
-    calls: &str,
-) -> Result<Option<String>, AllocError> {
+fn answers_to(alloc: Global, keeper: &mut MemoryKeeper, calls: &str) -> Result<String, LineFault> {
     let mut answers = String::new(alloc);
     for call in calls.split("; ") {
-        let Some(answer) = answer(alloc, keeper, call)? else {
-            return Ok(None);
-        };
+        let answer = answer(alloc, keeper, call)?;
         add(&mut answers, ", ", answer.as_str())?;
     }
-    Ok(Some(answers))
+    Ok(answers)
 }
 
 // Adds a text, behind a separator where it isn't the first.
@@ -49,34 +41,30 @@ fn add(texts: &mut String, separator: &str, text: &str) -> Result<(), AllocError
 }
 
 // What the keeper answers to a call.
-fn answer(
-    alloc: Global,
-    keeper: &mut MemoryKeeper,
-    call: &str,
-) -> Result<Option<String>, AllocError> {
+fn answer(alloc: Global, keeper: &mut MemoryKeeper, call: &str) -> Result<String, LineFault> {
     match call {
         "load" => loaded(alloc, keeper),
         "refused" => refused(alloc, keeper),
-        "calls" => Ok(Some(format!(in alloc; "calls {}", keeper.calls())?)),
-        "faults" => Ok(Some(format!(in alloc; "faults {}", keeper.faults())?)),
+        "calls" => Ok(format!(in alloc; "calls {}", keeper.calls())?),
+        "faults" => Ok(format!(in alloc; "faults {}", keeper.faults())?),
         _ => committed(alloc, keeper, call),
     }
 }
 
 // The fault in a word.
-fn told(alloc: Global, fault: KeeperFault) -> Result<Option<String>, AllocError> {
+fn told(alloc: Global, fault: KeeperFault) -> Result<String, LineFault> {
     match fault {
-        KeeperFault::Failed => Ok(Some(String::from_str(alloc, "failed")?)),
-        KeeperFault::NoMemory => Err(AllocError),
+        KeeperFault::Failed => Ok(String::from_str(alloc, "failed")?),
+        KeeperFault::NoMemory => Err(LineFault::NoMemory),
     }
 }
 
 // ---- what there is
 
 // The rows that are loaded, in their order.
-fn loaded(alloc: Global, keeper: &mut MemoryKeeper) -> Result<Option<String>, AllocError> {
+fn loaded(alloc: Global, keeper: &mut MemoryKeeper) -> Result<String, LineFault> {
     match keeper.load(alloc) {
-        Ok(rows) => Ok(Some(rows_text(alloc, rows.as_slice())?)),
+        Ok(rows) => Ok(rows_text(alloc, rows.as_slice())?),
         Err(fault) => told(alloc, fault),
     }
 }
@@ -107,14 +95,14 @@ fn text_or(alloc: Global, text: String, word: &str) -> Result<String, AllocError
 }
 
 // The batches that were refused, in their order, or `none`.
-fn refused(alloc: Global, keeper: &MemoryKeeper) -> Result<Option<String>, AllocError> {
+fn refused(alloc: Global, keeper: &MemoryKeeper) -> Result<String, LineFault> {
     let mut batches = String::new(alloc);
     for batch in keeper.refused() {
         let text = batch_text(alloc, batch)?;
         add(&mut batches, " / ", text.as_str())?;
     }
     let batches = text_or(alloc, batches, "none")?;
-    Ok(Some(format!(in alloc; "refused {batches}")?))
+    Ok(format!(in alloc; "refused {batches}")?)
 }
 
 // The puts and the deletes of a batch, or `nothing`.
@@ -133,69 +121,55 @@ fn batch_text(alloc: Global, batch: &Batch) -> Result<String, AllocError> {
 // ---- commits
 
 // Whether a batch is taken, as `commit 5.1=a -2.7`.
-fn committed(
-    alloc: Global,
-    keeper: &mut MemoryKeeper,
-    call: &str,
-) -> Result<Option<String>, AllocError> {
+fn committed(alloc: Global, keeper: &mut MemoryKeeper, call: &str) -> Result<String, LineFault> {
     let Some(words) = call.strip_prefix("commit") else {
-        return Ok(None);
+        return Err(LineFault::Malformed);
     };
-    let Some(batch) = batch_of(alloc, words)? else {
-        return Ok(None);
-    };
+    let batch = batch_of(alloc, words)?;
     match keeper.commit(alloc, &batch) {
-        Ok(()) => Ok(Some(String::from_str(alloc, "ok")?)),
+        Ok(()) => Ok(String::from_str(alloc, "ok")?),
         Err(fault) => told(alloc, fault),
     }
 }
 
 // The batch that the words tell.
-fn batch_of(alloc: Global, words: &str) -> Result<Option<Batch>, AllocError> {
+fn batch_of(alloc: Global, words: &str) -> Result<Batch, LineFault> {
     let mut batch = Batch {
         puts: Items::new(alloc),
         deletes: Items::new(alloc),
     };
     for word in words.split_whitespace() {
-        if !add_word(alloc, &mut batch, word)? {
-            return Ok(None);
-        }
+        add_word(alloc, &mut batch, word)?;
     }
-    Ok(Some(batch))
+    Ok(batch)
 }
 
-// Adds what a word tells to the batch, or answers that it tells nothing.
-fn add_word(alloc: Global, batch: &mut Batch, word: &str) -> Result<bool, AllocError> {
+// Adds what a word tells to the batch.
+fn add_word(alloc: Global, batch: &mut Batch, word: &str) -> Result<(), LineFault> {
     if let Some(key) = word.strip_prefix('-') {
-        return add_delete(batch, key);
+        batch.deletes.push(key_of(key)?)?;
+        return Ok(());
     }
     match word.split_once('=') {
         Some((key, text)) => add_put(alloc, batch, key, text),
-        None => Ok(false),
+        None => Err(LineFault::Malformed),
     }
 }
 
-fn add_delete(batch: &mut Batch, key: &str) -> Result<bool, AllocError> {
-    let Some(key) = key_of(key) else {
-        return Ok(false);
-    };
-    batch.deletes.push(key)?;
-    Ok(true)
-}
-
-fn add_put(alloc: Global, batch: &mut Batch, key: &str, text: &str) -> Result<bool, AllocError> {
-    let Some((kind, id)) = key_of(key) else {
-        return Ok(false);
-    };
+fn add_put(alloc: Global, batch: &mut Batch, key: &str, text: &str) -> Result<(), LineFault> {
+    let (kind, id) = key_of(key)?;
     let bytes = Items::from_vec(Vec::from_slice(alloc, text.as_bytes())?);
     batch.puts.push(Row { kind, id, bytes })?;
-    Ok(true)
+    Ok(())
 }
 
 // The kind and the id, as `5.1`.
-fn key_of(text: &str) -> Option<(u8, u64)> {
-    let (kind, id) = text.split_once('.')?;
-    let kind = kind.parse::<u8>().ok()?;
-    let id = id.parse::<u64>().ok()?;
-    Some((kind, id))
+fn key_of(text: &str) -> Result<(u8, u64), LineFault> {
+    let Some((kind, id)) = text.split_once('.') else {
+        return Err(LineFault::Malformed);
+    };
+    let (Ok(kind), Ok(id)) = (kind.parse::<u8>(), id.parse::<u64>()) else {
+        return Err(LineFault::Malformed);
+    };
+    Ok((kind, id))
 }

@@ -1,45 +1,43 @@
 //! The farm of rows that are given one after another.
 
-use crate::quotes::unquoted;
-use crate::rows::{bytes_of, parts};
+use crate::rows::parts;
+use case_text::{LineFault, text_bytes, unquoted};
 use farm_keeper::Row;
 use farm_types::Items;
 use recovery::{RecoverFault, recover};
-use std::alloc::{AllocError, Global};
+use std::alloc::Global;
 
 /// Whether rows are a farm, as `1 0 {..} / 2 0 {"name":"alpha"}`, each a kind, an id and its bytes, in the order in which they are
-/// given: `farm`, or the first one at fault. `~` stands for the byte 255.
-pub fn recovered(alloc: Global, given: &str) -> Result<Option<String>, AllocError> {
-    let Some(rows) = rows_of(alloc, given)? else {
-        return Ok(None);
-    };
+/// given: `farm`, or the first one at fault.
+pub fn recovered(alloc: Global, given: &str) -> Result<String, LineFault> {
+    let rows = rows_of(alloc, given)?;
     match recover(alloc, rows.as_slice()) {
-        Ok(_farm) => Ok(Some(String::from_str(alloc, "farm")?)),
+        Ok(_farm) => Ok(String::from_str(alloc, "farm")?),
         Err(fault) => told(alloc, fault),
     }
 }
 
-// The rows, or nothing where one is malformed.
-fn rows_of(alloc: Global, given: &str) -> Result<Option<Items<Row>>, AllocError> {
+// The rows.
+fn rows_of(alloc: Global, given: &str) -> Result<Items<Row>, LineFault> {
     let mut rows = Items::new(alloc);
     let given = unquoted(given);
     if given.is_empty() {
-        return Ok(Some(rows));
+        return Ok(rows);
     }
     for text in given.split(" / ") {
         let Some((kind, id, spelled)) = parts(text) else {
-            return Ok(None);
+            return Err(LineFault::Malformed);
         };
-        let bytes = Items::from_vec(bytes_of(alloc, unquoted(spelled))?);
+        let bytes = Items::from_vec(text_bytes(alloc, unquoted(spelled))?);
         rows.push(Row { kind, id, bytes })?;
     }
-    Ok(Some(rows))
+    Ok(rows)
 }
 
 // The fault in its own words.
-fn told(alloc: Global, fault: RecoverFault) -> Result<Option<String>, AllocError> {
+fn told(alloc: Global, fault: RecoverFault) -> Result<String, LineFault> {
     match fault {
-        RecoverFault::NoMemory => Err(AllocError),
-        _ => Ok(Some(format!(in alloc; "{fault}")?)),
+        RecoverFault::NoMemory => Err(LineFault::NoMemory),
+        _ => Ok(format!(in alloc; "{fault}")?),
     }
 }

@@ -1,22 +1,16 @@
 //! Bytes of rows of the store.
 
-use crate::quotes::unquoted;
+use case_text::{LineFault, text_bytes, unquoted};
 use farm_rows::FarmRow;
 use row_codec::{RowFault, decode, encode};
-use std::alloc::{AllocError, Global};
+use std::alloc::Global;
 
-// What stands for a byte that no text has, and that byte.
-const MARK: u8 = b'~';
-
-const ODD: u8 = 255;
-
-/// Whether bytes are those of a row of a kind and an id, as `4 16 {"burst":2000,"size":1000}`: `row`, or the fault. `~` stands
-/// for the byte 255.
-pub fn row_bytes(alloc: Global, given: &str) -> Result<Option<String>, AllocError> {
+/// Whether bytes are those of a row of a kind and an id, as `4 16 {"burst":2000,"size":1000}`: `row`, or the fault.
+pub fn row_bytes(alloc: Global, given: &str) -> Result<String, LineFault> {
     let Some((kind, id, text)) = parts(given) else {
-        return Ok(None);
+        return Err(LineFault::Malformed);
     };
-    let bytes = bytes_of(alloc, unquoted(text))?;
+    let bytes = text_bytes(alloc, unquoted(text))?;
     match decode(alloc, kind, id, bytes.as_slice()) {
         Ok(row) => same_row(alloc, kind, id, &row, bytes.as_slice()),
         Err(fault) => told(alloc, fault),
@@ -32,15 +26,6 @@ pub fn parts(given: &str) -> Option<(u8, u64, &str)> {
     Some((kind, id, text))
 }
 
-/// The bytes of a text.
-pub fn bytes_of(alloc: Global, text: &str) -> Result<Vec<u8>, AllocError> {
-    let mut bytes = Vec::new(alloc);
-    for byte in text.bytes() {
-        bytes.push(if byte == MARK { ODD } else { byte })?;
-    }
-    Ok(bytes)
-}
-
 // Whether the row that was read is of that kind and id, and gives the bytes back.
 fn same_row(
     alloc: Global,
@@ -48,17 +33,17 @@ fn same_row(
     id: u64,
     row: &FarmRow,
     bytes: &[u8],
-) -> Result<Option<String>, AllocError> {
+) -> Result<String, LineFault> {
     let again = encode(alloc, row)?;
     let is_same = row.kind() == kind && row.id() == id && again.as_slice() == bytes;
     let words = if is_same { "row" } else { "another row" };
-    Ok(Some(String::from_str(alloc, words)?))
+    Ok(String::from_str(alloc, words)?)
 }
 
 // The fault in its own words.
-fn told(alloc: Global, fault: RowFault) -> Result<Option<String>, AllocError> {
+fn told(alloc: Global, fault: RowFault) -> Result<String, LineFault> {
     match fault {
-        RowFault::BadBytes { .. } => Ok(Some(format!(in alloc; "{fault}")?)),
-        RowFault::NoMemory => Err(AllocError),
+        RowFault::BadBytes { .. } => Ok(format!(in alloc; "{fault}")?),
+        RowFault::NoMemory => Err(LineFault::NoMemory),
     }
 }

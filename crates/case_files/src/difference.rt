@@ -5,15 +5,10 @@ use crate::ended::{Ended, run};
 use crate::in_turn::in_turn_difference;
 use crate::row_difference::rows_difference;
 use crate::store::{Left, rows_with};
+use case_text::{line_difference, status_difference, take_lines, take_settings};
 use farm_keeper::Row;
 use farm_types::Items;
-use session::Status;
 use std::alloc::{AllocError, Global};
-use std::str;
-
-const READ: Status = 4;
-
-const WRITE: Status = 5;
 
 /// Runs the sessions of a case one after the other, each over the rows that the one before left, and says what differed first from what it
 /// tells. Before the first one come the shared lines of its file, before each other the settings among them.
@@ -65,16 +60,16 @@ fn take<'a>(
     is_first: bool,
 ) -> Result<Option<&'a str>, AllocError> {
     if is_first {
-        if let Some(line) = case.take_lines(alloc, shared)? {
+        if let Some(line) = take_lines(case, alloc, shared)? {
             return Ok(Some(line));
         }
-        return case.take_lines(alloc, told);
+        return take_lines(case, alloc, told);
     }
-    if let Some(line) = case.take_settings(alloc, shared)? {
+    if let Some(line) = take_settings(case, alloc, shared)? {
         return Ok(Some(line));
     }
     let (_heading, told) = told.split_once('\n').unwrap_or((told, ""));
-    case.take_lines(alloc, told)
+    take_lines(case, alloc, told)
 }
 
 // The rows that a session begins with, or none where the refused batch that it names isn't there.
@@ -99,10 +94,10 @@ fn case_difference(
 ) -> Result<Option<String>, AllocError> {
     let failing = case.failing_keeper_calls.as_slice();
     let mut ended = run(alloc, case, rows, &case.requests, failing)?;
-    if let Some(found) = reply_difference(alloc, &case.replies, ended.sink.written())? {
+    if let Some(found) = line_difference(alloc, "reply", &case.replies, ended.sink.written())? {
         return Ok(Some(found));
     }
-    if let Some(found) = status_difference(alloc, case, &ended)? {
+    if let Some(found) = ended_difference(alloc, case, &ended)? {
         return Ok(Some(found));
     }
     let calls = ended.keeper.calls().saturating_sub(1);
@@ -116,61 +111,15 @@ fn case_difference(
     Ok(None)
 }
 
-/// The first reply that is another one, or is missing or too many.
-pub fn reply_difference(
-    alloc: Global,
-    told: &[u8],
-    came: &[u8],
-) -> Result<Option<String>, AllocError> {
-    let told_lines = told.split(|byte| *byte == b'\n');
-    let came_lines = came.split(|byte| *byte == b'\n');
-    for (index, (told, came)) in told_lines.zip(came_lines).enumerate() {
-        if told != came {
-            return Ok(Some(format!(in alloc;
-                "reply {} is {} and should be {}",
-                index + 1,
-                shown(came),
-                shown(told)
-            )?));
-        }
-    }
-    if told.len() != came.len() {
-        return Ok(Some(format!(in alloc;
-            "the replies have {} bytes and should have {}",
-            came.len(),
-            told.len()
-        )?));
-    }
-    Ok(None)
-}
-
-/// Bytes as text, where they are one.
-pub fn shown(bytes: &[u8]) -> &str {
-    if bytes.is_empty() {
-        return "missing";
-    }
-    str::from_utf8(bytes).unwrap_or("no text")
-}
-
-// Another status, or another count of reads, writes and keeper calls that failed: a session ends at the first failing read or write.
-fn status_difference(
+// Another status, or another count of reads, writes and keeper calls that failed.
+fn ended_difference(
     alloc: Global,
     case: &Case,
     ended: &Ended,
 ) -> Result<Option<String>, AllocError> {
-    if ended.status != case.status {
-        return Ok(Some(format!(in alloc;
-            "the status is {} and should be {}",
-            ended.status, case.status
-        )?));
-    }
-    let failed_reads = ended.source.faults();
-    if failed_reads != u64::from(case.status == READ) {
-        return Ok(Some(format!(in alloc; "{failed_reads} reads failed")?));
-    }
-    let failed_writes = ended.sink.faults();
-    if failed_writes != u64::from(case.status == WRITE) {
-        return Ok(Some(format!(in alloc; "{failed_writes} writes failed")?));
+    let (source, sink) = (&ended.source, &ended.sink);
+    if let Some(found) = status_difference(alloc, case.status, ended.status, source, sink)? {
+        return Ok(Some(found));
     }
     let failed_calls = ended.keeper.faults();
     if failed_calls != case.failing_keeper_calls.len() as u64 {

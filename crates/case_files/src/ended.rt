@@ -24,8 +24,8 @@ pub fn run(
     requests: &[u8],
     failing: &[u64],
 ) -> Result<Ended, AllocError> {
-    let mut source = source_of(alloc, case, requests)?;
-    let mut sink = MemorySink::make(alloc, case.writes, case.capacity, &case.failing_writes)?;
+    let mut source = case.reads.source(alloc, requests)?;
+    let mut sink = case.writes.sink(alloc)?;
     let mut clock = clock_of(alloc, case)?;
     let words = case.words.as_slice();
     let keeper = keeper_of(alloc, words, rows, failing)?;
@@ -36,12 +36,6 @@ pub fn run(
         sink,
         keeper,
     })
-}
-
-// The requests, in reads of at least a byte.
-fn source_of(alloc: Global, case: &Case, requests: &[u8]) -> Result<MemorySource, AllocError> {
-    let most = case.reads.max(1);
-    MemorySource::make(alloc, requests, most, &case.failing_reads)
 }
 
 // The case's clock, or one that shows 0 where it tells no reading.

@@ -1,11 +1,11 @@
 //! A session whose keeper fails at each of its calls in turn.
 
 use crate::case::Case;
-use crate::difference::{reply_difference, shown};
 use crate::ended::{Ended, run};
 use crate::pieces::{cut_before, first_other, line_at, without_line};
 use crate::row_difference::list_difference;
 use crate::store::{Left, rows_with};
+use case_text::{line_difference, shown};
 use farm_keeper::Row;
 use session::Status;
 use std::alloc::{AllocError, Global};
@@ -68,7 +68,7 @@ fn unopened_difference(
     ended: &Ended,
     left: &Left,
 ) -> Result<Option<String>, AllocError> {
-    if let Some(found) = reply_difference(alloc, &[], ended.sink.written())? {
+    if let Some(found) = line_difference(alloc, "reply", &[], ended.sink.written())? {
         return Ok(Some(found));
     }
     if let Some(found) = list_difference(alloc, rows, left.rows.as_slice())? {
@@ -171,7 +171,7 @@ fn same_difference(
     left: &Left,
 ) -> Result<Option<String>, AllocError> {
     let mut ended = run(alloc, case, rows, requests, &[])?;
-    if let Some(found) = reply_difference(alloc, replies, ended.sink.written())? {
+    if let Some(found) = line_difference(alloc, "reply", replies, ended.sink.written())? {
         return Ok(Some(found));
     }
     let other = Left::of(alloc, &mut ended.keeper, 0)?;

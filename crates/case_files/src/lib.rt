@@ -4,15 +4,11 @@
 mod case;
 mod difference;
 mod ended;
-mod file_names;
-mod files;
 mod in_turn;
-mod line_fault;
-mod numbers;
 mod pieces;
 mod row_difference;
-mod spelling;
+mod sessions;
 mod store;
 mod told_rows;
 
-pub use files::run_files;
+pub use sessions::run_sessions;

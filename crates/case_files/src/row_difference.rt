@@ -1,7 +1,7 @@
 //! What differs first between the rows that a case tells and those that a session left.
 
-use crate::difference::shown;
 use crate::told_rows::{RowsAfter, ToldRows};
+use case_text::shown;
 use farm_keeper::Row;
 use std::alloc::{AllocError, Global};
 

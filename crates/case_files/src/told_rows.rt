@@ -1,7 +1,6 @@
 //! What a case tells of the store's rows.
 
-use crate::line_fault::LineFault;
-use crate::spelling::text_bytes;
+use case_text::{LineFault, text_bytes};
 use farm_keeper::{Batch, Row};
 use farm_types::Items;
 use std::alloc::Global;

@@ -3,15 +3,14 @@
 #![tactic(auto)]
 
 mod files;
-mod network;
 
 ghost use Rattle.std.specs.Prelude.{◌≡◌, ◌≢◌};
 ghost use Rattle.std.specs.Process.{exit_status};
 
 use crate::files::DiskFiles;
-use crate::network::NetDialer;
 use cue_io::OutputSink;
 use cue_tool::{Status, run_program};
+use dialer::NetDialer;
 use farm_types::{Items, Text};
 use std::env;
 use std::io::{self, ErrorKind};

@@ -1,5 +1,4 @@
 mod CallLemmas
 mod EndLemmas
 mod ListingLemmas
-mod PortLemmas
 mod ProgramLemmas

@@ -1,16 +1,12 @@
 -- A run of the program, by what its parts did.
-use Rattle.std.proofs.Common.{◌≡◌, ◌<◌, ◌≤◌, ℕ, slice_index_or, length, drop, arith, Bool, true, false, List, [], ◌∷◌, inl, refl, sym, subst, Option, None, Some, Result, option_map, append-nil}
+use Rattle.std.proofs.Common.{◌≡◌, ℕ, Bool, true, false, List, [], ◌∷◌, inl, refl, sym, subst, Option, None, Some, Result}
 use Rattle.cue_words.specs.Commands.{words_of}
-use Rattle.cue_tool.specs.declared.program.DialFault.{DialFault}
+use Rattle.dialer.specs.declared.dial.DialFault.{DialFault}
+use Rattle.dialer.specs.Dials.{Dial, Joined, Target, target_of}
 use Rattle.cue_tool.specs.declared.program.SpecFault.{SpecFault}
 use Rattle.cue_tool.specs.Calls.{Call}
 use Rattle.cue_tool.proofs.EndLemmas.{no_call}
-use Rattle.cue_tool.specs.Programs.{Connects, Dial, Dials, EndsWith, Grows, HasCalled, IsRun, IsRunAt, Joined, Opens, OrNoMemory, Reads, RunsWith, Target, file_of, is_request, port_of, target_at, target_of}
-
--- what stays has grown by nothing
-pub Grows-none : {X : Type 0} (told : Option (List X)) → Grows told told []
-Grows-none None = tt
-Grows-none (Some told) = sym (append-nil told)
+use Rattle.cue_tool.specs.Programs.{Connects, Dials, EndsWith, HasCalled, IsRun, IsRunAt, Opens, OrNoMemory, Reads, RunsWith, file_of, is_request}
 
 -- nothing was done
 pub ended : (status : ℕ) → EndsWith status status no_call
@@ -43,19 +39,3 @@ ran_with target file text status dialled call is opens =
 -- the words don't say where to connect
 pub unplaced : (words : List (List ℕ)) → target_of words ≡ None → IsRun words 2 (record { dialled = []; opened = []; call = no_call })
 unplaced words is = subst (λ (target : Option Target). IsRunAt target 2 (record { dialled = []; opened = []; call = no_call })) (sym is) (refl, refl, ended 2)
-
--- there are fewer words than an address and a port
-pub few_words : (words : List (List ℕ)) → length words < 2 → target_of words ≡ None
-few_words [] few = refl
-few_words (word ∷ []) few = refl
-few_words (address ∷ port ∷ words) few = absurd (omega (arith, few))
-
--- an address and a port stand first
-pub target_is : (words : List (List ℕ)) (address port : List ℕ) → 2 ≤ length words → address ≡ slice_index_or words 0 address → port ≡ slice_index_or words 1 port
-    → target_of words ≡ option_map (target_at address (drop 2 words)) (port_of port)
-target_is [] address port long first second = absurd (omega (arith, long))
-target_is (word ∷ []) address port long first second = absurd (omega (arith, long))
-target_is (a ∷ p ∷ words) address port long first second =
-    let address_is : a ≡ address = sym first in
-    let port_is : p ≡ port = sym second in
-    λ i. option_map (target_at (address_is i) words) (port_of (port_is i))

@@ -3,11 +3,10 @@
 
 mod cells;
 mod listing;
-mod port;
 mod program;
 mod row;
 mod run;
 mod shown;
 
-pub use program::{DialFault, Dialer, SpecFault, SpecFiles, run_program};
+pub use program::{SpecFault, SpecFiles, run_program};
 pub use run::{Status, run_cue};

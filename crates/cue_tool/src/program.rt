@@ -4,40 +4,19 @@ ghost use Rattle.std.specs.Prelude.{◌≡◌, List, [], ◌∷◌, IfOk, Option
 ghost use Rattle.cue_io.specs.Output.{Adds};
 ghost use Rattle.cue_words.specs.Commands.{words_of};
 ghost use Rattle.cue_tool.specs.Calls.{Call};
-ghost use Rattle.cue_tool.specs.Programs.{Connects, Dial, Grows, HasCalled, HasCalledOver, IsRun, IsRunAt, Joined, Opened, OrNoMemory, Reads, Run, file_of, is_request, joined_by, target_at};
+ghost use Rattle.dialer.specs.Dials.{Dial, Grows, Joined, target_at};
+ghost use Rattle.cue_tool.specs.Programs.{Connects, HasCalled, HasCalledOver, IsRun, IsRunAt, Opened, OrNoMemory, Reads, Run, file_of, is_request};
 
-use crate::port::port_of;
 use crate::run::{NO_MEMORY, Status, WRONG_WORDS, run_cue};
 use cue_io::{MemorySink, MemorySource, Sink, Source};
 use cue_words::{ToolWords, WordsFault, read_words};
+use dialer::{DialFault, Dialer, target_of};
 use farm_types::Text;
 use std::alloc::{AllocError, Global};
 
 const NO_CONNECTION: Status = 9;
 
 const UNREADABLE_SPEC: Status = 13;
-
-/// Why there is no connection.
-#[derive(Clone, Copy, Debug, PartialEq, Eq)]
-pub enum DialFault {
-    /// Nothing answered at the place.
-    Failed,
-    /// Memory ran out.
-    NoMemory,
-}
-
-/// What connects to a place by its address and port. Where it can, it tells the connections that it was asked for, and what came of that.
-pub trait Dialer {
-    type In: Source + Drop;
-
-    type Out: Sink + Drop;
-
-    ghost dialled: { Self → Option (List Dial) };
-
-    fn dial(&mut self, address: &str, port: u16) -> Result<(Self::In, Self::Out), DialFault>
-        ensures { Grows (dialled self.old) (dialled self.new)
-            (record { place = record { address = address.now; port = port }; came = joined_by Self.In.left Self.Out.written result } ∷ []) };
-}
 
 /// Why a file gave no text.
 #[derive(Clone, Copy, Debug, PartialEq, Eq)]
@@ -70,13 +49,10 @@ pub fn run_program<D: Dialer, F: SpecFiles, O: Sink>(
         × Grows (F.opened files.old) (F.opened files.new) run.opened
         × Adds (O.written out.old) (O.written out.new) run.call.printed }
 {
-    let [address, port, command @ ..] = words else {
+    let Some((address, port, command)) = target_of(words) else {
         return WRONG_WORDS;
     };
-    let Some(port) = port_of(port.as_str()) else {
-        return WRONG_WORDS;
-    };
-    run_command(alloc, address.as_str(), port, command, dialer, files, out)
+    run_command(alloc, address, port, command, dialer, files, out)
 }
 
 // Runs the tool for its command: reads the file of a job spec where there is one.

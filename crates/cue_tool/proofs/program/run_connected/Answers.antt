@@ -1,9 +1,10 @@
 -- A connection was had, or none was.
 use Rattle.std.proofs.Common.{◌≡◌, ℕ, List, Ok, Err, Option, Result, ap, sym, ◌∙◌, subst, option_map}
 use Rattle.cue_io.specs.Output.{Adds-none}
-use Rattle.cue_tool.specs.declared.program.DialFault.{DialFault}
-use Rattle.cue_tool.specs.declared.program.DialFault.TheVariants as dial_faults
-use Rattle.cue_tool.specs.Programs.{Connects, Joined, joined_by}
+use Rattle.dialer.specs.declared.dial.DialFault.{DialFault}
+use Rattle.dialer.specs.declared.dial.DialFault.TheVariants as dial_faults
+use Rattle.dialer.specs.Dials.{Joined, joined_by}
+use Rattle.cue_tool.specs.Programs.{Connects}
 use Rattle.cue_tool.proofs.EndLemmas.{no_call}
 use Rattle.cue_tool.proofs.ProgramLemmas.{ended}
 use Rattle.cue_tool.proofs.program.run_connected.Goals as goal

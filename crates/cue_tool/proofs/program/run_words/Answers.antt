@@ -2,9 +2,10 @@
 use Rattle.std.proofs.Common.{◌≡◌, ℕ, List, [], ◌∷◌, true, false, inr, refl, Option, option_map}
 use Rattle.cue_io.specs.Output.{Adds-none}
 use Rattle.cue_words.specs.Commands.{words_of}
-use Rattle.cue_tool.specs.Programs.{Target, is_request, target_at}
+use Rattle.dialer.specs.Dials.{Grows-none, Target, target_at}
+use Rattle.cue_tool.specs.Programs.{is_request}
 use Rattle.cue_tool.proofs.EndLemmas.{no_call}
-use Rattle.cue_tool.proofs.ProgramLemmas.{Grows-none, apart, connected, ended}
+use Rattle.cue_tool.proofs.ProgramLemmas.{apart, connected, ended}
 use Rattle.cue_tool.proofs.program.run_words.Goals as goal
 
 pub returns-in-Ok-true : goal.returns-in-Ok-true

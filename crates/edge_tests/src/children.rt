@@ -1,0 +1,83 @@
+//! Child programs are attempts.
+use child_spawner::ChildSpawner;
+use farm_types::{Attempt, Exit, Slot, Version};
+use rqd_launcher::{SpawnFault, Spawner};
+use std::alloc::Global;
+use std::rt::Clock;
+use std::test::Fail;
+use std::thread;
+use std::time::Duration;
+
+const FIRST: Attempt = Attempt {
+    slot: Slot(0),
+    version: Version(1),
+};
+
+const OTHER: Attempt = Attempt {
+    slot: Slot(1),
+    version: Version(1),
+};
+
+// How many polls a child has to end, with a pause of 10 ms after each.
+const MOST_POLLS: u32 = 2_000;
+
+// How an attempt ended, once it has.
+fn ended<P: Spawner>(
+    rt: &impl Clock,
+    alloc: Global,
+    spawner: &mut P,
+    attempt: &Attempt,
+) -> Result<Option<Exit>, SpawnFault> {
+    for _poll in 0..MOST_POLLS {
+        let exit = spawner.poll(alloc, *attempt)?;
+        if exit.is_some() {
+            return Ok(exit);
+        }
+        thread::sleep(rt, Duration::from_millis(10));
+    }
+    Ok(None)
+}
+
+fn exit(status: u32, signal: u32) -> Option<Exit> {
+    Some(Exit { status, signal })
+}
+
+#[test]
+fn a_command_ends_with_its_status(rt: HostRuntime) -> Result<(), Fail> {
+    let alloc = rt.alloc();
+    let mut spawner = ChildSpawner::make(alloc, rt);
+    spawner.start(alloc, FIRST, "exit 3")?;
+    spawner.start(alloc, OTHER, "/no/such/command")?;
+    assert_eq!(rt; ended(&rt, alloc, &mut spawner, &FIRST)?, exit(3, 0));
+    assert_eq!(rt; ended(&rt, alloc, &mut spawner, &OTHER)?, exit(127, 0));
+    assert_eq!(rt; spawner.poll(alloc, FIRST)?, None);
+    assert_eq!(rt; spawner.faults(), 0);
+    Ok(())
+}
+
+#[test]
+fn a_stop_ends_all_that_a_command_started(rt: HostRuntime) -> Result<(), Fail> {
+    let alloc = rt.alloc();
+    let mut spawner = ChildSpawner::make(alloc, rt);
+    spawner.start(alloc, FIRST, "sleep 100 & sleep 100")?;
+    assert_eq!(rt; spawner.poll(alloc, FIRST)?, None);
+    spawner.stop(alloc, FIRST)?;
+    assert_eq!(rt; ended(&rt, alloc, &mut spawner, &FIRST)?, exit(1, 9));
+    spawner.stop(alloc, FIRST)?;
+    spawner.stop(alloc, OTHER)?;
+    assert_eq!(rt; spawner.faults(), 0);
+    Ok(())
+}
+
+#[test]
+fn a_start_that_fails_is_counted(rt: HostRuntime) -> Result<(), Fail> {
+    let alloc = rt.alloc();
+    let mut spawner = ChildSpawner::make(alloc, rt);
+    assert_eq!(rt;
+        spawner.start(alloc, FIRST, "exit 3\0"),
+        Err(SpawnFault::Failed)
+    );
+    assert_eq!(rt; spawner.poll(alloc, FIRST)?, None);
+    assert_eq!(rt; spawner.faults(), 1);
+    Ok(())
+}

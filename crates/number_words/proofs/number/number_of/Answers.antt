@@ -1,0 +1,5 @@
+use Rattle.number_words.proofs.NumberLemmas.{number_read}
+use Rattle.number_words.proofs.number.number_of.Goals as goal
+
+pub returns-then-is_number : goal.returns-then-is_number
+returns-then-is_number c = number_read c.args.text.now c.parse.result c.ok.result c.parse.ensures.value.0 c.if-is_number.ensures c.ok.ensures.value

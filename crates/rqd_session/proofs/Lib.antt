@@ -1,0 +1,7 @@
+mod RoundLemmas
+mod MadeLemmas
+mod CallLemmas
+mod EndLemmas
+mod NumberLemmas
+mod WordLemmas
+mod ProgramLemmas

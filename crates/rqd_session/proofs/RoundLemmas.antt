@@ -1,0 +1,60 @@
+-- Rounds after one another: what one round more adds, and the causes of its calls.
+use Rattle.std.proofs.Common.{◌≡◌, ◌+◌, ◌<◌, ◌≤◌, ◌⊎◌, inl, inr, ℕ, cond, List, [], ◌∷◌, ◌++◌, arith, refl, sym, ap, ◌∙◌, subst, length, sum_by, take, drop, append_assoc, append-nil, length-drop, take-append-drop}
+use Rattle.std.proofs.lemmas.List.{map-append}
+use Rattle.std.proofs.lemmas.List.Sums.{sum_by-append}
+use Rattle.cue_io.specs.Faults.{last_count}
+use Rattle.rqd_core.specs.Life.{Life}
+use Rattle.rqd_launcher.specs.declared.call.SpawnCall.{SpawnCall}
+use Rattle.rqd_launcher.specs.Carries.{HaveCauses, is_failure}
+use Rattle.rqd_session.specs.Rounds.{Round, AreRounds, IsFront, IsRound, after_round, after_rounds, calls_in, line_after, lines_sent, replies_in}
+
+-- ---- one round more
+
+pub are_rounds-append : (l : Life) (rs : List Round) (r : Round) → AreRounds l rs → IsRound (after_rounds l rs) r → AreRounds l (rs ++ r ∷ [])
+are_rounds-append l [] r are is = (is, tt)
+are_rounds-append l (q ∷ rs) r are is = (are.0, are_rounds-append (after_round l q) rs r are.1 is)
+
+pub after_rounds-append : (l : Life) (rs : List Round) (r : Round) → after_rounds l (rs ++ r ∷ []) ≡ after_round (after_rounds l rs) r
+after_rounds-append l [] r = refl
+after_rounds-append l (q ∷ rs) r = after_rounds-append (after_round l q) rs r
+
+pub lines_sent-append : (l : Life) (rs : List Round) (r : Round) → lines_sent l (rs ++ r ∷ []) ≡ lines_sent l rs ++ line_after (after_rounds l rs) r.polls
+lines_sent-append l [] r = append-nil (line_after l r.polls)
+lines_sent-append l (q ∷ rs) r =
+    ap (λ bytes. line_after l q.polls ++ bytes) (lines_sent-append (after_round l q) rs r)
+    ∙ sym (append_assoc (line_after l q.polls) (lines_sent (after_round l q) rs) (line_after (after_rounds (after_round l q) rs) r.polls))
+
+pub calls_in-append : (rs : List Round) (r : Round) → calls_in (rs ++ r ∷ []) ≡ calls_in rs ++ (r.polls ++ r.acts)
+calls_in-append [] r = append-nil (r.polls ++ r.acts)
+calls_in-append (q ∷ rs) r =
+    ap (λ calls. (q.polls ++ q.acts) ++ calls) (calls_in-append rs r) ∙ sym (append_assoc (q.polls ++ q.acts) (calls_in rs) (r.polls ++ r.acts))
+
+pub replies_in-append : (rs : List Round) (r : Round) → replies_in (rs ++ r ∷ []) ≡ replies_in rs ++ r.reply ∷ []
+replies_in-append rs r = map-append (λ (q : Round). q.reply) rs (r ∷ [])
+
+-- ---- causes
+
+-- what a call weighs in the count of faults
+abbrev weight : SpawnCall → ℕ
+weight c = cond (is_failure c.answer) 1 0
+
+causes_by : (n m old mid new : ℕ) → (old + n ≤ mid) ⊎ (last_count ≤ mid) → (mid + m ≤ new) ⊎ (last_count ≤ new) → (old + (n + m) ≤ new) ⊎ (last_count ≤ new)
+causes_by n m old mid new first (inr full) = inr full
+causes_by n m old mid new (inl rose) (inl more) = inl (omega arith)
+causes_by n m old mid new (inr full) (inl more) = inr (omega arith)
+
+pub HaveCauses-none : (faults : ℕ) → HaveCauses [] faults faults
+HaveCauses-none faults = inl (omega arith)
+
+pub HaveCauses-append : (first second : List SpawnCall) (old mid new : ℕ) → HaveCauses first old mid → HaveCauses second mid new → HaveCauses (first ++ second) old new
+HaveCauses-append first second old mid new before after =
+    subst (λ (count : ℕ). (old + count ≤ new) ⊎ (last_count ≤ new)) (sym (sum_by-append weight first second))
+    (causes_by (sum_by weight first) (sum_by weight second) old mid new before after)
+
+-- ---- fronts of a text
+
+pub front_part : (text : List ℕ) (count : ℕ) → count < length text → IsFront text (take count text)
+front_part text count short = (drop count text, omega (arith, length-drop count text), take-append-drop count text)
+
+pub front_none : (text : List ℕ) → 0 < length text → IsFront text []
+front_none text some = (text, some, refl)
