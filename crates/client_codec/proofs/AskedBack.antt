@@ -16,7 +16,7 @@ use Rattle.client_codec.proofs.AskedNames.{alloc_fits, alloc_read, drop_fits, dr
 use Rattle.client_codec.proofs.AskedReport.{report_fits, report_read}
 use Rattle.client_codec.proofs.AskedSub.{sub_fits, sub_read}
 use Rattle.client_codec.proofs.AskedSubmit.{submit_fits, submit_read}
-use Rattle.client_codec.proofs.DataBack.{Fits}
+use Rattle.object_writer.proofs.DataBack.{Fits}
 
 tick_read : IsReadAs tick_line request.Tick
 unfolding tick_line

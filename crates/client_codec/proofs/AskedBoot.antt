@@ -17,7 +17,7 @@ use Rattle.farm_lines.specs.RequestText.{boot_line, texts_data}
 use Rattle.farm_lines.specs.Spec.{formed}
 use Rattle.farm_lines.specs.Words.{whole}
 use Rattle.client_codec.proofs.AskedFields.{IsReadAs, number_back, tags_back, texts_fit, within_back}
-use Rattle.client_codec.proofs.DataBack.{Fits}
+use Rattle.object_writer.proofs.DataBack.{Fits}
 use Rattle.client_codec.proofs.FieldsBack.{name_back, text_back}
 use Rattle.client_codec.proofs.TextsFit.{name_fits}
 

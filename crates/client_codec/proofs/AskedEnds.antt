@@ -11,7 +11,7 @@ use Rattle.farm_lines.specs.DependLines.{frame_if, key_if, layer_if, own_keys, t
 use Rattle.farm_lines.specs.Words.{signed}
 use Rattle.client_codec.proofs.AskedFields.{signed_back, signed_fits}
 use Rattle.client_codec.proofs.AskedOptions.{in_back, in_front, named_key}
-use Rattle.client_codec.proofs.DataBack.{Fits}
+use Rattle.object_writer.proofs.DataBack.{Fits}
 use Rattle.client_codec.proofs.FieldsBack.{name_back}
 use Rattle.client_codec.proofs.TextsFit.{name_fits}
 

@@ -19,7 +19,7 @@ use Rattle.farm_lines.specs.Request.{request_at, request_of}
 use Rattle.farm_lines.specs.RequestText.{texts_data}
 use Rattle.farm_lines.specs.Spec.{number_at, tags_at, tags_in, within}
 use Rattle.farm_lines.specs.Words.{signed, whole}
-use Rattle.client_codec.proofs.DataBack.{Fits, ItemsFit, object_back}
+use Rattle.object_writer.proofs.DataBack.{Fits, ItemsFit, object_back}
 use Rattle.client_codec.proofs.FieldsBack.{between, whole_back}
 use Rattle.client_codec.proofs.ItemsBack.{items_back, items_seen}
 use Rattle.client_codec.proofs.TextsFit.{tag_fits}

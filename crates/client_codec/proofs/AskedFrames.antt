@@ -13,7 +13,7 @@ use Rattle.farm_lines.specs.Request.{asked, asks_kill}
 use Rattle.farm_lines.specs.RequestText.{frame_line}
 use Rattle.farm_lines.specs.Words.{signed}
 use Rattle.client_codec.proofs.AskedFields.{IsReadAs, signed_back, signed_fits}
-use Rattle.client_codec.proofs.DataBack.{Fits}
+use Rattle.object_writer.proofs.DataBack.{Fits}
 use Rattle.client_codec.proofs.FieldsBack.{name_back}
 use Rattle.client_codec.proofs.TextsFit.{name_fits}
 

@@ -24,7 +24,7 @@ use Rattle.farm_lines.specs.Words.{whole}
 use Rattle.client_codec.proofs.AskedFields.{number_back, tags_back, texts_fit, there, within_back}
 use Rattle.client_codec.proofs.AskedPoints.{cores_back, cores_fit}
 use Rattle.client_codec.proofs.AskedRange.{IsRange, range_back}
-use Rattle.client_codec.proofs.DataBack.{Fits}
+use Rattle.object_writer.proofs.DataBack.{Fits}
 use Rattle.client_codec.proofs.FieldsBack.{form_back, name_back, text_back}
 use Rattle.client_codec.proofs.TextsFit.{name_fits}
 

@@ -17,7 +17,7 @@ use Rattle.farm_lines.specs.RequestText.{list_line}
 use Rattle.farm_lines.specs.Spec.{number_at}
 use Rattle.farm_lines.specs.Words.{whole}
 use Rattle.client_codec.proofs.AskedFields.{IsReadAs, number_back, there}
-use Rattle.client_codec.proofs.DataBack.{Fits}
+use Rattle.object_writer.proofs.DataBack.{Fits}
 use Rattle.client_codec.proofs.FieldsBack.{name_back}
 use Rattle.client_codec.proofs.TextsFit.{name_fits}
 

@@ -11,7 +11,7 @@ use Rattle.cue_json.specs.Fields.{first_other, is_expected}
 use Rattle.farm_lines.specs.DependLines.{key_if}
 use Rattle.farm_lines.specs.RequestText.{with_signed, with_text}
 use Rattle.farm_lines.specs.Words.{signed}
-use Rattle.client_codec.proofs.DataBack.{Fits, is_next, MembersFit, members_above}
+use Rattle.object_writer.proofs.DataBack.{Fits, is_next, MembersFit, members_above}
 
 -- a member that is spelled so, where there is one
 pub record IsOptional {X : Type 0} (spelled : X → Data) (adds : List ℕ → Option X → Members → Members) : Type 0 where

@@ -23,7 +23,7 @@ use Rattle.farm_lines.specs.RequestText.{done_item_data, report_line}
 use Rattle.farm_lines.specs.Words.{whole}
 use Rattle.client_codec.proofs.AskedFields.{IsReadAs, list_back, told}
 use Rattle.client_codec.proofs.AttemptsBack.{attempt_back, attempt_fits}
-use Rattle.client_codec.proofs.DataBack.{Fits}
+use Rattle.object_writer.proofs.DataBack.{Fits}
 use Rattle.client_codec.proofs.FieldsBack.{name_back, whole_back}
 use Rattle.client_codec.proofs.ItemsBack.{items_fit}
 use Rattle.client_codec.proofs.TextsFit.{name_fits}

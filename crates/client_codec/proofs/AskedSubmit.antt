@@ -24,7 +24,7 @@ use Rattle.farm_lines.specs.Words.{whole}
 use Rattle.client_codec.proofs.AskedFields.{IsReadAs, list_back, list_seen, number_back, there, within_back}
 use Rattle.client_codec.proofs.AskedLayers.{form_of, layer_fits, layer_read, layers_back}
 use Rattle.client_codec.proofs.AskedOwn.{own_fits, own_read}
-use Rattle.client_codec.proofs.DataBack.{Fits}
+use Rattle.object_writer.proofs.DataBack.{Fits}
 use Rattle.client_codec.proofs.FieldsBack.{fields_in, flag_back, form_back, name_back}
 use Rattle.client_codec.proofs.ItemsBack.{items_fit}
 use Rattle.client_codec.proofs.TextsFit.{name_fits, name_or_empty_fits, tag_fits}

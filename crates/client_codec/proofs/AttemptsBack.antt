@@ -7,7 +7,7 @@ use Rattle.farm_lines.specs.Fields.{item_at}
 use Rattle.farm_lines.specs.FormedLines.{IsFormedAttempt}
 use Rattle.farm_lines.specs.Reply.{attempt_data}
 use Rattle.farm_lines.specs.Request.{attempt_at}
-use Rattle.client_codec.proofs.DataBack.{Fits}
+use Rattle.object_writer.proofs.DataBack.{Fits}
 use Rattle.client_codec.proofs.FieldsBack.{fields_in, whole_back}
 
 pub attempt_fits : (a : Attempt) → IsFormedAttempt a → Fits 1 (attempt_data a)

@@ -7,7 +7,7 @@ use Rattle.serde_json.specs.Data.{Data, Members}
 use Rattle.serde_json.specs.View.{items_of}
 use Rattle.cue_json.specs.Fields.{Fault}
 use Rattle.farm_lines.specs.Fields.{item_at, items_at}
-use Rattle.client_codec.proofs.DataBack.{Fits, ItemsFit}
+use Rattle.object_writer.proofs.DataBack.{Fits, ItemsFit}
 
 module _ {X : Type 0} (spelled : X → Data) (P : X → Type 0) where
   pub items_fit : (n : ℕ) → ((x : X) → P x → Fits n (spelled x)) → (xs : List X) → All P xs → ItemsFit n (items_of (map spelled xs))

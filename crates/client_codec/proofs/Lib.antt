@@ -15,7 +15,6 @@ mod AskedReport
 mod AskedSub
 mod AskedSubmit
 mod AttemptsBack
-mod DataBack
 mod FieldsBack
 mod ItemsBack
 mod LineRefusedBack
@@ -29,4 +28,3 @@ mod ReportBack
 mod RequestTokens
 mod RowsBack
 mod TextsFit
-mod WordsBack

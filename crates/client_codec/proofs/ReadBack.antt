@@ -4,7 +4,7 @@ use Rattle.serde_json.specs.Data.{object, Members}
 use Rattle.serde_json.specs.Written.{compact_text}
 use Rattle.farm_lines.specs.declared.reply.Reply.{Reply}
 use Rattle.farm_lines.specs.ReplyLines.{reply_at, reply_of}
-use Rattle.client_codec.proofs.DataBack.{Fits, object_back}
+use Rattle.object_writer.proofs.DataBack.{Fits, object_back}
 
 -- with lists of objects at most
 pub back : (ms : Members) (r : Reply) → Fits 3 (object ms) → reply_at ms ≡ Ok r → reply_of (compact_text (object ms)) ≡ Some r

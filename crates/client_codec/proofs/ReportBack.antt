@@ -2,22 +2,23 @@
 use Rattle.std.proofs.Common.{◌≡◌, ℕ, List, length, Some, Ok, refl, arith, le-leb}
 use Rattle.std.specs.Prelude.{codes}
 use Rattle.farm_types.specs.declared.limits.TheConstants.{LAST_BOOT, LAST_SLOT, LAST_VERSION, LEAST_CORES, LEAST_MEMORY, MOST_CORES, MOST_MEMORY}
+use Rattle.farm_words.specs.Words.{cut_of, cut_word}
 use Rattle.farm_lines.specs.declared.launch.Launch.{Launch}
 use Rattle.farm_lines.specs.declared.limits.TheConstants.{LAUNCHES_EACH}
 use Rattle.farm_lines.specs.declared.reply.Reply.TheVariants as reply
 use Rattle.farm_lines.specs.declared.reply.ReportReply.{ReportReply}
 use Rattle.farm_lines.specs.Fields.{item_at}
 use Rattle.farm_lines.specs.FormedLines.{IsFormedAttempt, IsFormedLaunch, IsFormedReportReply}
-use Rattle.farm_lines.specs.Reply.{attempt_data, cut_text, launch_data, reply_text, report_data}
-use Rattle.farm_lines.specs.ReplyLines.{cut_of, launch_at, reply_of, report_reply_at}
+use Rattle.farm_lines.specs.Reply.{attempt_data, launch_data, reply_text, report_data}
+use Rattle.farm_lines.specs.ReplyLines.{launch_at, reply_of, report_reply_at}
 use Rattle.farm_lines.specs.Request.{attempt_at}
 use Rattle.client_codec.proofs.AttemptsBack.{attempt_back, attempt_fits}
-use Rattle.client_codec.proofs.DataBack.{Fits}
+use Rattle.object_writer.proofs.DataBack.{Fits}
 use Rattle.client_codec.proofs.FieldsBack.{fields_in, name_back, whole_back, word_back}
 use Rattle.client_codec.proofs.ItemsBack.{items_back, items_fit}
 use Rattle.client_codec.proofs.ReadBack.{back}
 use Rattle.client_codec.proofs.TextsFit.{name_fits, text_fits}
-use Rattle.client_codec.proofs.WordsBack.{cut_back, cut_utf8}
+use Rattle.farm_words.proofs.WordsBack.{cut_back, cut_utf8}
 
 -- ---- launches
 
@@ -63,7 +64,7 @@ launch_read field l h =
 pub report_back : (r : ReportReply) → IsFormedReportReply r → reply_of (reply_text (reply.Report r)) ≡ Some (reply.Report r)
 unfolding report_data report_reply_at
 report_back r h =
-    let ms = fields_in (report_data r.boot r.seq (cut_text r.cut) r.acks r.kills r.launches) in
+    let ms = fields_in (report_data r.boot r.seq (cut_word r.cut) r.acks r.kills r.launches) in
     back ms (reply.Report r) (
       refl,
       items_fit attempt_data IsFormedAttempt 1 attempt_fits r.acks h.each_ack,
@@ -84,7 +85,7 @@ report_back r h =
     rw (
       items_back attempt_data IsFormedAttempt (codes "acks") attempt_at (attempt_back (codes "acks")) r.acks h.each_ack,
       whole_back (codes "boot") ms 1 LAST_BOOT r.boot refl h.boot_within,
-      word_back (codes "cut") ms cut_of (cut_text r.cut) r.cut refl (cut_back r.cut),
+      word_back (codes "cut") ms cut_of (cut_word r.cut) r.cut refl (cut_back r.cut),
       items_back attempt_data IsFormedAttempt (codes "kills") attempt_at (attempt_back (codes "kills")) r.kills h.each_kill,
       items_back launch_data IsFormedLaunch (codes "launches") launch_at (launch_read (codes "launches")) r.launches h.each_launch,
       le-leb (length r.launches) LAUNCHES_EACH h.few,

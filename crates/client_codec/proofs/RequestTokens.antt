@@ -4,9 +4,8 @@ use Rattle.std.specs.Fmt.{signed_decimal}
 use Rattle.json.specs.Token.{Token, begin_object, key, number}
 use Rattle.serde_json.specs.Data.{Data, object, Members, member}
 use Rattle.farm_lines.specs.Words.{signed}
-use Rattle.line_writer.specs.Tokens.{added, tokens_of}
-use Rattle.line_writer.proofs.Printed.{added_append}
-use Rattle.client_codec.specs.Written.{fields_tokens}
+use Rattle.object_writer.specs.Tokens.{added, fields_tokens, tokens_of}
+use Rattle.object_writer.proofs.Printed.{added_append}
 
 pub signed_tokens : (z : ℤ) → tokens_of (signed z) ≡ number (signed_decimal z) ∷ []
 signed_tokens (pos n) = refl

@@ -3,6 +3,7 @@ use Rattle.std.proofs.Common.{◌≡◌, ℕ, List, Ok, refl, arith}
 use Rattle.std.specs.Prelude.{codes}
 use Rattle.serde_json.specs.Find.{as_object}
 use Rattle.farm_types.specs.declared.limits.TheConstants.{LAST_BOOT, LAST_DEPEND, LAST_SLOT, LAST_VERSION, LEAST_CORES, LEAST_MEMORY, MOST_BURST, MOST_CORES, MOST_FRAMES, MOST_MEMORY, MOST_PRIORITY, MOST_RETRIES}
+use Rattle.farm_words.specs.Words.{host_state_of, host_word, job_state_of, job_word, kind_of, kind_word, lock_of, lock_word, state_of, state_word}
 use Rattle.farm_lines.specs.declared.list_row.ListRow.{ListRow}
 use Rattle.farm_lines.specs.declared.list_row.ListRow.TheVariants as row
 use Rattle.farm_lines.specs.declared.list_row.ShownDepend.{ShownDepend}
@@ -12,18 +13,15 @@ use Rattle.farm_lines.specs.declared.list_row.ShownJob.{ShownJob}
 use Rattle.farm_lines.specs.declared.list_row.ShownLayer.{ShownLayer}
 use Rattle.farm_lines.specs.declared.list_row.ShownProc.{ShownProc}
 use Rattle.farm_lines.specs.declared.list_row.ShownSub.{ShownSub}
-use Rattle.farm_lines.specs.DependLines.{kind_of}
 use Rattle.farm_lines.specs.Fields.{item_at}
 use Rattle.farm_lines.specs.FormedLines.{IsFormedHostRow, IsFormedJobRow, IsFormedLayerRow, IsFormedProcRow, IsFormedRow, IsFormedSubRow, IsName}
 use Rattle.farm_lines.specs.ListReplies.{depend_row_data, frame_row_data, host_row_data, job_row_data, layer_row_data, list_row_data, name_data, proc_row_data, sub_row_data}
-use Rattle.farm_lines.specs.ReplyRows.{depend_row, frame_row, host_row, host_state_of, job_row, job_state_of, kind_of_row_at, layer_row, name_row, proc_row, row_at, state_of, sub_row}
-use Rattle.farm_lines.specs.Request.{lock_of}
+use Rattle.farm_lines.specs.ReplyRows.{depend_row, frame_row, host_row, job_row, kind_of_row_at, layer_row, name_row, proc_row, row_at, sub_row}
 use Rattle.farm_lines.specs.RowKinds.{kind_of_row}
-use Rattle.farm_lines.specs.Words.{host_word, job_word, kind_word, lock_word, state_word}
-use Rattle.client_codec.proofs.DataBack.{Fits}
+use Rattle.object_writer.proofs.DataBack.{Fits}
 use Rattle.client_codec.proofs.FieldsBack.{fields_in, name_back, whole_back, word_back}
 use Rattle.client_codec.proofs.TextsFit.{name_fits, text_fits}
-use Rattle.client_codec.proofs.WordsBack.{host_back, host_utf8, job_back, job_utf8, kind_back, kind_utf8, lock_back, lock_utf8, state_back, state_utf8}
+use Rattle.farm_words.proofs.WordsBack.{host_back, host_utf8, job_back, job_utf8, kind_back, kind_utf8, lock_back, lock_utf8, state_back, state_utf8}
 
 -- ---- name
 

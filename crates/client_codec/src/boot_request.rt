@@ -2,16 +2,16 @@
 
 ghost use Rattle.std.specs.Prelude.{◌≡◌, OnOk};
 ghost use Rattle.farm_lines.specs.RequestText.{boot_line};
-ghost use Rattle.line_writer.specs.Tokens.{added, tokens_of};
+ghost use Rattle.object_writer.specs.Tokens.{added, tokens_of};
 
 use crate::members::write_texts;
 use farm_types::BootLine;
-use line_writer::LineWriter;
+use object_writer::ObjectWriter;
 use std::alloc::AllocError;
 
 /// A host's boot: cores in hundredths of a core, memory in KB.
 #[tactic(auto, unfolding(farm_lines::specs::RequestText::boot_line))]
-pub fn write_boot(out: &mut LineWriter, line: &BootLine) -> Result<(), AllocError>
+pub fn write_boot(out: &mut ObjectWriter, line: &BootLine) -> Result<(), AllocError>
     ensures { OnOk result (out.new ≡ added out.old (tokens_of (boot_line line.now))) }
 {
     out.begin_object()?;

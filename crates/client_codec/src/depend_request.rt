@@ -2,15 +2,16 @@
 
 ghost use Rattle.std.specs.Prelude.{◌≡◌, OnOk};
 ghost use Rattle.farm_lines.specs.RequestText.{depend_line};
-ghost use Rattle.line_writer.specs.Tokens.{added, tokens_of};
+ghost use Rattle.object_writer.specs.Tokens.{added, tokens_of};
 
 use crate::members::{write_frame_if, write_text_if};
 use farm_types::DependSpec;
-use line_writer::{LineWriter, kind_word};
+use farm_words::kind_word;
+use object_writer::ObjectWriter;
 use std::alloc::AllocError;
 
 /// A depend: its kind and its two ends.
-pub fn write_depend(out: &mut LineWriter, spec: &DependSpec) -> Result<(), AllocError>
+pub fn write_depend(out: &mut ObjectWriter, spec: &DependSpec) -> Result<(), AllocError>
     ensures { OnOk result (out.new ≡ added out.old (tokens_of (depend_line spec.now))) }
 {
     out.begin_object()?;

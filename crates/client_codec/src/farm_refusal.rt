@@ -5,16 +5,16 @@ ghost use Rattle.serde_json.specs.View.{members_view};
 ghost use Rattle.cue_json.specs.Fields.{Gives, whole_at};
 ghost use Rattle.farm_types.specs.declared.limits.TheConstants.{LAST_BOOT, SLOT_LIMIT};
 ghost use Rattle.farm_types.specs.declared.refusal.Refusal.TheVariants.{WrongBoot, Stale, FarmFull};
+ghost use Rattle.farm_words.specs.Words.{word_at};
 ghost use Rattle.farm_lines.specs.declared.reply.Reply.TheVariants as reply;
 ghost use Rattle.farm_lines.specs.ReplyLines.{boot_refusal_keys, free_keys, keyed_refusal, last_keys, seq_at, state_keys, still_held_at, wrong_state_of};
-ghost use Rattle.farm_lines.specs.ReplyRows.{word_at};
 
-use crate::fields::{named, read_number};
+use crate::fields::read_number;
 use crate::refusal::read_code;
-use crate::words::Word;
 use cue_json::{FieldFault, Map};
 use farm_lines::Reply;
 use farm_types::{Cores, FrameState, Kb, LAST_BOOT, MOST_CORES, MOST_MEMORY, Refusal, SLOT_LIMIT};
+use farm_words::{Word, named};
 use std::alloc::Global;
 
 /// The host's boot number is another.

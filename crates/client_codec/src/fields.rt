@@ -1,8 +1,7 @@
 //! Fields of replies, beside those of every object.
 
-ghost use Rattle.std.specs.Prelude.{Option};
 ghost use Rattle.serde_json.specs.View.{members_view};
-ghost use Rattle.cue_json.specs.Fields.{Gives, of_kind, text_at, whole_at};
+ghost use Rattle.cue_json.specs.Fields.{Gives, text_at, whole_at};
 
 use cue_json::{FieldFault, Map};
 use farm_types::Text;
@@ -28,14 +27,4 @@ pub fn read_number(
 {
     let number = cue_json::whole(alloc, object, field, u64::from(least), u64::from(most))?;
     Ok(number as u32)
-}
-
-/// What the field's text names, if it names anything, else `WrongKind`.
-pub fn named<X: Drop>(alloc: Global, field: &str, found: Option<X>) -> Result<X, FieldFault>
-    ensures { Gives (λ x. x) result (of_kind field.now found) }
-{
-    match found {
-        Some(x) => Ok(x),
-        None => Err(FieldFault::wrong_kind(alloc, field)),
-    }
 }

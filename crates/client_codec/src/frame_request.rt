@@ -2,16 +2,16 @@
 
 ghost use Rattle.std.specs.Prelude.{◌≡◌, OnOk};
 ghost use Rattle.farm_lines.specs.RequestText.{frame_line};
-ghost use Rattle.line_writer.specs.Tokens.{added, tokens_of};
+ghost use Rattle.object_writer.specs.Tokens.{added, tokens_of};
 
 use crate::members::write_frame_number;
 use farm_types::FramePlace;
-use line_writer::LineWriter;
+use object_writer::ObjectWriter;
 use std::alloc::AllocError;
 
 /// What is asked of a frame of a layer of a job.
 #[tactic(auto, unfolding(farm_lines::specs::RequestText::frame_line))]
-pub fn write_frame(out: &mut LineWriter, word: &str, place: &FramePlace) -> Result<(), AllocError>
+pub fn write_frame(out: &mut ObjectWriter, word: &str, place: &FramePlace) -> Result<(), AllocError>
     ensures { OnOk result (out.new ≡ added out.old (tokens_of (frame_line word.now place.now))) }
 {
     out.begin_object()?;

@@ -5,15 +5,14 @@ ghost use Rattle.serde_json.specs.View.{members_view};
 ghost use Rattle.cue_json.specs.Fields.{Gives};
 ghost use Rattle.farm_lines.specs.ReplyLines.{entries_full_at, full_at, full_of, full_reply, limit_of};
 
-use crate::fields::named;
 use crate::refusal::read_code;
-use crate::words::Word;
 use cue_json::{FieldFault, Map};
 use farm_lines::Reply;
 use farm_types::{
     Counted, LAST_BOOT, LAST_DEPEND, LAST_JOB, MOST_ALLOCS, MOST_DEPENDS, MOST_GROUPS, MOST_HOSTS,
     MOST_SHOWS, Refusal,
 };
+use farm_words::{Word, named};
 use std::alloc::Global;
 
 /// A count that is at its limit: of things that are kept, or of entries.

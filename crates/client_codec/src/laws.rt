@@ -23,7 +23,7 @@ pub fn replies_are_read_back()
 {}
 
 /// No request's text has a newline, byte 10, within, so that each request is one line.
-#[tactic(auto, using(line_writer::proofs::Newlines::text_is_one_line))]
+#[tactic(auto, using(object_writer::proofs::Newlines::text_is_one_line))]
 pub fn requests_are_single_lines()
     ensures { (asked : Request) → list_any (λ (b : ℕ). b == 10) (request_text asked) ≡ false }
 {}

@@ -23,7 +23,6 @@ mod request_writer;
 mod row;
 mod sub_request;
 mod submit_request;
-mod words;
 
 pub use laws::{replies_are_read_back, requests_are_read_back, requests_are_single_lines};
 pub use reply_reader::{ReplyFault, read_reply};

@@ -3,15 +3,16 @@
 ghost use Rattle.std.specs.Prelude.{◌≡◌};
 ghost use Rattle.serde_json.specs.View.{members_view};
 ghost use Rattle.cue_json.specs.Fields.{Gives};
+ghost use Rattle.farm_words.specs.Words.{word_at};
 ghost use Rattle.farm_lines.specs.declared.reply.Reply.TheVariants as reply;
 ghost use Rattle.farm_lines.specs.ReplyLines.{bad_range_at, plain_refusal, range_fault_of};
-ghost use Rattle.farm_lines.specs.ReplyRows.{word_at};
 
-use crate::fields::{named, read_number};
+use crate::fields::read_number;
 use crate::refusal::read_code;
 use cue_json::{FieldFault, Map};
 use farm_lines::{Reply, read_name};
 use farm_types::MOST_RANGE;
+use farm_words::named;
 use frame_range::RangeFault;
 use std::alloc::Global;
 

@@ -4,15 +4,14 @@ ghost use Rattle.std.specs.Prelude.{◌≡◌, codes, OnOk};
 ghost use Rattle.serde_json.specs.Data.{Members};
 ghost use Rattle.farm_lines.specs.RequestText.{job_listed, list_line, with_text};
 ghost use Rattle.farm_lines.specs.Words.{what_listed, what_word};
-ghost use Rattle.client_codec.specs.Written.{fields_tokens};
-ghost use Rattle.line_writer.specs.Tokens.{added, tokens_of};
+ghost use Rattle.object_writer.specs.Tokens.{added, fields_tokens, tokens_of};
 
 use farm_lines::{Listed, Query};
-use line_writer::LineWriter;
+use object_writer::ObjectWriter;
 use std::alloc::AllocError;
 
 /// A list, from its place (from 0) on.
-pub fn write_query(out: &mut LineWriter, query: &Query) -> Result<(), AllocError>
+pub fn write_query(out: &mut ObjectWriter, query: &Query) -> Result<(), AllocError>
     ensures { OnOk result (out.new ≡ added out.old (tokens_of (list_line query.now))) }
 {
     out.begin_object()?;
@@ -25,7 +24,7 @@ pub fn write_query(out: &mut LineWriter, query: &Query) -> Result<(), AllocError
 
 // The job, where the list is one of a job's.
 #[tactic(auto, using(crate::proofs::RequestTokens::member_rest))]
-fn write_job_if(out: &mut LineWriter, what: &Listed) -> Result<(), AllocError>
+fn write_job_if(out: &mut ObjectWriter, what: &Listed) -> Result<(), AllocError>
     ensures { OnOk result ((rest : Members) → added out.new (fields_tokens rest) ≡ added out.old (fields_tokens (with_text (codes "job") (job_listed what.now) rest))) }
 {
     match what {

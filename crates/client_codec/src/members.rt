@@ -5,15 +5,14 @@ ghost use Rattle.json.specs.Token.{key};
 ghost use Rattle.serde_json.specs.Data.{Members};
 ghost use Rattle.farm_lines.specs.RequestText.{texts_data, with_signed, with_text, with_whole};
 ghost use Rattle.farm_lines.specs.Words.{signed};
-ghost use Rattle.client_codec.specs.Written.{fields_tokens};
-ghost use Rattle.line_writer.specs.Tokens.{added, tokens_of};
+ghost use Rattle.object_writer.specs.Tokens.{added, fields_tokens, tokens_of};
 
 use farm_types::{Cores, Text};
-use line_writer::LineWriter;
+use object_writer::ObjectWriter;
 use std::alloc::AllocError;
 
 /// A member that is a list of texts.
-pub fn write_texts(out: &mut LineWriter, name: &str, texts: &[Text]) -> Result<(), AllocError>
+pub fn write_texts(out: &mut ObjectWriter, name: &str, texts: &[Text]) -> Result<(), AllocError>
     ensures { OnOk result (out.new ≡ added out.old (key name.now ∷ tokens_of (texts_data texts.now))) }
 {
     out.begin_list(name)?;
@@ -25,7 +24,7 @@ pub fn write_texts(out: &mut LineWriter, name: &str, texts: &[Text]) -> Result<(
 
 /// A member that is the number of a frame.
 #[tactic(auto, using(crate::proofs::RequestTokens::signed_tokens))]
-pub fn write_frame_number(out: &mut LineWriter, name: &str, number: i32) -> Result<(), AllocError>
+pub fn write_frame_number(out: &mut ObjectWriter, name: &str, number: i32) -> Result<(), AllocError>
     ensures { OnOk result (out.new ≡ added out.old (key name.now ∷ tokens_of (signed number))) }
 {
     out.signed(name, number)
@@ -34,7 +33,7 @@ pub fn write_frame_number(out: &mut LineWriter, name: &str, number: i32) -> Resu
 /// A member that is the number of a frame, where there is one.
 #[tactic(auto, using(crate::proofs::RequestTokens::member_rest))]
 pub fn write_frame_if(
-    out: &mut LineWriter,
+    out: &mut ObjectWriter,
     name: &str,
     number: Option<i32>,
 ) -> Result<(), AllocError>
@@ -49,7 +48,7 @@ pub fn write_frame_if(
 /// A member that is a text, where there is one.
 #[tactic(auto, using(crate::proofs::RequestTokens::member_rest))]
 pub fn write_text_if(
-    out: &mut LineWriter,
+    out: &mut ObjectWriter,
     name: &str,
     text: &Option<Text>,
 ) -> Result<(), AllocError>
@@ -64,7 +63,7 @@ pub fn write_text_if(
 /// A member that is an amount of cores, in hundredths of a core, where there is one.
 #[tactic(auto, using(crate::proofs::RequestTokens::member_rest))]
 pub fn write_cores_if(
-    out: &mut LineWriter,
+    out: &mut ObjectWriter,
     name: &str,
     cores: Option<Cores>,
 ) -> Result<(), AllocError>

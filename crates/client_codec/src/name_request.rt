@@ -2,15 +2,16 @@
 
 ghost use Rattle.std.specs.Prelude.{◌≡◌, ◌++◌, ◌∷◌, codes, OnOk};
 ghost use Rattle.farm_lines.specs.RequestText.{drop_line, job_line, lock_line, name_line, pause_word};
-ghost use Rattle.line_writer.specs.Tokens.{added, tokens_of};
+ghost use Rattle.object_writer.specs.Tokens.{added, tokens_of};
 
 use farm_types::{DependNo, LockState};
-use line_writer::{LineWriter, lock_word};
+use farm_words::lock_word;
+use object_writer::ObjectWriter;
 use std::alloc::{AllocError, Global};
 
 /// What is asked of a show or an allocation, by its name.
 #[tactic(auto, unfolding(farm_lines::specs::RequestText::name_line))]
-pub fn write_name(out: &mut LineWriter, word: &str, name: &str) -> Result<(), AllocError>
+pub fn write_name(out: &mut ObjectWriter, word: &str, name: &str) -> Result<(), AllocError>
     ensures { OnOk result (out.new ≡ added out.old (tokens_of (name_line word.now name.now))) }
 {
     out.begin_object()?;
@@ -22,7 +23,7 @@ pub fn write_name(out: &mut LineWriter, word: &str, name: &str) -> Result<(), Al
 /// That an allocation be added, of that facility and tag.
 pub fn write_alloc(
     alloc: Global,
-    out: &mut LineWriter,
+    out: &mut ObjectWriter,
     facility: &str,
     tag: &str,
 ) -> Result<(), AllocError>
@@ -34,7 +35,7 @@ pub fn write_alloc(
 
 /// That a host be locked or opened.
 #[tactic(auto, unfolding(farm_lines::specs::RequestText::lock_line))]
-pub fn write_lock(out: &mut LineWriter, host: &str, lock: LockState) -> Result<(), AllocError>
+pub fn write_lock(out: &mut ObjectWriter, host: &str, lock: LockState) -> Result<(), AllocError>
     ensures { OnOk result (out.new ≡ added out.old (tokens_of (lock_line host.now lock))) }
 {
     out.begin_object()?;
@@ -46,7 +47,7 @@ pub fn write_lock(out: &mut LineWriter, host: &str, lock: LockState) -> Result<(
 
 /// That a depend be dropped, by its number.
 #[tactic(auto, unfolding(farm_lines::specs::RequestText::drop_line))]
-pub fn write_drop(out: &mut LineWriter, depend: DependNo) -> Result<(), AllocError>
+pub fn write_drop(out: &mut ObjectWriter, depend: DependNo) -> Result<(), AllocError>
     ensures { OnOk result (out.new ≡ added out.old (tokens_of (drop_line depend))) }
 {
     out.begin_object()?;
@@ -57,7 +58,7 @@ pub fn write_drop(out: &mut LineWriter, depend: DependNo) -> Result<(), AllocErr
 
 /// What is asked of a job, by its name.
 #[tactic(auto, unfolding(farm_lines::specs::RequestText::job_line))]
-pub fn write_job(out: &mut LineWriter, word: &str, job: &str) -> Result<(), AllocError>
+pub fn write_job(out: &mut ObjectWriter, word: &str, job: &str) -> Result<(), AllocError>
     ensures { OnOk result (out.new ≡ added out.old (tokens_of (job_line word.now job.now))) }
 {
     out.begin_object()?;

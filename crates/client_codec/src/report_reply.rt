@@ -6,10 +6,10 @@ ghost use Rattle.farm_lines.specs.ReplyLines.{report_reply_at};
 
 use crate::fields::read_number;
 use crate::item;
-use crate::words::read_word;
 use cue_json::{FieldFault, Map};
 use farm_lines::{LAUNCHES_EACH, Reply, ReportReply};
 use farm_types::LAST_BOOT;
+use farm_words::read_word;
 use std::alloc::Global;
 
 /// What a report is replied, or the first field at fault.

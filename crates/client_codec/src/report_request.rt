@@ -6,17 +6,17 @@ ghost use Rattle.serde_json.specs.Data.{array};
 ghost use Rattle.serde_json.specs.View.{items_of};
 ghost use Rattle.farm_lines.specs.Reply.{attempt_data, attempts_data};
 ghost use Rattle.farm_lines.specs.RequestText.{done_item_data, report_line};
-ghost use Rattle.line_writer.specs.Tokens.{added, tokens_of};
+ghost use Rattle.object_writer.specs.Tokens.{added, tokens_of};
 
 use crate::members::write_cores_if;
 use farm_lines::Report;
 use farm_types::{Attempt, DoneItem};
-use line_writer::LineWriter;
+use object_writer::ObjectWriter;
 use std::alloc::AllocError;
 
 /// A report: what is done, and what runs.
 #[tactic(auto, unfolding(farm_lines::specs::RequestText::report_line))]
-pub fn write_report(out: &mut LineWriter, report: &Report) -> Result<(), AllocError>
+pub fn write_report(out: &mut ObjectWriter, report: &Report) -> Result<(), AllocError>
     ensures { OnOk result (out.new ≡ added out.old (tokens_of (report_line report.now))) }
 {
     out.begin_object()?;
@@ -29,7 +29,11 @@ pub fn write_report(out: &mut LineWriter, report: &Report) -> Result<(), AllocEr
     out.end_object()
 }
 
-fn write_attempts(out: &mut LineWriter, name: &str, attempts: &[Attempt]) -> Result<(), AllocError>
+fn write_attempts(
+    out: &mut ObjectWriter,
+    name: &str,
+    attempts: &[Attempt],
+) -> Result<(), AllocError>
     ensures { OnOk result (out.new ≡ added out.old (key name.now ∷ tokens_of (attempts_data attempts.now))) }
 {
     out.begin_list(name)?;
@@ -40,7 +44,7 @@ fn write_attempts(out: &mut LineWriter, name: &str, attempts: &[Attempt]) -> Res
 }
 
 #[tactic(auto, unfolding(farm_lines::specs::Reply::attempt_data))]
-fn write_attempt(out: &mut LineWriter, attempt: Attempt) -> Result<(), AllocError>
+fn write_attempt(out: &mut ObjectWriter, attempt: Attempt) -> Result<(), AllocError>
     ensures { OnOk result (out.new ≡ added out.old (tokens_of (attempt_data attempt))) }
 {
     out.begin_object()?;
@@ -49,7 +53,7 @@ fn write_attempt(out: &mut LineWriter, attempt: Attempt) -> Result<(), AllocErro
     out.end_object()
 }
 
-fn write_done(out: &mut LineWriter, name: &str, items: &[DoneItem]) -> Result<(), AllocError>
+fn write_done(out: &mut ObjectWriter, name: &str, items: &[DoneItem]) -> Result<(), AllocError>
     ensures { OnOk result (out.new ≡ added out.old (key name.now ∷ tokens_of (array (items_of (map done_item_data items.now))))) }
 {
     out.begin_list(name)?;
@@ -60,7 +64,7 @@ fn write_done(out: &mut LineWriter, name: &str, items: &[DoneItem]) -> Result<()
 }
 
 // A completion, with the free cores (hundredths of a core) where they are told.
-fn write_done_item(out: &mut LineWriter, item: &DoneItem) -> Result<(), AllocError>
+fn write_done_item(out: &mut ObjectWriter, item: &DoneItem) -> Result<(), AllocError>
     ensures { OnOk result (out.new ≡ added out.old (tokens_of (done_item_data item.now))) }
 {
     out.begin_object()?;

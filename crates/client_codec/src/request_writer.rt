@@ -2,7 +2,7 @@
 
 ghost use Rattle.std.specs.Prelude.{◌≡◌, IfOk, OnOk};
 ghost use Rattle.farm_lines.specs.RequestText.{request_data, request_text, tick_line};
-ghost use Rattle.line_writer.specs.Tokens.{added, tokens_of};
+ghost use Rattle.object_writer.specs.Tokens.{added, tokens_of};
 
 use crate::boot_request::write_boot;
 use crate::depend_request::write_depend;
@@ -14,21 +14,21 @@ use crate::sub_request::write_sub;
 use crate::submit_request::write_submit;
 use farm_lines::Request;
 use farm_types::Text;
-use line_writer::LineWriter;
+use object_writer::ObjectWriter;
 use std::alloc::{AllocError, Global};
 
 /// The request as compact JSON, its keys in byte order, without a newline.
-#[tactic(auto, using(line_writer::proofs::Printed::data_printed))]
+#[tactic(auto, using(object_writer::proofs::Printed::data_printed))]
 pub fn write_request(alloc: Global, request: &Request) -> Result<Text, AllocError>
     ensures { IfOk result (λ text. text ≡ request_text request.now) }
 {
-    let mut out = LineWriter::new(alloc)?;
+    let mut out = ObjectWriter::new(alloc)?;
     write_object(alloc, &mut out, request)?;
     Ok(out.into_text())
 }
 
 // The request as an object, its keys in byte order.
-fn write_object(alloc: Global, out: &mut LineWriter, request: &Request) -> Result<(), AllocError>
+fn write_object(alloc: Global, out: &mut ObjectWriter, request: &Request) -> Result<(), AllocError>
     ensures { OnOk result (out.new ≡ added out.old (tokens_of (request_data request.now))) }
 {
     match request {
@@ -55,7 +55,7 @@ fn write_object(alloc: Global, out: &mut LineWriter, request: &Request) -> Resul
 
 // That time be seen to have passed.
 #[tactic(auto, unfolding(farm_lines::specs::RequestText::tick_line))]
-fn write_tick(out: &mut LineWriter) -> Result<(), AllocError>
+fn write_tick(out: &mut ObjectWriter) -> Result<(), AllocError>
     ensures { OnOk result (out.new ≡ added out.old (tokens_of tick_line)) }
 {
     out.begin_object()?;

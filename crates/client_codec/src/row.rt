@@ -5,7 +5,6 @@ ghost use Rattle.cue_json.specs.Fields.{Gives};
 ghost use Rattle.farm_lines.specs.ReplyRows.{count_at, depend_row, frame_row, host_row, job_row, layer_row, name_row, proc_row, row_at, sub_row};
 
 use crate::fields::{read_number, read_text};
-use crate::words::read_word;
 use cue_json::{FieldFault, Map};
 use farm_lines::{
     ListRow, RowKind, ShownDepend, ShownFrame, ShownHost, ShownJob, ShownLayer, ShownProc,
@@ -16,6 +15,7 @@ use farm_types::{
     LEAST_MEMORY, MOST_BURST, MOST_CORES, MOST_FRAMES, MOST_MEMORY, MOST_PRIORITY, MOST_RETRIES,
     Slot, Version,
 };
+use farm_words::read_word;
 use std::alloc::Global;
 
 /// The row with those keys that the object is, or its first field at fault.

@@ -5,16 +5,17 @@ ghost use Rattle.json.specs.Token.{key};
 ghost use Rattle.serde_json.specs.Data.{array};
 ghost use Rattle.serde_json.specs.View.{items_of};
 ghost use Rattle.farm_lines.specs.RequestText.{cores_text, layer_data, own_depend_data, spec_data, submit_line};
-ghost use Rattle.line_writer.specs.Tokens.{added, tokens_of};
+ghost use Rattle.object_writer.specs.Tokens.{added, tokens_of};
 
 use crate::members::{write_frame_if, write_text_if, write_texts};
 use farm_types::{Cores, DependSpec, JobSpec, LayerSpec, Text};
-use line_writer::{LineWriter, kind_word};
+use farm_words::kind_word;
+use object_writer::ObjectWriter;
 use std::alloc::{AllocError, Global};
 
 /// That a job be submitted.
 #[tactic(auto, unfolding(farm_lines::specs::RequestText::submit_line))]
-pub fn write_submit(alloc: Global, out: &mut LineWriter, spec: &JobSpec) -> Result<(), AllocError>
+pub fn write_submit(alloc: Global, out: &mut ObjectWriter, spec: &JobSpec) -> Result<(), AllocError>
     ensures { OnOk result (out.new ≡ added out.old (tokens_of (submit_line spec.now))) }
 {
     out.begin_object()?;
@@ -25,7 +26,7 @@ pub fn write_submit(alloc: Global, out: &mut LineWriter, spec: &JobSpec) -> Resu
 }
 
 // The spec, as an object.
-fn write_spec(alloc: Global, out: &mut LineWriter, spec: &JobSpec) -> Result<(), AllocError>
+fn write_spec(alloc: Global, out: &mut ObjectWriter, spec: &JobSpec) -> Result<(), AllocError>
     ensures { OnOk result (out.new ≡ added out.old (tokens_of (spec_data spec.now))) }
 {
     out.begin_object()?;
@@ -45,7 +46,7 @@ fn write_spec(alloc: Global, out: &mut LineWriter, spec: &JobSpec) -> Result<(),
 
 fn write_layers(
     alloc: Global,
-    out: &mut LineWriter,
+    out: &mut ObjectWriter,
     name: &str,
     layers: &[LayerSpec],
 ) -> Result<(), AllocError>
@@ -60,7 +61,7 @@ fn write_layers(
 
 // A layer: memory in KB, its cores as a text.
 #[tactic(auto, unfolding(farm_lines::specs::RequestText::layer_data))]
-fn write_layer(alloc: Global, out: &mut LineWriter, layer: &LayerSpec) -> Result<(), AllocError>
+fn write_layer(alloc: Global, out: &mut ObjectWriter, layer: &LayerSpec) -> Result<(), AllocError>
     ensures { OnOk result (out.new ≡ added out.old (tokens_of (layer_data layer.now))) }
 {
     let cores = cores_text(alloc, layer.cores)?;
@@ -85,7 +86,11 @@ fn cores_text(alloc: Global, cores: Cores) -> Result<Text, AllocError>
     Ok(Text::from_string(format!(in alloc; "{whole}.{tens}{ones}")?))
 }
 
-fn write_depends(out: &mut LineWriter, name: &str, depends: &[DependSpec]) -> Result<(), AllocError>
+fn write_depends(
+    out: &mut ObjectWriter,
+    name: &str,
+    depends: &[DependSpec],
+) -> Result<(), AllocError>
     ensures { OnOk result (out.new ≡ added out.old (key name.now ∷ tokens_of (array (items_of (map own_depend_data depends.now))))) }
 {
     out.begin_list(name)?;
@@ -96,7 +101,7 @@ fn write_depends(out: &mut LineWriter, name: &str, depends: &[DependSpec]) -> Re
 }
 
 // A depend of the job's own spec, in which the waiting job isn't named.
-fn write_own_depend(out: &mut LineWriter, spec: &DependSpec) -> Result<(), AllocError>
+fn write_own_depend(out: &mut ObjectWriter, spec: &DependSpec) -> Result<(), AllocError>
     ensures { OnOk result (out.new ≡ added out.old (tokens_of (own_depend_data spec.now))) }
 {
     out.begin_object()?;

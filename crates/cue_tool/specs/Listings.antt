@@ -2,6 +2,7 @@
 use Rattle.std.specs.Prelude.{ℕ, Bool, true, false, List, [], ◌∷◌, map, fold, ◌++◌, codes, decimal, Option, None, Some, if◌then◌else◌}
 use Rattle.std.specs.List.{list_all}
 use Rattle.cue_tables.specs.Tables.{table_text}
+use Rattle.farm_words.specs.Words.{host_word, job_word, kind_word, lock_word, state_word}
 use Rattle.farm_lines.specs.declared.list_row.ListRow.{ListRow}
 use Rattle.farm_lines.specs.declared.list_row.ListRow.TheVariants as row
 use Rattle.farm_lines.specs.declared.list_row.RowKind.{RowKind}
@@ -9,7 +10,7 @@ use Rattle.farm_lines.specs.declared.list_row.RowKind.TheVariants as kind
 use Rattle.farm_lines.specs.declared.reply.ListReply.{ListReply}
 use Rattle.farm_lines.specs.declared.what.What.{What}
 use Rattle.farm_lines.specs.RowKinds.{kind_of_row, kind_of_what}
-use Rattle.farm_lines.specs.Words.{host_word, job_word, kind_word, lock_word, state_word, what_of}
+use Rattle.farm_lines.specs.Words.{what_of}
 
 -- the keys of a row
 abbrev pub head_of : RowKind → List (List ℕ)

@@ -4,7 +4,8 @@ ghost use Rattle.std.specs.Prelude.{◌≡◌, List, [], ◌∷◌, IfOk, Option
 ghost use Rattle.cue_io.specs.Output.{Adds};
 ghost use Rattle.cue_words.specs.Commands.{words_of};
 ghost use Rattle.cue_tool.specs.Calls.{Call};
-ghost use Rattle.dialer.specs.Dials.{Dial, Grows, Joined, target_at};
+ghost use Rattle.cue_io.specs.Growth.{Grows};
+ghost use Rattle.dialer.specs.Dials.{Dial, Joined, target_at};
 ghost use Rattle.cue_tool.specs.Programs.{Connects, HasCalled, HasCalledOver, IsRun, IsRunAt, Opened, OrNoMemory, Reads, Run, file_of, is_request};
 
 use crate::run::{NO_MEMORY, Status, WRONG_WORDS, run_cue};

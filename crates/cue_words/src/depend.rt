@@ -1,8 +1,6 @@
 //! The request for a depend.
 
 ghost use Rattle.std.specs.Prelude.{◌≡◌, ◌<◌, length, map};
-ghost use Rattle.farm_lines.specs.DependLines.{kind_of};
-ghost use Rattle.farm_lines.specs.Words.{kind_word};
 ghost use Rattle.cue_words.specs.Commands.{depend_of, depend_parts, depended};
 ghost use Rattle.cue_words.specs.Results.{IsWords, part_of};
 
@@ -12,6 +10,7 @@ use crate::fill::fill;
 use crate::part::Part::{AllOrAny, On};
 use crate::part::{FRAME, JOB, LAYER, Part};
 use farm_types::{DependKind, Text};
+use farm_words::{Word, kind_word};
 use std::alloc::Global;
 
 const ON_JOB: Part = Part::Named("on_job");
@@ -26,7 +25,7 @@ pub fn depend(alloc: Global, words: &[Text]) -> Result<ToolWords, WordsFault>
 {
     match words {
         [] => Err(WordsFault::Usage { at: 1 }),
-        [kind, words @ ..] => match kind_of(kind.as_str()) {
+        [kind, words @ ..] => match DependKind::of_word(kind.as_str()) {
             Some(kind) => depend_of(alloc, kind, words),
             None => Err(WordsFault::Usage { at: 1 }),
         },
@@ -60,44 +59,5 @@ fn parts_of(kind: DependKind) -> &'static [Part]
         DependKind::FrameOnJob => &[AllOrAny, JOB, LAYER, FRAME, On, ON_JOB],
         DependKind::FrameOnLayer => &[AllOrAny, JOB, LAYER, FRAME, On, ON_JOB, ON_LAYER],
         DependKind::FrameOnFrame => &[AllOrAny, JOB, LAYER, FRAME, On, ON_JOB, ON_LAYER, ON_FRAME],
-    }
-}
-
-// The kind that the word names, if any.
-fn kind_of(word: &str) -> Option<DependKind>
-    ensures { result ≡ kind_of word.now }
-{
-    match word {
-        "JOB_ON_JOB" => Some(DependKind::JobOnJob),
-        "JOB_ON_LAYER" => Some(DependKind::JobOnLayer),
-        "JOB_ON_FRAME" => Some(DependKind::JobOnFrame),
-        "LAYER_ON_JOB" => Some(DependKind::LayerOnJob),
-        "LAYER_ON_LAYER" => Some(DependKind::LayerOnLayer),
-        "LAYER_ON_FRAME" => Some(DependKind::LayerOnFrame),
-        "FRAME_ON_JOB" => Some(DependKind::FrameOnJob),
-        "FRAME_ON_LAYER" => Some(DependKind::FrameOnLayer),
-        "FRAME_ON_FRAME" => Some(DependKind::FrameOnFrame),
-        "FRAME_BY_FRAME" => Some(DependKind::FrameByFrame),
-        "PREVIOUS_FRAME" => Some(DependKind::PreviousFrame),
-        _ => None,
-    }
-}
-
-// The word of the kind.
-fn kind_word(kind: DependKind) -> &'static str
-    ensures { result.now ≡ kind_word kind }
-{
-    match kind {
-        DependKind::JobOnJob => "JOB_ON_JOB",
-        DependKind::JobOnLayer => "JOB_ON_LAYER",
-        DependKind::JobOnFrame => "JOB_ON_FRAME",
-        DependKind::LayerOnJob => "LAYER_ON_JOB",
-        DependKind::LayerOnLayer => "LAYER_ON_LAYER",
-        DependKind::LayerOnFrame => "LAYER_ON_FRAME",
-        DependKind::FrameOnJob => "FRAME_ON_JOB",
-        DependKind::FrameOnLayer => "FRAME_ON_LAYER",
-        DependKind::FrameOnFrame => "FRAME_ON_FRAME",
-        DependKind::FrameByFrame => "FRAME_BY_FRAME",
-        DependKind::PreviousFrame => "PREVIOUS_FRAME",
     }
 }

@@ -1,21 +1,8 @@
 -- Where the programs connect to, and what comes of that.
-use Rattle.std.specs.Prelude.{ℕ, ◌≡◌, List, [], ◌∷◌, ◌++◌, Option, None, Some, option_map, option_and_then, Result, Ok, Err, if◌then◌else◌}
-use Rattle.std.proofs.Common.{sym, append-nil}
+use Rattle.std.specs.Prelude.{ℕ, List, ◌∷◌, Option, None, Some, option_map, option_and_then, Result, Ok, Err, if◌then◌else◌}
 use Rattle.farm_types.specs.Forms.{is_between}
 use Rattle.farm_lines.specs.Points.{number_of}
 use Rattle.dialer.specs.declared.dial.DialFault.{DialFault}
-
--- a list that is told grew by these at its end; what can't tell its list never does
-abbrev pub Grows : {X : Type 0} → Option (List X) → Option (List X) → List X → Type 0
-Grows None None more = Unit {0}
-Grows None (Some new) more = ⊥
-Grows (Some old) None more = ⊥
-Grows (Some old) (Some new) more = new ≡ old ++ more
-
--- what stays has grown by nothing
-pub Grows-none : {X : Type 0} (told : Option (List X)) → Grows told told []
-Grows-none None = tt
-Grows-none (Some told) = sym (append-nil told)
 
 -- an address and a port
 pub record Place : Type 0 where

@@ -14,7 +14,8 @@ pub enum DialFault {
 /// What connects to a place by its address and port. Where it can, it tells the connections that it was asked for, and what came of that.
 pub trait Dialer {
     ghost use Rattle.std.specs.Prelude.{◌∷◌, [], List, Option};
-    ghost use Rattle.dialer.specs.Dials.{Dial, Grows, joined_by};
+    ghost use Rattle.cue_io.specs.Growth.{Grows};
+    ghost use Rattle.dialer.specs.Dials.{Dial, joined_by};
 
     type In: Source + Drop;
 

@@ -7,7 +7,8 @@ use Rattle.farm_types.specs.declared.depend.DependKind.{DependKind}
 use Rattle.farm_types.specs.declared.depend.Place.{Place}
 use Rattle.farm_types.specs.Formed.{IsFormedDepend, IsFormedOwn, IsFormedPlace, is_frame_named, is_layer_name, names_frame, names_layer, names_target_frame, names_target_layer}
 use Rattle.farm_types.specs.Forms.{is_frame_number, is_name_text}
-use Rattle.farm_lines.specs.DependLines.{depend_at, depend_keys, frame_if, kind_at, layer_if, own_depend_at, own_keys, target_at, waiter_at}
+use Rattle.farm_words.specs.Words.{kind_of, word_at}
+use Rattle.farm_lines.specs.DependLines.{depend_at, depend_keys, frame_if, layer_if, own_depend_at, own_keys, target_at, waiter_at}
 use Rattle.farm_lines.specs.Fields.{name_at, or_default}
 use Rattle.farm_lines.specs.declared.limits.TheConstants.{LEAST_FRAME, MOST_FRAME}
 use Rattle.farm_lines.proofs.FieldLemmas.{step, step_any, name_formed, default_formed, signed_formed}
@@ -55,7 +56,7 @@ target_formed job kind ms named =
 pub depend_formed : (ms : Members) → IfOk (depend_at ms) IsFormedDepend
 unfolding depend_at
 depend_formed ms =
-    step_any IsFormedDepend (kind_at (codes "kind") ms) _ (λ kind.
+    step_any IsFormedDepend (word_at kind_of (codes "kind") ms) _ (λ kind.
     step_any IsFormedDepend (or_default false flag_at (codes "any") ms) _ (λ any.
     step (λ name. is_name_text name ≡ true) IsFormedDepend (name_at (codes "job") ms) _ (name_formed (codes "job") ms) (λ job named.
     step (IsEnd (names_layer kind) (names_frame kind) job) IsFormedDepend (waiter_at job kind ms) _ (waiter_formed job kind ms named) (λ waiter waits.
@@ -67,7 +68,7 @@ depend_formed ms =
 pub own_formed : (own : List ℕ) → is_name_text own ≡ true → (ms : Members) → IfOk (own_depend_at own ms) (IsFormedOwn own)
 unfolding own_depend_at
 own_formed own owned ms =
-    step_any (IsFormedOwn own) (kind_at (codes "kind") ms) _ (λ kind.
+    step_any (IsFormedOwn own) (word_at kind_of (codes "kind") ms) _ (λ kind.
     step_any (IsFormedOwn own) (or_default false flag_at (codes "any") ms) _ (λ any.
     step (IsEnd (names_layer kind) (names_frame kind) own) (IsFormedOwn own) (waiter_at own kind ms) _ (waiter_formed own kind ms owned) (λ waiter waits.
     step (λ name. is_name_text name ≡ true) (IsFormedOwn own) (or_default own name_at (codes "on_job") ms) _ (default_formed (λ name. is_name_text name ≡ true) own name_at (codes "on_job") ms owned (name_formed (codes "on_job") ms)) (λ on_job on_named.

@@ -12,6 +12,7 @@ use Rattle.farm_types.specs.declared.rows.AllocRow.{AllocRow}
 use Rattle.farm_types.specs.Formed.{AreFree, IsFormedBoot, IsFormedDepend, IsFormedDone, IsFormedFrame, IsFormedHeard, IsFormedJob, IsFormedSub}
 use Rattle.farm_types.specs.Forms.{is_name_text, is_tag_text}
 use Rattle.farm_types.specs.Limits.{IsBetween}
+use Rattle.farm_words.specs.Words.{lock_of, word_at}
 use Rattle.farm_lines.specs.declared.asked.Asked.{Asked}
 use Rattle.farm_lines.specs.declared.asked.Asked.TheVariants as asks
 use Rattle.farm_lines.specs.declared.boot_form.BootForm.{BootForm}
@@ -24,7 +25,7 @@ use Rattle.farm_lines.specs.Fields.{name_at, list_of, optional_whole_at}
 use Rattle.farm_lines.specs.ListLines.{query_at}
 use Rattle.farm_lines.specs.OperatorLines.{asks_pause, frame_at, frame_keys, frame_of_job_at, job_at, job_keys, kill_at, killed_at, names_frame}
 use Rattle.farm_lines.specs.Points.{before_point, after_point}
-use Rattle.farm_lines.specs.Request.{LockLine, attempt_at, done_at, done_keys, report_at, report_keys, show_at, name_keys, alloc_parts, alloc_of_name, alloc_name_at, alloc_at, sub_form_at, sub_keys, boot_keys, lock_keys, lock_at, sub_line_of, sub_line_at, boot_form_at, boot_line_of, boot_line_at, lock_line_at, tick_keys, drop_at, drop_keys, submit_keys, after_others, submit_at, asked, judged, asks_alloc, asks_kill, asks_lock, asks_tick, by_op, after_op, request_in, request_of}
+use Rattle.farm_lines.specs.Request.{LockLine, attempt_at, done_at, done_keys, report_at, report_keys, show_at, name_keys, alloc_parts, alloc_of_name, alloc_name_at, alloc_at, sub_form_at, sub_keys, boot_keys, lock_keys, sub_line_of, sub_line_at, boot_form_at, boot_line_of, boot_line_at, lock_line_at, tick_keys, drop_at, drop_keys, submit_keys, after_others, submit_at, asked, judged, asks_alloc, asks_kill, asks_lock, asks_tick, by_op, after_op, request_in, request_of}
 use Rattle.farm_lines.specs.Spec.{SpecError, Field, Range, Amount, formed, number_at, tags_at, within, spec_at}
 use Rattle.farm_lines.specs.Asked.{IsFormedAsked, IsFormedAt, asked_of, heard_of}
 use Rattle.farm_lines.proofs.DependLemmas.{depend_formed}
@@ -163,7 +164,7 @@ IsLock line = is_name_text line.host ≡ true
 lock_formed : (ms : Members) → IfOk (lock_line_at ms) IsLock
 unfolding lock_line_at
 lock_formed ms =
-    step (λ name. is_name_text name ≡ true) IsLock (name_at (codes "host") ms) _ (name_formed (codes "host") ms) (λ host hosted. step_any IsLock (lock_at (codes "lock") ms) _ (λ lock. step_any IsLock (others_at lock_keys ms) _ (λ none. hosted)))
+    step (λ name. is_name_text name ≡ true) IsLock (name_at (codes "host") ms) _ (name_formed (codes "host") ms) (λ host hosted. step_any IsLock (word_at lock_of (codes "lock") ms) _ (λ lock. step_any IsLock (others_at lock_keys ms) _ (λ none. hosted)))
 
 -- ---- the submit of a job
 

@@ -1,35 +1,16 @@
 -- What a depend says, or its first fault: its kind, then its two ends by the fields that the kind has.
-use Rattle.std.specs.Prelude.{ℕ, ℤ, Bool, true, false, List, [], ◌∷◌, ◌++◌, codes, Option, None, Some, Result, Ok, bytes_eq, if◌then◌else◌}
+use Rattle.std.specs.Prelude.{ℕ, ℤ, Bool, true, false, List, [], ◌∷◌, ◌++◌, codes, Option, None, Some, Result, Ok}
 use Rattle.serde_json.specs.Data.{Members}
-use Rattle.cue_json.specs.Fields.{Fault, ◌>>=◌, of_kind, text_at, signed_at, flag_at, others_at}
+use Rattle.cue_json.specs.Fields.{Fault, ◌>>=◌, signed_at, flag_at, others_at}
 use Rattle.farm_types.specs.declared.depend.DependKind.{DependKind}
-use Rattle.farm_types.specs.declared.depend.DependKind.TheVariants.{JobOnJob, JobOnLayer, JobOnFrame, LayerOnJob, LayerOnLayer, LayerOnFrame, FrameOnJob, FrameOnLayer, FrameOnFrame, FrameByFrame, PreviousFrame}
 use Rattle.farm_types.specs.declared.depend.DependSpec.{DependSpec}
 use Rattle.farm_types.specs.declared.depend.Place.{Place}
 use Rattle.farm_types.specs.Formed.{names_layer, names_frame, names_target_layer, names_target_frame}
+use Rattle.farm_words.specs.Words.{kind_of, word_at}
 use Rattle.farm_lines.specs.Fields.{name_at, list_of, or_default}
 use Rattle.farm_lines.specs.declared.limits.TheConstants.{LEAST_FRAME, MOST_FRAME}
 
 -- ---- kinds
-
--- the kind of depend that a word names
-abbrev pub kind_of : List ℕ → Option DependKind
-kind_of word =
-    if bytes_eq word (codes "JOB_ON_JOB") then Some JobOnJob
-    else (if bytes_eq word (codes "JOB_ON_LAYER") then Some JobOnLayer
-    else (if bytes_eq word (codes "JOB_ON_FRAME") then Some JobOnFrame
-    else (if bytes_eq word (codes "LAYER_ON_JOB") then Some LayerOnJob
-    else (if bytes_eq word (codes "LAYER_ON_LAYER") then Some LayerOnLayer
-    else (if bytes_eq word (codes "LAYER_ON_FRAME") then Some LayerOnFrame
-    else (if bytes_eq word (codes "FRAME_ON_JOB") then Some FrameOnJob
-    else (if bytes_eq word (codes "FRAME_ON_LAYER") then Some FrameOnLayer
-    else (if bytes_eq word (codes "FRAME_ON_FRAME") then Some FrameOnFrame
-    else (if bytes_eq word (codes "FRAME_BY_FRAME") then Some FrameByFrame
-    else (if bytes_eq word (codes "PREVIOUS_FRAME") then Some PreviousFrame
-    else None))))))))))
-
-abbrev pub kind_at : List ℕ → Members → Result DependKind Fault
-kind_at field ms = text_at field ms >>= λ word. of_kind field (kind_of word)
 
 -- ---- ends
 
@@ -76,14 +57,14 @@ depend_keys kind = codes "job" ∷ codes "op" ∷ own_keys kind
 -- the request for a depend: its fields in order, and no others
 unfoldable pub depend_at : Members → Result DependSpec Fault
 depend_at ms =
-    kind_at (codes "kind") ms >>= λ kind. or_default false flag_at (codes "any") ms >>= λ any. name_at (codes "job") ms >>= λ job.
+    word_at kind_of (codes "kind") ms >>= λ kind. or_default false flag_at (codes "any") ms >>= λ any. name_at (codes "job") ms >>= λ job.
     waiter_at job kind ms >>= λ waiter. name_at (codes "on_job") ms >>= λ on_job. target_at on_job kind ms >>= λ target.
     others_at (depend_keys kind) ms >>= λ none. Ok (record { kind = kind; any = any; waiter = waiter; target = target })
 
 -- a depend in the spec of that job, which is the one that waits, and the one that is waited for where no other is named
 unfoldable pub own_depend_at : List ℕ → Members → Result DependSpec Fault
 own_depend_at own ms =
-    kind_at (codes "kind") ms >>= λ kind. or_default false flag_at (codes "any") ms >>= λ any. waiter_at own kind ms >>= λ waiter.
+    word_at kind_of (codes "kind") ms >>= λ kind. or_default false flag_at (codes "any") ms >>= λ any. waiter_at own kind ms >>= λ waiter.
     or_default own name_at (codes "on_job") ms >>= λ on_job. target_at on_job kind ms >>= λ target. others_at (own_keys kind) ms >>= λ none.
     Ok (record { kind = kind; any = any; waiter = waiter; target = target })
 

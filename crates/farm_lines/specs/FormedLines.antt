@@ -5,8 +5,6 @@ use Rattle.std.specs.Str.{is_utf8}
 use Rattle.frame_range.specs.declared.fault.RangeFault.{RangeFault}
 use Rattle.frame_range.specs.declared.fault.RangeFault.TheVariants as range_fault
 use Rattle.farm_types.specs.declared.attempt.Attempt.{Attempt}
-use Rattle.farm_types.specs.declared.boot.BootLine.{BootLine}
-use Rattle.farm_types.specs.declared.entry.FramePlace.{FramePlace}
 use Rattle.farm_types.specs.declared.refusal.Refusal.{Refusal}
 use Rattle.farm_types.specs.declared.refusal.Refusal.TheVariants.{Unknown, Finished, Exists, WrongBoot, Stale, FarmFull, Satisfied, WrongState, VersionSpent, SelfDepend, Started, Full}
 use Rattle.farm_types.specs.declared.limits.TheConstants.{LAST_BOOT, LAST_DEPEND, LAST_SLOT, LAST_VERSION, LEAST_CORES, LEAST_MEMORY, MOST_BURST, MOST_CORES, MOST_FRAMES, MOST_HOSTS, MOST_MEMORY, MOST_PRIORITY, MOST_RANGE, MOST_RETRIES, SLOT_LIMIT}

@@ -2,6 +2,7 @@
 use Rattle.std.specs.Prelude.{ℕ, List, map, codes, true}
 use Rattle.serde_json.specs.Data.{Data, boolean, string, array, object, no_members, member}
 use Rattle.serde_json.specs.View.{items_of}
+use Rattle.farm_words.specs.Words.{host_word, job_word, kind_word, lock_word, state_word}
 use Rattle.farm_lines.specs.declared.list_row.ListRow.{ListRow}
 use Rattle.farm_lines.specs.declared.list_row.ListRow.TheVariants as row
 use Rattle.farm_lines.specs.declared.list_row.ShownDepend.{ShownDepend}
@@ -11,7 +12,7 @@ use Rattle.farm_lines.specs.declared.list_row.ShownJob.{ShownJob}
 use Rattle.farm_lines.specs.declared.list_row.ShownLayer.{ShownLayer}
 use Rattle.farm_lines.specs.declared.list_row.ShownProc.{ShownProc}
 use Rattle.farm_lines.specs.declared.list_row.ShownSub.{ShownSub}
-use Rattle.farm_lines.specs.Words.{host_word, job_word, kind_word, lock_word, state_word, whole}
+use Rattle.farm_lines.specs.Words.{whole}
 
 -- ---- rows
 

@@ -13,13 +13,11 @@ use Rattle.farm_types.specs.declared.answer.Answer.{Answer}
 use Rattle.farm_types.specs.declared.answer.Answer.TheVariants as answer
 use Rattle.farm_types.specs.declared.entry.Act.{Act}
 use Rattle.farm_types.specs.declared.entry.Act.TheVariants as act
+use Rattle.farm_words.specs.Words.{counted_word, cut_word, state_word}
 use Rattle.farm_lines.specs.declared.launch.Launch.{Launch}
 use Rattle.farm_types.specs.declared.refusal.Refusal.{Refusal}
 use Rattle.farm_types.specs.declared.refusal.Refusal.TheVariants.{Unknown, Finished, Exists, WrongBoot, Stale, FarmFull, Satisfied, WrongState, VersionSpent, SelfDepend, Started, Full}
-use Rattle.farm_types.specs.declared.refusal.Counted.{Counted}
-use Rattle.farm_types.specs.declared.refusal.Counted.TheVariants as counted
 use Rattle.farm_types.specs.declared.dispatch.Cut.{Cut}
-use Rattle.farm_types.specs.declared.dispatch.Cut.TheVariants as cut
 use Rattle.farm_lines.specs.declared.reply.Reply.{Reply}
 use Rattle.farm_lines.specs.declared.reply.Reply.TheVariants as reply
 use Rattle.farm_lines.specs.declared.report.Report.{Report}
@@ -33,7 +31,7 @@ use Rattle.farm_lines.specs.Request.{RequestError, BadLine, BadRange, BadAmount}
 use Rattle.farm_types.specs.Run.{is_same}
 use Rattle.farm_types.specs.Step.{is_live}
 use Rattle.farm_lines.specs.ListReplies.{list_data}
-use Rattle.farm_lines.specs.Words.{state_word, whole}
+use Rattle.farm_lines.specs.Words.{whole}
 use Rattle.farm_lines.specs.declared.limits.TheConstants.{LAUNCHES_EACH}
 
 -- ---- refusals
@@ -93,16 +91,6 @@ abbrev pub error_reply : RequestError → Reply
 error_reply (BadLine field) = reply.BadLine field
 error_reply (BadRange layer fault) = reply.BadRange layer fault
 error_reply (BadAmount field) = reply.BadAmount field
-
-abbrev pub counted_word : Counted → List ℕ
-counted_word counted.Shows = codes "shows"
-counted_word counted.Allocs = codes "allocs"
-counted_word counted.Hosts = codes "hosts"
-counted_word counted.Boots = codes "boots"
-counted_word counted.Jobs = codes "jobs"
-counted_word counted.Depends = codes "depends"
-counted_word counted.Groups = codes "groups"
-counted_word counted.DependNumbers = codes "depend_numbers"
 
 unfoldable pub refusal_data : Refusal → Data
 refusal_data (Unknown name) =
@@ -258,12 +246,6 @@ abbrev pub report_reply : Farm → ℕ → Report → Cut → Reply
 report_reply f host report ended =
     reply.Report (record { acks = acks_of report; boot = report.boot; cut = ended; kills = kills_of f host report; launches = launches_of f host report; seq = report.seq })
 
--- the word of a reply for what ended its round
-abbrev pub cut_text : Cut → List ℕ
-cut_text cut.Whole = []
-cut_text cut.Store = codes "store"
-cut_text cut.Memory = codes "memory"
-
 -- ---- every reply
 
 abbrev pub reply_data : Reply → Data
@@ -275,7 +257,7 @@ reply_data (reply.Submitted frames job) = submit_data frames job
 reply_data (reply.Depend depend unmet) = depend_data depend unmet
 reply_data (reply.Dropped opened) = dropped_data opened
 reply_data (reply.Ended ended) = ended_data ended
-reply_data (reply.Report r) = report_data r.boot r.seq (cut_text r.cut) r.acks r.kills r.launches
+reply_data (reply.Report r) = report_data r.boot r.seq (cut_word r.cut) r.acks r.kills r.launches
 reply_data (reply.List r) = list_data r.rows r.total
 reply_data (reply.BadLine field) = bad_line field
 reply_data reply.TooLong = too_long

@@ -1,26 +1,23 @@
 -- Which reply a line is: its keys, kinds and limits are exactly those of one kind of reply. White space, the order of keys and the spelling of texts
 -- are free.
-use Rattle.std.specs.Prelude.{ℕ, ◌==◌, List, [], ◌∷◌, codes, bytes_eq, length, nat_le, Bool, true, false, Option, None, Some, option_and_then, Result, Ok, Err, if◌then◌else◌}
-use Rattle.serde_json.specs.Data.{Data, Members}
+use Rattle.std.specs.Prelude.{ℕ, List, [], ◌∷◌, codes, bytes_eq, length, nat_le, Bool, true, false, Option, None, Some, option_and_then, Result, Ok, Err, if◌then◌else◌}
+use Rattle.serde_json.specs.Data.{Members}
 use Rattle.cue_json.specs.Fields.{Fault, WrongKind, ◌>>=◌, of_kind, flag_at, has_key, others_at, text_at, whole_at}
 use Rattle.cue_json.specs.Lines.{object_in}
 use Rattle.frame_range.specs.declared.fault.RangeFault.{RangeFault}
 use Rattle.frame_range.specs.declared.fault.RangeFault.TheVariants as range_fault
-use Rattle.farm_types.specs.declared.attempt.Attempt.{Attempt}
-use Rattle.farm_types.specs.declared.dispatch.Cut.{Cut}
-use Rattle.farm_types.specs.declared.dispatch.Cut.TheVariants as cut
 use Rattle.farm_types.specs.declared.refusal.Counted.{Counted}
 use Rattle.farm_types.specs.declared.refusal.Counted.TheVariants as counted
 use Rattle.farm_types.specs.declared.refusal.Refusal.TheVariants.{Unknown, Finished, Exists, WrongBoot, Stale, FarmFull, Satisfied, WrongState, VersionSpent, SelfDepend, Started, Full}
 use Rattle.farm_types.specs.declared.limits.TheConstants.{LAST_BOOT, LAST_DEPEND, LAST_JOB, LAST_SLOT, LAST_VERSION, LEAST_CORES, LEAST_MEMORY, MOST_ALLOCS, MOST_BURST, MOST_CORES, MOST_DEPENDS, MOST_FRAMES, MOST_GROUPS, MOST_HOSTS, MOST_MEMORY, MOST_RANGE, MOST_SHOWS, SLOT_LIMIT}
+use Rattle.farm_words.specs.Words.{counted_of, cut_of, state_of, word_at}
 use Rattle.farm_lines.specs.declared.launch.Launch.{Launch}
 use Rattle.farm_lines.specs.declared.limits.TheConstants.{LAUNCHES_EACH, ROWS_EACH}
-use Rattle.farm_lines.specs.declared.list_row.ListRow.{ListRow}
 use Rattle.farm_lines.specs.declared.reply.Reply.{Reply}
 use Rattle.farm_lines.specs.declared.reply.Reply.TheVariants as reply
 use Rattle.farm_lines.specs.Fields.{list_of, name_at}
 use Rattle.farm_lines.specs.Reply.{most_entries}
-use Rattle.farm_lines.specs.ReplyRows.{rows_at, state_of, word_at}
+use Rattle.farm_lines.specs.ReplyRows.{rows_at}
 use Rattle.farm_lines.specs.Request.{attempt_at}
 
 -- a list that isn't longer than so many items, else it is of another kind
@@ -84,13 +81,6 @@ ended_keys = codes "ended" ∷ codes "ok" ∷ []
 
 unfoldable pub ended_reply : Members → Result Reply Fault
 ended_reply ms = whole_at (codes "ended") 0 SLOT_LIMIT ms >>= λ ended. others_at ended_keys ms >>= λ none. Ok (reply.Ended ended)
-
-abbrev pub cut_of : List ℕ → Option Cut
-cut_of word =
-    if bytes_eq word [] then Some cut.Whole
-    else (if bytes_eq word (codes "store") then Some cut.Store
-    else (if bytes_eq word (codes "memory") then Some cut.Memory
-    else None))
 
 abbrev pub launch_keys : List (List ℕ)
 launch_keys =
@@ -217,18 +207,6 @@ limit_of counted.Jobs = LAST_JOB
 limit_of counted.Depends = MOST_DEPENDS
 limit_of counted.Groups = MOST_GROUPS
 limit_of counted.DependNumbers = LAST_DEPEND
-
-abbrev pub counted_of : List ℕ → Option Counted
-counted_of word =
-    if bytes_eq word (codes "shows") then Some counted.Shows
-    else (if bytes_eq word (codes "allocs") then Some counted.Allocs
-    else (if bytes_eq word (codes "hosts") then Some counted.Hosts
-    else (if bytes_eq word (codes "boots") then Some counted.Boots
-    else (if bytes_eq word (codes "jobs") then Some counted.Jobs
-    else (if bytes_eq word (codes "depends") then Some counted.Depends
-    else (if bytes_eq word (codes "groups") then Some counted.Groups
-    else (if bytes_eq word (codes "depend_numbers") then Some counted.DependNumbers
-    else None)))))))
 
 abbrev pub full_keys : List (List ℕ)
 full_keys = codes "code" ∷ codes "limit" ∷ codes "ok" ∷ codes "what" ∷ codes "why" ∷ []

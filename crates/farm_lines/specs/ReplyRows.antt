@@ -1,51 +1,17 @@
 -- What a row of a list says, or its first fault: its fields in order, and no others.
-use Rattle.std.specs.Prelude.{ℕ, ◌≡◌, List, [], ◌∷◌, codes, bytes_eq, Option, None, Some, Result, Ok, if◌then◌else◌}
-use Rattle.serde_json.specs.Data.{Data, Items, no_items, item, Members}
+use Rattle.std.specs.Prelude.{ℕ, List, [], ◌∷◌, codes, Option, None, Some, Result, Ok, if◌then◌else◌}
+use Rattle.serde_json.specs.Data.{Items, no_items, item, Members}
 use Rattle.serde_json.specs.Find.{as_object}
-use Rattle.cue_json.specs.Fields.{Fault, ◌>>=◌, of_kind, flag_at, has_key, list_at, others_at, text_at, whole_at}
-use Rattle.farm_types.specs.declared.states.FrameState.{FrameState}
-use Rattle.farm_types.specs.declared.states.FrameState.TheVariants as frame_state
-use Rattle.farm_types.specs.declared.states.HostState.{HostState}
-use Rattle.farm_types.specs.declared.states.HostState.TheVariants as host_state
-use Rattle.farm_types.specs.declared.states.JobState.{JobState}
-use Rattle.farm_types.specs.declared.states.JobState.TheVariants as job_state
+use Rattle.cue_json.specs.Fields.{Fault, ◌>>=◌, flag_at, has_key, list_at, others_at, text_at, whole_at}
 use Rattle.farm_types.specs.declared.limits.TheConstants.{LAST_BOOT, LAST_DEPEND, LAST_SLOT, LAST_VERSION, LEAST_CORES, LEAST_MEMORY, MOST_BURST, MOST_CORES, MOST_FRAMES, MOST_MEMORY, MOST_PRIORITY, MOST_RETRIES}
+use Rattle.farm_words.specs.Words.{host_state_of, job_state_of, kind_of, lock_of, state_of, word_at}
 use Rattle.farm_lines.specs.declared.list_row.ListRow.{ListRow}
 use Rattle.farm_lines.specs.declared.list_row.ListRow.TheVariants as row
 use Rattle.farm_lines.specs.declared.list_row.RowKind.{RowKind}
 use Rattle.farm_lines.specs.declared.list_row.RowKind.TheVariants as kind
-use Rattle.farm_lines.specs.DependLines.{kind_at}
 use Rattle.farm_lines.specs.Fields.{items_at, name_at}
-use Rattle.farm_lines.specs.Request.{lock_at}
 
 -- ---- words
-
-abbrev pub state_of : List ℕ → Option FrameState
-state_of word =
-    if bytes_eq word (codes "WAITING") then Some frame_state.Waiting
-    else (if bytes_eq word (codes "SETUP") then Some frame_state.Setup
-    else (if bytes_eq word (codes "RUNNING") then Some frame_state.Running
-    else (if bytes_eq word (codes "SUCCEEDED") then Some frame_state.Succeeded
-    else (if bytes_eq word (codes "DEPEND") then Some frame_state.Depend
-    else (if bytes_eq word (codes "DEAD") then Some frame_state.Dead
-    else (if bytes_eq word (codes "EATEN") then Some frame_state.Eaten
-    else None))))))
-
-abbrev pub host_state_of : List ℕ → Option HostState
-host_state_of word =
-    if bytes_eq word (codes "UP") then Some host_state.Up
-    else (if bytes_eq word (codes "DOWN") then Some host_state.Down
-    else None)
-
-abbrev pub job_state_of : List ℕ → Option JobState
-job_state_of word =
-    if bytes_eq word (codes "PENDING") then Some job_state.Pending
-    else (if bytes_eq word (codes "FINISHED") then Some job_state.Finished
-    else None)
-
--- the word of a field, of those that name something
-abbrev pub word_at : {X : Type 0} → (List ℕ → Option X) → List ℕ → Members → Result X Fault
-word_at named field ms = text_at field ms >>= λ word. of_kind field (named word)
 
 -- ---- rows
 
@@ -68,7 +34,7 @@ host_row_keys =
 unfoldable pub host_row : Members → Result ListRow Fault
 host_row ms =
     name_at (codes "alloc") ms >>= λ alloc. whole_at (codes "boot") 1 LAST_BOOT ms >>= λ boot. whole_at (codes "cores") LEAST_CORES MOST_CORES ms >>= λ cores.
-    whole_at (codes "heard") 0 18446744073709551615 ms >>= λ heard. lock_at (codes "lock") ms >>= λ lock. whole_at (codes "memory") LEAST_MEMORY MOST_MEMORY ms >>= λ memory.
+    whole_at (codes "heard") 0 18446744073709551615 ms >>= λ heard. word_at lock_of (codes "lock") ms >>= λ lock. whole_at (codes "memory") LEAST_MEMORY MOST_MEMORY ms >>= λ memory.
     name_at (codes "name") ms >>= λ name. word_at host_state_of (codes "state") ms >>= λ state. whole_at (codes "used_cores") 0 MOST_CORES ms >>= λ used_cores.
     whole_at (codes "used_memory") 0 MOST_MEMORY ms >>= λ used_memory. others_at host_row_keys ms >>= λ none.
     Ok (row.Host (record { alloc = alloc; boot = boot; cores = cores; heard = heard; lock = lock; memory = memory; name = name; state = state; used_cores = used_cores; used_memory = used_memory }))
@@ -114,7 +80,7 @@ depend_row_keys = codes "depend" ∷ codes "kind" ∷ codes "satisfied" ∷ []
 
 unfoldable pub depend_row : Members → Result ListRow Fault
 depend_row ms =
-    whole_at (codes "depend") 1 LAST_DEPEND ms >>= λ depend. kind_at (codes "kind") ms >>= λ named. flag_at (codes "satisfied") ms >>= λ satisfied.
+    whole_at (codes "depend") 1 LAST_DEPEND ms >>= λ depend. word_at kind_of (codes "kind") ms >>= λ named. flag_at (codes "satisfied") ms >>= λ satisfied.
     others_at depend_row_keys ms >>= λ none. Ok (row.Depend (record { depend = depend; kind = named; satisfied = satisfied }))
 
 abbrev pub proc_row_keys : List (List ℕ)

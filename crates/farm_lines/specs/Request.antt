@@ -6,6 +6,7 @@ use Rattle.cue_json.specs.Lines.{object_in}
 use Rattle.frame_range.specs.declared.fault.RangeFault.{RangeFault}
 use Rattle.farm_types.specs.declared.attempt.Attempt.{Attempt}
 use Rattle.farm_types.specs.declared.attempt.DoneItem.{DoneItem}
+use Rattle.farm_words.specs.Words.{lock_of, word_at}
 use Rattle.farm_lines.specs.declared.boot_form.BootForm.{BootForm}
 use Rattle.farm_types.specs.declared.boot.BootLine.{BootLine}
 use Rattle.farm_types.specs.declared.job.JobSpec.{JobSpec}
@@ -14,7 +15,6 @@ use Rattle.farm_lines.specs.declared.request.Request.{Request}
 use Rattle.farm_lines.specs.declared.request.Request.TheVariants as request
 use Rattle.farm_types.specs.declared.rows.AllocRow.{AllocRow}
 use Rattle.farm_types.specs.declared.states.LockState.{LockState}
-use Rattle.farm_types.specs.declared.states.LockState.TheVariants as lock_state
 use Rattle.farm_lines.specs.declared.sub_form.SubForm.{SubForm}
 use Rattle.farm_types.specs.declared.sub_line.SubLine.{SubLine}
 use Rattle.farm_lines.specs.DependLines.{depend_at}
@@ -137,22 +137,12 @@ pub record LockLine : Type 0 where
   pub host : List ℕ
   pub lock : LockState
 
-abbrev pub lock_of : List ℕ → Option LockState
-lock_of word =
-    if bytes_eq word (codes "OPEN") then Some lock_state.Unlocked
-    else (if bytes_eq word (codes "LOCKED") then Some lock_state.Locked
-    else (if bytes_eq word (codes "NIMBY_LOCKED") then Some lock_state.NimbyLocked
-    else None))
-
-abbrev pub lock_at : List ℕ → Members → Result LockState Fault
-lock_at field ms = text_at field ms >>= λ word. of_kind field (lock_of word)
-
 abbrev pub lock_keys : List (List ℕ)
 lock_keys = codes "host" ∷ codes "lock" ∷ codes "op" ∷ []
 
 unfoldable pub lock_line_at : Members → Result LockLine Fault
 lock_line_at ms =
-    name_at (codes "host") ms >>= λ host. lock_at (codes "lock") ms >>= λ lock. others_at lock_keys ms >>= λ none.
+    name_at (codes "host") ms >>= λ host. word_at lock_of (codes "lock") ms >>= λ lock. others_at lock_keys ms >>= λ none.
     Ok (record { host = host; lock = lock })
 
 -- ---- ticks

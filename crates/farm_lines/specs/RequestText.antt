@@ -3,16 +3,15 @@ use Rattle.std.specs.Prelude.{ℕ, ℤ, ◌+◌, ◌/◌, ◌%◌, Bool, true, f
 use Rattle.serde_json.specs.Data.{Data, boolean, string, array, object, Members, no_members, member}
 use Rattle.serde_json.specs.View.{items_of}
 use Rattle.serde_json.specs.Written.{compact_text}
-use Rattle.farm_types.specs.declared.attempt.Attempt.{Attempt}
 use Rattle.farm_types.specs.declared.attempt.DoneItem.{DoneItem}
 use Rattle.farm_types.specs.declared.boot.BootLine.{BootLine}
 use Rattle.farm_types.specs.declared.depend.DependSpec.{DependSpec}
-use Rattle.farm_types.specs.declared.depend.Place.{Place}
 use Rattle.farm_types.specs.declared.entry.FramePlace.{FramePlace}
 use Rattle.farm_types.specs.declared.job.JobSpec.{JobSpec}
 use Rattle.farm_types.specs.declared.job.LayerSpec.{LayerSpec}
 use Rattle.farm_types.specs.declared.states.LockState.{LockState}
 use Rattle.farm_types.specs.declared.sub_line.SubLine.{SubLine}
+use Rattle.farm_words.specs.Words.{kind_word, lock_word}
 use Rattle.farm_lines.specs.declared.query.Listed.{Listed}
 use Rattle.farm_lines.specs.declared.query.Listed.TheVariants as listed
 use Rattle.farm_lines.specs.declared.query.Query.{Query}
@@ -20,7 +19,7 @@ use Rattle.farm_lines.specs.declared.report.Report.{Report}
 use Rattle.farm_lines.specs.declared.request.Request.{Request}
 use Rattle.farm_lines.specs.declared.request.Request.TheVariants as request
 use Rattle.farm_lines.specs.Reply.{attempts_data}
-use Rattle.farm_lines.specs.Words.{kind_word, lock_word, signed, what_listed, what_word, whole}
+use Rattle.farm_lines.specs.Words.{signed, what_listed, what_word, whole}
 
 -- ---- members that may be absent
 

@@ -7,13 +7,11 @@ ghost use Rattle.farm_lines.specs.DependLines.{depend_at, frame_if, layer_if, ow
 ghost use Rattle.farm_lines.specs.Fields.{item_at, items_at, or_default};
 
 use crate::defaults;
-use crate::depend_kind::{
-    names_frame, names_layer, names_target_frame, names_target_layer, no_others, no_others_in_spec,
-    read_kind,
-};
+use crate::depend_keys::{no_others, no_others_in_spec};
 use cue_json::{FieldFault, Map};
 use farm_lines::{LEAST_FRAME, MOST_FRAME, read_name};
 use farm_types::{DependKind, DependSpec, Items, Place, Text};
+use farm_words::{names_frame, names_layer, names_target_frame, names_target_layer, read_word};
 use serde_json::Value;
 use std::alloc::Global;
 
@@ -23,7 +21,7 @@ use std::alloc::Global;
 pub fn read_depend(alloc: Global, object: &Map) -> Result<DependSpec, FieldFault>
     ensures { Gives (λ depend. depend) result (depend_at (members_view object.now.entries)) }
 {
-    let kind = read_kind(alloc, object, "kind")?;
+    let kind = read_word(alloc, object, "kind")?;
     let any = defaults::flag(alloc, object, "any")?;
     let job = read_name(alloc, object, "job")?;
     let waiter = read_waiter(alloc, object, job, kind)?;
@@ -102,7 +100,7 @@ fn read_item(
 fn read_own_depend(alloc: Global, object: &Map, own: &Text) -> Result<DependSpec, FieldFault>
     ensures { Gives (λ depend. depend) result (own_depend_at own.now (members_view object.now.entries)) }
 {
-    let kind = read_kind(alloc, object, "kind")?;
+    let kind = read_word(alloc, object, "kind")?;
     let any = defaults::flag(alloc, object, "any")?;
     let waiter = read_waiter(alloc, object, own.copy(alloc)?, kind)?;
     let on_job = defaults::job(alloc, object, "on_job", own)?;

@@ -3,7 +3,7 @@
 
 mod amounts;
 mod defaults;
-mod depend_kind;
+mod depend_keys;
 mod depend_line;
 mod fault;
 mod job_amounts;

@@ -1,7 +1,8 @@
 //! Texts of digits.
 
-ghost use Rattle.std.specs.Prelude.{◌≡◌};
+ghost use Rattle.std.specs.Prelude.{◌≡◌, ◌<◌, ◌^◌};
 ghost use Rattle.std.specs.List.{list_all};
+ghost use Rattle.std.specs.Option.{IfSome};
 ghost use Rattle.farm_lines.specs.Points.{is_digit, is_number_text, number_of};
 
 // How many digits a number has at most, with the zeros in front.
@@ -9,7 +10,8 @@ const MOST_DIGITS: usize = 10;
 
 /// The number that 1 to 10 decimal digits write.
 pub fn number_of(text: &str) -> Option<u64>
-    ensures { result ≡ number_of 10 text.now }
+    ensures value { result ≡ number_of 10 text.now }
+    ensures small { IfSome result (λ n. n < 10 ^ 10) }
 {
     if is_number(text, MOST_DIGITS) {
         text.parse().ok()

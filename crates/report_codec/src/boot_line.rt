@@ -8,7 +8,7 @@ ghost use Rattle.farm_lines.specs.Reply.{boot_data};
 ghost use Rattle.farm_lines.specs.Request.{boot_form_at, boot_line_at, boot_line_of, judged};
 ghost use Rattle.job_spec.specs.SpecResults.{GivesSpec};
 ghost use Rattle.report_codec.specs.Reads.{IsRequest};
-ghost use Rattle.line_writer.specs.Tokens.{added, tokens_of};
+ghost use Rattle.object_writer.specs.Tokens.{added, tokens_of};
 
 use crate::read_fields::{read_number, read_text};
 use cue_json::{FieldFault, Map};
@@ -17,7 +17,7 @@ use farm_types::{
     BootLine, Cores, Kb, LEAST_CORES, LEAST_MEMORY, MOST_CORES, MOST_MEMORY, MOST_TAGS,
 };
 use job_spec::{SpecFault, read_tags, within};
-use line_writer::LineWriter;
+use object_writer::ObjectWriter;
 use std::alloc::{AllocError, Global};
 
 /// The boot that the object tells, or its first fault. All forms come before the amounts.
@@ -93,7 +93,7 @@ fn judge(alloc: Global, form: BootForm) -> Result<BootLine, SpecFault>
 
 /// The reply to it: the number of the boot, and the nonce that the host sent.
 #[tactic(auto, unfolding(farm_lines::specs::Reply::boot_data))]
-pub fn write_boot(out: &mut LineWriter, boot: u32, nonce: u64) -> Result<(), AllocError>
+pub fn write_boot(out: &mut ObjectWriter, boot: u32, nonce: u64) -> Result<(), AllocError>
     ensures { OnOk result (out.new ≡ added out.old (tokens_of (boot_data boot nonce))) }
 {
     out.begin_object()?;

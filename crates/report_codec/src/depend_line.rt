@@ -7,12 +7,12 @@ ghost use Rattle.farm_lines.specs.DependLines.{depend_at};
 ghost use Rattle.farm_lines.specs.Reply.{depend_data};
 ghost use Rattle.farm_lines.specs.Request.{asked};
 ghost use Rattle.report_codec.specs.Reads.{IsRequest};
-ghost use Rattle.line_writer.specs.Tokens.{added, tokens_of};
+ghost use Rattle.object_writer.specs.Tokens.{added, tokens_of};
 
 use cue_json::Map;
 use farm_lines::{Request, RequestFault};
 use farm_types::DependNo;
-use line_writer::LineWriter;
+use object_writer::ObjectWriter;
 use std::alloc::{AllocError, Global};
 
 /// The depend that the object adds, or its first fault.
@@ -25,7 +25,7 @@ pub fn read_depend(alloc: Global, object: &Map) -> Result<Request, RequestFault>
 
 /// The reply to it: the depend's number, and how many frames wait in those of its groups that aren't met.
 #[tactic(auto, unfolding(farm_lines::specs::Reply::depend_data))]
-pub fn write_depend(out: &mut LineWriter, depend: DependNo, unmet: u32) -> Result<(), AllocError>
+pub fn write_depend(out: &mut ObjectWriter, depend: DependNo, unmet: u32) -> Result<(), AllocError>
     ensures { OnOk result (out.new ≡ added out.old (tokens_of (depend_data depend unmet))) }
 {
     out.begin_object()?;

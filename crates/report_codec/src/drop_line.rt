@@ -7,12 +7,12 @@ ghost use Rattle.farm_lines.specs.declared.request.Request.TheVariants as reques
 ghost use Rattle.farm_lines.specs.Reply.{dropped_data};
 ghost use Rattle.farm_lines.specs.Request.{asked, drop_at};
 ghost use Rattle.report_codec.specs.Reads.{IsRequest};
-ghost use Rattle.line_writer.specs.Tokens.{added, tokens_of};
+ghost use Rattle.object_writer.specs.Tokens.{added, tokens_of};
 
 use cue_json::{FieldFault, Map};
 use farm_lines::{Request, RequestFault};
 use farm_types::{DependNo, LAST_DEPEND};
-use line_writer::LineWriter;
+use object_writer::ObjectWriter;
 use std::alloc::{AllocError, Global};
 
 /// The depend that the object drops, or its first fault.
@@ -35,7 +35,7 @@ fn depend_no(alloc: Global, object: &Map) -> Result<DependNo, FieldFault>
 
 /// The reply to it: how many frames wait for no other any more, and are ready to run.
 #[tactic(auto, unfolding(farm_lines::specs::Reply::dropped_data))]
-pub fn write_dropped(out: &mut LineWriter, opened: u32) -> Result<(), AllocError>
+pub fn write_dropped(out: &mut ObjectWriter, opened: u32) -> Result<(), AllocError>
     ensures { OnOk result (out.new ≡ added out.old (tokens_of (dropped_data opened))) }
 {
     out.begin_object()?;

@@ -2,17 +2,17 @@
 
 ghost use Rattle.std.specs.Prelude.{◌≡◌, IfOk, OnOk};
 ghost use Rattle.farm_lines.specs.Reply.{bad_amount, bad_line, bad_range, bad_store, bad_store_line, entries_full, fault_word, no_memory, section_of, still_held, store_fault, too_long};
-ghost use Rattle.line_writer.specs.Tokens.{added, tokens_of};
+ghost use Rattle.object_writer.specs.Tokens.{added, tokens_of};
 ghost use Rattle.serde_json.specs.Written.{compact_text};
 
 use farm_types::{Cores, Kb, Text};
 use frame_range::RangeFault;
-use line_writer::LineWriter;
+use object_writer::ObjectWriter;
 use std::alloc::{AllocError, Global};
 
 /// A line or a field that isn't of its form: `field` is the innermost key, empty for the whole line.
 #[tactic(auto, unfolding(farm_lines::specs::Reply::bad_line))]
-pub fn write_bad_line(out: &mut LineWriter, field: &str) -> Result<(), AllocError>
+pub fn write_bad_line(out: &mut ObjectWriter, field: &str) -> Result<(), AllocError>
     ensures { OnOk result (out.new ≡ added out.old (tokens_of (bad_line field.now))) }
 {
     out.begin_object()?;
@@ -25,7 +25,7 @@ pub fn write_bad_line(out: &mut LineWriter, field: &str) -> Result<(), AllocErro
 
 /// A line that is too long.
 #[tactic(auto, unfolding(farm_lines::specs::Reply::too_long))]
-pub fn write_too_long(out: &mut LineWriter) -> Result<(), AllocError>
+pub fn write_too_long(out: &mut ObjectWriter) -> Result<(), AllocError>
     ensures { OnOk result (out.new ≡ added out.old (tokens_of too_long)) }
 {
     out.begin_object()?;
@@ -38,7 +38,7 @@ pub fn write_too_long(out: &mut LineWriter) -> Result<(), AllocError>
 /// A layer's range that has a fault.
 #[tactic(auto, unfolding(farm_lines::specs::Reply::bad_range))]
 pub fn write_bad_range(
-    out: &mut LineWriter,
+    out: &mut ObjectWriter,
     layer: &str,
     fault: RangeFault,
 ) -> Result<(), AllocError>
@@ -58,7 +58,7 @@ pub fn write_bad_range(
 
 /// An amount outside its limits.
 #[tactic(auto, unfolding(farm_lines::specs::Reply::bad_amount))]
-pub fn write_bad_amount(out: &mut LineWriter, field: &str) -> Result<(), AllocError>
+pub fn write_bad_amount(out: &mut ObjectWriter, field: &str) -> Result<(), AllocError>
     ensures { OnOk result (out.new ≡ added out.old (tokens_of (bad_amount field.now))) }
 {
     out.begin_object()?;
@@ -71,7 +71,7 @@ pub fn write_bad_amount(out: &mut LineWriter, field: &str) -> Result<(), AllocEr
 
 /// A host's boot with other amounts, while some of the old ones is held: so many cores and so much memory of them are free.
 #[tactic(auto, unfolding(farm_lines::specs::Reply::still_held))]
-pub fn write_still_held(out: &mut LineWriter, cores: Cores, memory: Kb) -> Result<(), AllocError>
+pub fn write_still_held(out: &mut ObjectWriter, cores: Cores, memory: Kb) -> Result<(), AllocError>
     ensures { OnOk result (out.new ≡ added out.old (tokens_of (still_held cores memory))) }
 {
     out.begin_object()?;
@@ -85,7 +85,7 @@ pub fn write_still_held(out: &mut LineWriter, cores: Cores, memory: Kb) -> Resul
 
 /// As many entries as can be numbered are recorded.
 #[tactic(auto, unfolding(farm_lines::specs::Reply::entries_full))]
-pub fn write_entries_full(out: &mut LineWriter) -> Result<(), AllocError>
+pub fn write_entries_full(out: &mut ObjectWriter) -> Result<(), AllocError>
     ensures { OnOk result (out.new ≡ added out.old (tokens_of entries_full)) }
 {
     out.begin_object()?;
@@ -107,18 +107,18 @@ pub fn write_bad_store(alloc: Global, kind: u8, id: u64) -> Result<Text, AllocEr
 }
 
 // A row of the store at fault, as compact JSON.
-#[tactic(auto, using(line_writer::proofs::Printed::data_printed))]
+#[tactic(auto, using(object_writer::proofs::Printed::data_printed))]
 fn bad_store_text(alloc: Global, kind: u8, id: u64) -> Result<Text, AllocError>
     ensures { IfOk result (λ text. text ≡ compact_text (bad_store kind id)) }
 {
-    let mut out = LineWriter::new(alloc)?;
+    let mut out = ObjectWriter::new(alloc)?;
     write_bad_row(&mut out, u64::from(kind), id)?;
     Ok(out.into_text())
 }
 
 // A row of the store at fault.
 #[tactic(auto, unfolding(farm_lines::specs::Reply::bad_store))]
-fn write_bad_row(out: &mut LineWriter, kind: u64, id: u64) -> Result<(), AllocError>
+fn write_bad_row(out: &mut ObjectWriter, kind: u64, id: u64) -> Result<(), AllocError>
     ensures { OnOk result (out.new ≡ added out.old (tokens_of (bad_store kind id))) }
 {
     out.begin_object()?;
@@ -131,7 +131,7 @@ fn write_bad_row(out: &mut LineWriter, kind: u64, id: u64) -> Result<(), AllocEr
 
 /// A fault of the store.
 #[tactic(auto, unfolding(farm_lines::specs::Reply::store_fault))]
-pub fn write_store_fault(out: &mut LineWriter) -> Result<(), AllocError>
+pub fn write_store_fault(out: &mut ObjectWriter) -> Result<(), AllocError>
     ensures { OnOk result (out.new ≡ added out.old (tokens_of store_fault)) }
 {
     out.begin_object()?;
@@ -143,7 +143,7 @@ pub fn write_store_fault(out: &mut LineWriter) -> Result<(), AllocError>
 
 /// Out of memory.
 #[tactic(auto, unfolding(farm_lines::specs::Reply::no_memory))]
-pub fn write_no_memory(out: &mut LineWriter) -> Result<(), AllocError>
+pub fn write_no_memory(out: &mut ObjectWriter) -> Result<(), AllocError>
     ensures { OnOk result (out.new ≡ added out.old (tokens_of no_memory)) }
 {
     out.begin_object()?;

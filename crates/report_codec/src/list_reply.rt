@@ -3,18 +3,19 @@
 ghost use Rattle.std.specs.Prelude.{◌≡◌, ◌∷◌, codes, OnOk};
 ghost use Rattle.json.specs.Token.{key};
 ghost use Rattle.farm_lines.specs.ListReplies.{depend_row_data, frame_row_data, host_row_data, job_row_data, layer_row_data, list_data, list_row_data, list_rows_data, name_data, proc_row_data, sub_row_data};
-ghost use Rattle.line_writer.specs.Tokens.{added, tokens_of};
+ghost use Rattle.object_writer.specs.Tokens.{added, tokens_of};
 
 use farm_lines::{
     ListReply, ListRow, ShownDepend, ShownFrame, ShownHost, ShownJob, ShownLayer, ShownProc,
     ShownSub,
 };
-use line_writer::{LineWriter, host_word, job_word, kind_word, lock_word, state_word};
+use farm_words::{host_word, job_word, kind_word, lock_word, state_word};
+use object_writer::ObjectWriter;
 use std::alloc::AllocError;
 
 /// The reply to a list: its rows, and how many there are in all. Cores in hundredths of a core, memory in KB.
 #[tactic(auto, unfolding(farm_lines::specs::ListReplies::list_data))]
-pub fn write_list(out: &mut LineWriter, list: &ListReply) -> Result<(), AllocError>
+pub fn write_list(out: &mut ObjectWriter, list: &ListReply) -> Result<(), AllocError>
     ensures { OnOk result (out.new ≡ added out.old (tokens_of (list_data list.now.rows list.now.total))) }
 {
     out.begin_object()?;
@@ -25,7 +26,7 @@ pub fn write_list(out: &mut LineWriter, list: &ListReply) -> Result<(), AllocErr
 }
 
 // The rows, in order.
-fn write_rows(out: &mut LineWriter, rows: &[ListRow]) -> Result<(), AllocError>
+fn write_rows(out: &mut ObjectWriter, rows: &[ListRow]) -> Result<(), AllocError>
     ensures { OnOk result (out.new ≡ added out.old (key (codes "rows") ∷ tokens_of (list_rows_data rows.now))) }
 {
     out.begin_list("rows")?;
@@ -36,7 +37,7 @@ fn write_rows(out: &mut LineWriter, rows: &[ListRow]) -> Result<(), AllocError>
 }
 
 // A row of a list.
-fn write_row(out: &mut LineWriter, row: &ListRow) -> Result<(), AllocError>
+fn write_row(out: &mut ObjectWriter, row: &ListRow) -> Result<(), AllocError>
     ensures { OnOk result (out.new ≡ added out.old (tokens_of (list_row_data row.now))) }
 {
     match row {
@@ -52,7 +53,7 @@ fn write_row(out: &mut LineWriter, row: &ListRow) -> Result<(), AllocError>
 }
 
 #[tactic(auto, unfolding(farm_lines::specs::ListReplies::name_data))]
-fn write_name(out: &mut LineWriter, name: &str) -> Result<(), AllocError>
+fn write_name(out: &mut ObjectWriter, name: &str) -> Result<(), AllocError>
     ensures { OnOk result (out.new ≡ added out.old (tokens_of (name_data name.now))) }
 {
     out.begin_object()?;
@@ -61,7 +62,7 @@ fn write_name(out: &mut LineWriter, name: &str) -> Result<(), AllocError>
 }
 
 #[tactic(auto, unfolding(farm_lines::specs::ListReplies::sub_row_data))]
-fn write_sub(out: &mut LineWriter, sub: &ShownSub) -> Result<(), AllocError>
+fn write_sub(out: &mut ObjectWriter, sub: &ShownSub) -> Result<(), AllocError>
     ensures { OnOk result (out.new ≡ added out.old (tokens_of (sub_row_data sub.now))) }
 {
     out.begin_object()?;
@@ -74,7 +75,7 @@ fn write_sub(out: &mut LineWriter, sub: &ShownSub) -> Result<(), AllocError>
 }
 
 #[tactic(auto, unfolding(farm_lines::specs::ListReplies::host_row_data))]
-fn write_host(out: &mut LineWriter, host: &ShownHost) -> Result<(), AllocError>
+fn write_host(out: &mut ObjectWriter, host: &ShownHost) -> Result<(), AllocError>
     ensures { OnOk result (out.new ≡ added out.old (tokens_of (host_row_data host.now))) }
 {
     out.begin_object()?;
@@ -92,7 +93,7 @@ fn write_host(out: &mut LineWriter, host: &ShownHost) -> Result<(), AllocError>
 }
 
 #[tactic(auto, unfolding(farm_lines::specs::ListReplies::job_row_data))]
-fn write_job(out: &mut LineWriter, job: &ShownJob) -> Result<(), AllocError>
+fn write_job(out: &mut ObjectWriter, job: &ShownJob) -> Result<(), AllocError>
     ensures { OnOk result (out.new ≡ added out.old (tokens_of (job_row_data job.now))) }
 {
     out.begin_object()?;
@@ -111,7 +112,7 @@ fn write_job(out: &mut LineWriter, job: &ShownJob) -> Result<(), AllocError>
 }
 
 #[tactic(auto, unfolding(farm_lines::specs::ListReplies::layer_row_data))]
-fn write_layer(out: &mut LineWriter, layer: &ShownLayer) -> Result<(), AllocError>
+fn write_layer(out: &mut ObjectWriter, layer: &ShownLayer) -> Result<(), AllocError>
     ensures { OnOk result (out.new ≡ added out.old (tokens_of (layer_row_data layer.now))) }
 {
     out.begin_object()?;
@@ -129,7 +130,7 @@ fn write_layer(out: &mut LineWriter, layer: &ShownLayer) -> Result<(), AllocErro
 }
 
 #[tactic(auto, unfolding(farm_lines::specs::ListReplies::frame_row_data))]
-fn write_frame(out: &mut LineWriter, frame: &ShownFrame) -> Result<(), AllocError>
+fn write_frame(out: &mut ObjectWriter, frame: &ShownFrame) -> Result<(), AllocError>
     ensures { OnOk result (out.new ≡ added out.old (tokens_of (frame_row_data frame.now))) }
 {
     out.begin_object()?;
@@ -141,7 +142,7 @@ fn write_frame(out: &mut LineWriter, frame: &ShownFrame) -> Result<(), AllocErro
 }
 
 #[tactic(auto, unfolding(farm_lines::specs::ListReplies::depend_row_data))]
-fn write_depend(out: &mut LineWriter, depend: &ShownDepend) -> Result<(), AllocError>
+fn write_depend(out: &mut ObjectWriter, depend: &ShownDepend) -> Result<(), AllocError>
     ensures { OnOk result (out.new ≡ added out.old (tokens_of (depend_row_data depend.now))) }
 {
     out.begin_object()?;
@@ -152,7 +153,7 @@ fn write_depend(out: &mut LineWriter, depend: &ShownDepend) -> Result<(), AllocE
 }
 
 #[tactic(auto, unfolding(farm_lines::specs::ListReplies::proc_row_data))]
-fn write_proc(out: &mut LineWriter, proc: &ShownProc) -> Result<(), AllocError>
+fn write_proc(out: &mut ObjectWriter, proc: &ShownProc) -> Result<(), AllocError>
     ensures { OnOk result (out.new ≡ added out.old (tokens_of (proc_row_data proc.now))) }
 {
     out.begin_object()?;

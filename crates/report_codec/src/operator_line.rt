@@ -8,12 +8,12 @@ ghost use Rattle.farm_lines.specs.OperatorLines.{asks_pause, frame_at, frame_of_
 ghost use Rattle.farm_lines.specs.Reply.{ended_data};
 ghost use Rattle.farm_lines.specs.Request.{asked, asks_kill};
 ghost use Rattle.report_codec.specs.Reads.{IsRequest};
-ghost use Rattle.line_writer.specs.Tokens.{added, tokens_of};
+ghost use Rattle.object_writer.specs.Tokens.{added, tokens_of};
 
 use cue_json::{FieldFault, Map};
 use farm_lines::{LEAST_FRAME, MOST_FRAME, Request, RequestFault, read_name};
 use farm_types::{FramePlace, Text};
-use line_writer::LineWriter;
+use object_writer::ObjectWriter;
 use std::alloc::{AllocError, Global};
 
 /// The job that the object pauses or resumes, or its first fault.
@@ -113,7 +113,7 @@ fn names_frame(object: &Map) -> bool
 
 /// The reply: how many attempts ended.
 #[tactic(auto, unfolding(farm_lines::specs::Reply::ended_data))]
-pub fn write_ended(out: &mut LineWriter, ended: u32) -> Result<(), AllocError>
+pub fn write_ended(out: &mut ObjectWriter, ended: u32) -> Result<(), AllocError>
     ensures { OnOk result (out.new ≡ added out.old (tokens_of (ended_data ended))) }
 {
     out.begin_object()?;

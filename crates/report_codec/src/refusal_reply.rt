@@ -2,16 +2,17 @@
 
 ghost use Rattle.std.specs.Prelude.{◌≡◌, OnOk};
 ghost use Rattle.farm_types.specs.declared.refusal.Refusal.TheVariants.{Unknown, Finished, Exists, WrongBoot, Stale, FarmFull, Satisfied, WrongState, VersionSpent, SelfDepend, Started, Full};
-ghost use Rattle.farm_lines.specs.Reply.{counted_word, refusal_data};
-ghost use Rattle.farm_lines.specs.Words.{state_word};
-ghost use Rattle.line_writer.specs.Tokens.{added, tokens_of};
+ghost use Rattle.farm_words.specs.Words.{counted_word, state_word};
+ghost use Rattle.farm_lines.specs.Reply.{refusal_data};
+ghost use Rattle.object_writer.specs.Tokens.{added, tokens_of};
 
 use farm_types::{Counted, FrameState, Refusal};
-use line_writer::{LineWriter, state_word};
+use farm_words::{counted_word, state_word};
+use object_writer::ObjectWriter;
 use std::alloc::AllocError;
 
 /// The refusal with its code and what it shows.
-pub fn write_refusal(out: &mut LineWriter, why: &Refusal) -> Result<(), AllocError>
+pub fn write_refusal(out: &mut ObjectWriter, why: &Refusal) -> Result<(), AllocError>
     ensures { OnOk result (out.new ≡ added out.old (tokens_of (refusal_data why.now))) }
 {
     match why {
@@ -31,7 +32,7 @@ pub fn write_refusal(out: &mut LineWriter, why: &Refusal) -> Result<(), AllocErr
 }
 
 #[tactic(auto, unfolding(farm_lines::specs::Reply::refusal_data))]
-fn write_unknown(out: &mut LineWriter, name: &str) -> Result<(), AllocError>
+fn write_unknown(out: &mut ObjectWriter, name: &str) -> Result<(), AllocError>
     ensures { OnOk result (out.new ≡ added out.old (tokens_of (refusal_data (Unknown name.now)))) }
 {
     out.begin_object()?;
@@ -43,7 +44,7 @@ fn write_unknown(out: &mut LineWriter, name: &str) -> Result<(), AllocError>
 }
 
 #[tactic(auto, unfolding(farm_lines::specs::Reply::refusal_data))]
-fn write_finished(out: &mut LineWriter, name: &str) -> Result<(), AllocError>
+fn write_finished(out: &mut ObjectWriter, name: &str) -> Result<(), AllocError>
     ensures { OnOk result (out.new ≡ added out.old (tokens_of (refusal_data (Finished name.now)))) }
 {
     out.begin_object()?;
@@ -55,7 +56,7 @@ fn write_finished(out: &mut LineWriter, name: &str) -> Result<(), AllocError>
 }
 
 #[tactic(auto, unfolding(farm_lines::specs::Reply::refusal_data))]
-fn write_exists(out: &mut LineWriter, name: &str) -> Result<(), AllocError>
+fn write_exists(out: &mut ObjectWriter, name: &str) -> Result<(), AllocError>
     ensures { OnOk result (out.new ≡ added out.old (tokens_of (refusal_data (Exists name.now)))) }
 {
     out.begin_object()?;
@@ -67,7 +68,7 @@ fn write_exists(out: &mut LineWriter, name: &str) -> Result<(), AllocError>
 }
 
 #[tactic(auto, unfolding(farm_lines::specs::Reply::refusal_data))]
-fn write_wrong_boot(out: &mut LineWriter, boot: u32) -> Result<(), AllocError>
+fn write_wrong_boot(out: &mut ObjectWriter, boot: u32) -> Result<(), AllocError>
     ensures { OnOk result (out.new ≡ added out.old (tokens_of (refusal_data (WrongBoot boot)))) }
 {
     out.begin_object()?;
@@ -79,7 +80,7 @@ fn write_wrong_boot(out: &mut LineWriter, boot: u32) -> Result<(), AllocError>
 }
 
 #[tactic(auto, unfolding(farm_lines::specs::Reply::refusal_data))]
-fn write_stale(out: &mut LineWriter, last: u64) -> Result<(), AllocError>
+fn write_stale(out: &mut ObjectWriter, last: u64) -> Result<(), AllocError>
     ensures { OnOk result (out.new ≡ added out.old (tokens_of (refusal_data (Stale last)))) }
 {
     out.begin_object()?;
@@ -91,7 +92,7 @@ fn write_stale(out: &mut LineWriter, last: u64) -> Result<(), AllocError>
 }
 
 #[tactic(auto, unfolding(farm_lines::specs::Reply::refusal_data))]
-fn write_farm_full(out: &mut LineWriter, free: u32) -> Result<(), AllocError>
+fn write_farm_full(out: &mut ObjectWriter, free: u32) -> Result<(), AllocError>
     ensures { OnOk result (out.new ≡ added out.old (tokens_of (refusal_data (FarmFull free)))) }
 {
     out.begin_object()?;
@@ -103,7 +104,7 @@ fn write_farm_full(out: &mut LineWriter, free: u32) -> Result<(), AllocError>
 }
 
 #[tactic(auto, unfolding(farm_lines::specs::Reply::refusal_data))]
-fn write_satisfied(out: &mut LineWriter) -> Result<(), AllocError>
+fn write_satisfied(out: &mut ObjectWriter) -> Result<(), AllocError>
     ensures { OnOk result (out.new ≡ added out.old (tokens_of (refusal_data Satisfied))) }
 {
     out.begin_object()?;
@@ -115,7 +116,7 @@ fn write_satisfied(out: &mut LineWriter) -> Result<(), AllocError>
 }
 
 #[tactic(auto, unfolding(farm_lines::specs::Reply::refusal_data))]
-fn write_wrong_state(out: &mut LineWriter, state: FrameState) -> Result<(), AllocError>
+fn write_wrong_state(out: &mut ObjectWriter, state: FrameState) -> Result<(), AllocError>
     ensures { OnOk result (out.new ≡ added out.old (tokens_of (refusal_data (WrongState state)))) }
 {
     let state = state_word(state);
@@ -128,7 +129,7 @@ fn write_wrong_state(out: &mut LineWriter, state: FrameState) -> Result<(), Allo
 }
 
 #[tactic(auto, unfolding(farm_lines::specs::Reply::refusal_data))]
-fn write_version_spent(out: &mut LineWriter, frame: &str) -> Result<(), AllocError>
+fn write_version_spent(out: &mut ObjectWriter, frame: &str) -> Result<(), AllocError>
     ensures { OnOk result (out.new ≡ added out.old (tokens_of (refusal_data (VersionSpent frame.now)))) }
 {
     out.begin_object()?;
@@ -140,7 +141,7 @@ fn write_version_spent(out: &mut LineWriter, frame: &str) -> Result<(), AllocErr
 }
 
 #[tactic(auto, unfolding(farm_lines::specs::Reply::refusal_data))]
-fn write_self_depend(out: &mut LineWriter, frame: &str) -> Result<(), AllocError>
+fn write_self_depend(out: &mut ObjectWriter, frame: &str) -> Result<(), AllocError>
     ensures { OnOk result (out.new ≡ added out.old (tokens_of (refusal_data (SelfDepend frame.now)))) }
 {
     out.begin_object()?;
@@ -152,7 +153,7 @@ fn write_self_depend(out: &mut LineWriter, frame: &str) -> Result<(), AllocError
 }
 
 #[tactic(auto, unfolding(farm_lines::specs::Reply::refusal_data))]
-fn write_started(out: &mut LineWriter, frame: &str) -> Result<(), AllocError>
+fn write_started(out: &mut ObjectWriter, frame: &str) -> Result<(), AllocError>
     ensures { OnOk result (out.new ≡ added out.old (tokens_of (refusal_data (Started frame.now)))) }
 {
     out.begin_object()?;
@@ -164,7 +165,7 @@ fn write_started(out: &mut LineWriter, frame: &str) -> Result<(), AllocError>
 }
 
 #[tactic(auto, unfolding(farm_lines::specs::Reply::refusal_data))]
-fn write_full(out: &mut LineWriter, limit: u64, what: Counted) -> Result<(), AllocError>
+fn write_full(out: &mut ObjectWriter, limit: u64, what: Counted) -> Result<(), AllocError>
     ensures { OnOk result (out.new ≡ added out.old (tokens_of (refusal_data (Full limit what)))) }
 {
     let what = counted_word(what);
@@ -175,20 +176,4 @@ fn write_full(out: &mut LineWriter, limit: u64, what: Counted) -> Result<(), All
     out.text("what", what)?;
     out.text("why", "full")?;
     out.end_object()
-}
-
-// The word of a reply for what is counted.
-fn counted_word(what: Counted) -> &'static str
-    ensures { result.now ≡ counted_word what }
-{
-    match what {
-        Counted::Shows => "shows",
-        Counted::Allocs => "allocs",
-        Counted::Hosts => "hosts",
-        Counted::Boots => "boots",
-        Counted::Jobs => "jobs",
-        Counted::Depends => "depends",
-        Counted::Groups => "groups",
-        Counted::DependNumbers => "depend_numbers",
-    }
 }

@@ -4,17 +4,19 @@ ghost use Rattle.std.specs.Prelude.{◌≡◌, ◌∷◌, OnOk};
 ghost use Rattle.json.specs.Token.{key};
 ghost use Rattle.serde_json.specs.View.{members_view};
 ghost use Rattle.cue_json.specs.Fields.{Gives};
+ghost use Rattle.farm_words.specs.Words.{cut_word};
 ghost use Rattle.farm_lines.specs.declared.request.Request.TheVariants as request;
-ghost use Rattle.farm_lines.specs.Reply.{attempt_data, attempts_data, cut_text, launch_data, launches_data, report_data};
+ghost use Rattle.farm_lines.specs.Reply.{attempt_data, attempts_data, launch_data, launches_data, report_data};
 ghost use Rattle.farm_lines.specs.Request.{asked, report_at};
 ghost use Rattle.report_codec.specs.Reads.{IsRequest};
-ghost use Rattle.line_writer.specs.Tokens.{added, tokens_of};
+ghost use Rattle.object_writer.specs.Tokens.{added, tokens_of};
 
 use crate::item;
 use cue_json::{FieldFault, Map};
 use farm_lines::{Launch, Report, ReportReply, Request, RequestFault, read_name};
-use farm_types::{Attempt, Cut, LAST_BOOT};
-use line_writer::LineWriter;
+use farm_types::{Attempt, LAST_BOOT};
+use farm_words::cut_word;
+use object_writer::ObjectWriter;
 use std::alloc::{AllocError, Global};
 
 /// The report that the object is, or its first fault.
@@ -51,13 +53,13 @@ fn report(alloc: Global, object: &Map) -> Result<Report, FieldFault>
 
 /// The reply to a report: cores in hundredths of a core, memory in KB.
 #[tactic(auto, unfolding(farm_lines::specs::Reply::report_data))]
-pub fn write_report(out: &mut LineWriter, report: &ReportReply) -> Result<(), AllocError>
-    ensures { OnOk result (out.new ≡ added out.old (tokens_of (report_data report.now.boot report.now.seq (cut_text report.now.cut) report.now.acks report.now.kills report.now.launches))) }
+pub fn write_report(out: &mut ObjectWriter, report: &ReportReply) -> Result<(), AllocError>
+    ensures { OnOk result (out.new ≡ added out.old (tokens_of (report_data report.now.boot report.now.seq (cut_word report.now.cut) report.now.acks report.now.kills report.now.launches))) }
 {
     out.begin_object()?;
     write_attempts(out, "acks", report.acks.as_slice())?;
     out.whole("boot", u64::from(report.boot))?;
-    out.text("cut", cut_text(report.cut))?;
+    out.text("cut", cut_word(report.cut))?;
     write_attempts(out, "kills", report.kills.as_slice())?;
     write_launches(out, "launches", report.launches.as_slice())?;
     out.truth("ok", true)?;
@@ -65,7 +67,11 @@ pub fn write_report(out: &mut LineWriter, report: &ReportReply) -> Result<(), Al
     out.end_object()
 }
 
-fn write_attempts(out: &mut LineWriter, name: &str, attempts: &[Attempt]) -> Result<(), AllocError>
+fn write_attempts(
+    out: &mut ObjectWriter,
+    name: &str,
+    attempts: &[Attempt],
+) -> Result<(), AllocError>
     ensures { OnOk result (out.new ≡ added out.old (key name.now ∷ tokens_of (attempts_data attempts.now))) }
 {
     out.begin_list(name)?;
@@ -75,7 +81,7 @@ fn write_attempts(out: &mut LineWriter, name: &str, attempts: &[Attempt]) -> Res
     out.end_list()
 }
 
-fn write_launches(out: &mut LineWriter, name: &str, launches: &[Launch]) -> Result<(), AllocError>
+fn write_launches(out: &mut ObjectWriter, name: &str, launches: &[Launch]) -> Result<(), AllocError>
     ensures { OnOk result (out.new ≡ added out.old (key name.now ∷ tokens_of (launches_data launches.now))) }
 {
     out.begin_list(name)?;
@@ -86,7 +92,7 @@ fn write_launches(out: &mut LineWriter, name: &str, launches: &[Launch]) -> Resu
 }
 
 #[tactic(auto, unfolding(farm_lines::specs::Reply::attempt_data))]
-fn write_attempt(out: &mut LineWriter, attempt: Attempt) -> Result<(), AllocError>
+fn write_attempt(out: &mut ObjectWriter, attempt: Attempt) -> Result<(), AllocError>
     ensures { OnOk result (out.new ≡ added out.old (tokens_of (attempt_data attempt))) }
 {
     out.begin_object()?;
@@ -96,7 +102,7 @@ fn write_attempt(out: &mut LineWriter, attempt: Attempt) -> Result<(), AllocErro
 }
 
 #[tactic(auto, unfolding(farm_lines::specs::Reply::launch_data))]
-fn write_launch(out: &mut LineWriter, launch: &Launch) -> Result<(), AllocError>
+fn write_launch(out: &mut ObjectWriter, launch: &Launch) -> Result<(), AllocError>
     ensures { OnOk result (out.new ≡ added out.old (tokens_of (launch_data launch.now))) }
 {
     out.begin_object()?;
@@ -109,15 +115,4 @@ fn write_launch(out: &mut LineWriter, launch: &Launch) -> Result<(), AllocError>
     out.slot("slot", launch.attempt.slot)?;
     out.version("version", launch.attempt.version)?;
     out.end_object()
-}
-
-// The word of a reply for what ended its round.
-fn cut_text(cut: Cut) -> &'static str
-    ensures { result.now ≡ cut_text cut }
-{
-    match cut {
-        Cut::Whole => "",
-        Cut::Store => "store",
-        Cut::Memory => "memory",
-    }
 }

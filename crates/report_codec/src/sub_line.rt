@@ -8,14 +8,14 @@ ghost use Rattle.farm_lines.specs.Reply.{sub_data};
 ghost use Rattle.farm_lines.specs.Request.{judged, sub_form_at, sub_line_at, sub_line_of};
 ghost use Rattle.job_spec.specs.SpecResults.{GivesSpec};
 ghost use Rattle.report_codec.specs.Reads.{IsRequest};
-ghost use Rattle.line_writer.specs.Tokens.{added, tokens_of};
+ghost use Rattle.object_writer.specs.Tokens.{added, tokens_of};
 
 use crate::read_fields::{read_number, read_text};
 use cue_json::{FieldFault, Map};
 use farm_lines::{Request, RequestFault, SubForm, read_name};
 use farm_types::{Cores, MOST_BURST, SubLine};
 use job_spec::{SpecFault, within};
-use line_writer::LineWriter;
+use object_writer::ObjectWriter;
 use std::alloc::{AllocError, Global};
 
 /// The subscription that the object sets, or its first fault. All forms come before the amounts.
@@ -75,7 +75,7 @@ fn judge(alloc: Global, form: SubForm) -> Result<SubLine, SpecFault>
 /// The reply to it: the subscription's amounts, in hundredths of a core.
 #[tactic(auto, unfolding(farm_lines::specs::Reply::sub_data))]
 pub fn write_sub(
-    out: &mut LineWriter,
+    out: &mut ObjectWriter,
     booked: Cores,
     burst: Cores,
     size: Cores,

@@ -6,12 +6,12 @@ ghost use Rattle.farm_lines.specs.declared.request.Request.TheVariants as reques
 ghost use Rattle.farm_lines.specs.Reply.{submit_data};
 ghost use Rattle.farm_lines.specs.Request.{judged, submit_at};
 ghost use Rattle.report_codec.specs.Reads.{IsRequest};
-ghost use Rattle.line_writer.specs.Tokens.{added, tokens_of};
+ghost use Rattle.object_writer.specs.Tokens.{added, tokens_of};
 
 use cue_json::Map;
 use farm_lines::{Request, RequestFault};
 use job_spec::{SpecFault, read_spec};
-use line_writer::LineWriter;
+use object_writer::ObjectWriter;
 use std::alloc::{AllocError, Global};
 
 /// The job that the object asks to be submitted, or its first fault. Each fault of a form, that of a key beside `job` too, comes before those of
@@ -33,7 +33,7 @@ pub fn read_submit(alloc: Global, object: &Map) -> Result<Request, RequestFault>
 
 /// The reply to a submit: how many frames the job has, and its name.
 #[tactic(auto, unfolding(farm_lines::specs::Reply::submit_data))]
-pub fn write_submitted(out: &mut LineWriter, frames: u32, job: &str) -> Result<(), AllocError>
+pub fn write_submitted(out: &mut ObjectWriter, frames: u32, job: &str) -> Result<(), AllocError>
     ensures { OnOk result (out.new ≡ added out.old (tokens_of (submit_data frames job.now))) }
 {
     out.begin_object()?;

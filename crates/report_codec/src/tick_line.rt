@@ -6,11 +6,11 @@ ghost use Rattle.cue_json.specs.Fields.{others_at};
 ghost use Rattle.farm_lines.specs.Reply.{tick_data};
 ghost use Rattle.farm_lines.specs.Request.{asked, asks_tick, tick_keys};
 ghost use Rattle.report_codec.specs.Reads.{IsRequest};
-ghost use Rattle.line_writer.specs.Tokens.{added, tokens_of};
+ghost use Rattle.object_writer.specs.Tokens.{added, tokens_of};
 
 use cue_json::Map;
 use farm_lines::{Request, RequestFault};
-use line_writer::LineWriter;
+use object_writer::ObjectWriter;
 use std::alloc::{AllocError, Global};
 
 /// A tick, which has no field but `op`, or its first fault.
@@ -23,7 +23,7 @@ pub fn read_tick(alloc: Global, object: &Map) -> Result<Request, RequestFault>
 
 /// The reply to a tick: how many hosts went down, and how many attempts were lost.
 #[tactic(auto, unfolding(farm_lines::specs::Reply::tick_data))]
-pub fn write_tick(out: &mut LineWriter, down: u32, lost: u32) -> Result<(), AllocError>
+pub fn write_tick(out: &mut ObjectWriter, down: u32, lost: u32) -> Result<(), AllocError>
     ensures { OnOk result (out.new ≡ added out.old (tokens_of (tick_data down lost))) }
 {
     out.begin_object()?;

@@ -2,7 +2,7 @@
 
 ghost use Rattle.std.specs.Prelude.{◌≡◌, IfOk, OnOk};
 ghost use Rattle.farm_lines.specs.Reply.{done_data, reply_data, reply_text};
-ghost use Rattle.line_writer.specs.Tokens.{added, tokens_of};
+ghost use Rattle.object_writer.specs.Tokens.{added, tokens_of};
 
 use crate::boot_line::write_boot;
 use crate::depend_line::write_depend;
@@ -20,21 +20,21 @@ use crate::submit_line::write_submitted;
 use crate::tick_line::write_tick;
 use farm_lines::Reply;
 use farm_types::Text;
-use line_writer::LineWriter;
+use object_writer::ObjectWriter;
 use std::alloc::{AllocError, Global};
 
 /// The reply as compact JSON, its keys in byte order, without a newline.
-#[tactic(auto, using(line_writer::proofs::Printed::data_printed))]
+#[tactic(auto, using(object_writer::proofs::Printed::data_printed))]
 pub fn write_reply(alloc: Global, reply: &Reply) -> Result<Text, AllocError>
     ensures { IfOk result (λ text. text ≡ reply_text reply.now) }
 {
-    let mut out = LineWriter::new(alloc)?;
+    let mut out = ObjectWriter::new(alloc)?;
     write_object(&mut out, reply)?;
     Ok(out.into_text())
 }
 
 // The reply as an object, its keys in byte order. Amounts of cores are in hundredths of a core.
-fn write_object(out: &mut LineWriter, reply: &Reply) -> Result<(), AllocError>
+fn write_object(out: &mut ObjectWriter, reply: &Reply) -> Result<(), AllocError>
     ensures { OnOk result (out.new ≡ added out.old (tokens_of (reply_data reply.now))) }
 {
     match reply {
@@ -66,7 +66,7 @@ fn write_object(out: &mut LineWriter, reply: &Reply) -> Result<(), AllocError>
 
 // Done, with nothing to tell.
 #[tactic(auto, unfolding(farm_lines::specs::Reply::done_data))]
-fn write_done(out: &mut LineWriter) -> Result<(), AllocError>
+fn write_done(out: &mut ObjectWriter) -> Result<(), AllocError>
     ensures { OnOk result (out.new ≡ added out.old (tokens_of done_data)) }
 {
     out.begin_object()?;

@@ -6,13 +6,13 @@ use Rattle.std.specs.Cmp.Lexicographic.{slice_cmp}
 use Rattle.serde_json.specs.Data.{Data, boolean, string, Members, no_members, member}
 use Rattle.serde_json.specs.Find.{get_member}
 use Rattle.cue_json.specs.Fields.{◌>>=◌}
-use Rattle.farm_types.specs.declared.depend.DependKind.{DependKind}
-use Rattle.farm_types.specs.declared.depend.DependKind.TheVariants as depend_kind
 use Rattle.farm_types.specs.declared.depend.DependRow.{DependRow}
 use Rattle.farm_types.specs.Formed.{names_layer, names_frame, names_target_layer, names_target_frame}
-use Rattle.row_codec.specs.RowFields.{depend_fields, field_if, kind_word, signed, whole}
+use Rattle.farm_words.specs.Words.{kind_of, kind_word}
+use Rattle.farm_words.proofs.WordsBack.{kind_back}
+use Rattle.row_codec.specs.RowFields.{depend_fields, field_if, signed, whole}
 use Rattle.row_codec.specs.RowLaws.{DependFits, EndFits, FrameNamed}
-use Rattle.row_codec.specs.RowReading.{depend_at, frame_if, kind_of, layer_if, target_at, waiter_at}
+use Rattle.row_codec.specs.RowReading.{depend_at, frame_if, layer_if, target_at, waiter_at}
 use Rattle.row_codec.proofs.FieldsRead.{flag_read, i32_read, text_read, u32_read, word_read}
 
 -- ---- fields that may be left out
@@ -48,19 +48,6 @@ frame_back true field ms None h e fits = absurd (cc)
 frame_back true field ms (Some number) h e fits = ap (λ r. r >>= λ number. Ok (Some number)) (i32_read field ms number e fits)
 frame_back false field ms None h e fits = refl
 frame_back false field ms (Some number) h e fits = absurd (cc)
-
-kind_back : (kind : DependKind) → kind_of (kind_word kind) ≡ Some kind
-kind_back depend_kind.JobOnJob = refl
-kind_back depend_kind.JobOnLayer = refl
-kind_back depend_kind.JobOnFrame = refl
-kind_back depend_kind.LayerOnJob = refl
-kind_back depend_kind.LayerOnLayer = refl
-kind_back depend_kind.LayerOnFrame = refl
-kind_back depend_kind.FrameOnJob = refl
-kind_back depend_kind.FrameOnLayer = refl
-kind_back depend_kind.FrameOnFrame = refl
-kind_back depend_kind.FrameByFrame = refl
-kind_back depend_kind.PreviousFrame = refl
 
 -- ---- what stands at each key
 

@@ -5,26 +5,20 @@ use Rattle.std.specs.List.{AllByRecursion}
 use Rattle.std.proofs.lemmas.Bool.{and_parts}
 use Rattle.std.proofs.lemmas.Str.{IsUtf8-from_is_utf8}
 use Rattle.json.proofs.Printed.Utf8.{IsUtf8-are_ascii}
-use Rattle.serde_json.specs.Data.{Data, string, Members, no_members, member}
+use Rattle.serde_json.specs.Data.{Data, string, Members, no_members, member, boolean}
 use Rattle.serde_json.specs.View.{items_of}
-use Rattle.farm_types.specs.declared.depend.DependKind.{DependKind}
-use Rattle.farm_types.specs.declared.depend.DependKind.TheVariants as depend_kind
 use Rattle.farm_types.specs.declared.depend.DependRow.{DependRow}
 use Rattle.farm_types.specs.declared.rows.HostRow.{HostRow}
 use Rattle.farm_types.specs.declared.rows.JobRow.{JobRow}
 use Rattle.farm_types.specs.declared.rows.LayerRow.{LayerRow}
-use Rattle.farm_types.specs.declared.states.HostState.{HostState}
-use Rattle.farm_types.specs.declared.states.HostState.TheVariants as host_state
-use Rattle.farm_types.specs.declared.states.JobState.{JobState}
-use Rattle.farm_types.specs.declared.states.JobState.TheVariants as job_state
-use Rattle.farm_types.specs.declared.states.LockState.{LockState}
-use Rattle.farm_types.specs.declared.states.LockState.TheVariants as lock_state
 use Rattle.farm_rows.specs.declared.farm_row.FarmRow.{FarmRow}
 use Rattle.farm_rows.specs.declared.farm_row.FarmRow.TheVariants as row
 use Rattle.farm_rows.specs.declared.frame_row.StoredFrame.{StoredFrame}
 use Rattle.farm_rows.specs.declared.frame_row.StoredState.{StoredState}
 use Rattle.farm_rows.specs.declared.frame_row.StoredState.TheVariants as stored
-use Rattle.row_codec.specs.RowFields.{alloc_fields, depend_fields, field_if, fields_in_state, frame_word, free_fields, head_fields, host_fields, host_word, job_fields, job_word, kind_word, layer_fields, lock_word, met_fields, resting_fields, row_fields, running_fields, show_fields, signed, slot_fields, sub_fields}
+use Rattle.farm_words.specs.Words.{kind_word}
+use Rattle.farm_words.proofs.WordsBack.{host_utf8, job_utf8, kind_utf8, lock_utf8}
+use Rattle.row_codec.specs.RowFields.{alloc_fields, depend_fields, field_if, fields_in_state, frame_word, free_fields, head_fields, host_fields, job_fields, layer_fields, met_fields, resting_fields, row_fields, running_fields, show_fields, signed, slot_fields, sub_fields, whole}
 use Rattle.row_codec.specs.RowLaws.{DependFits, Fits, FrameNamed, HostFits, IsSigned, IsText, JobFits, LayerFits, LayerNamed, SlotFits, StateFits, StoredFits}
 use Rattle.row_codec.proofs.Objects.{are_keys, FieldsFit, ItemsFit, ValueFits}
 
@@ -41,19 +35,6 @@ signed_fits : (z : ℤ) → IsSigned z → ValueFits (signed z)
 signed_fits (pos n) h = let most : n ≤ 2147483647 = leb-true n 2147483647 h in omega (arith, most)
 signed_fits (negsuc n) h = let p = and_parts _ _ h in let most : n ≤ 2147483647 = leb-true n 2147483647 p.0 in omega (arith, most)
 
-lock_utf8 : (l : LockState) → IsUtf8 (lock_word l)
-lock_utf8 lock_state.Unlocked = IsUtf8-are_ascii (codes "OPEN") refl
-lock_utf8 lock_state.Locked = IsUtf8-are_ascii (codes "LOCKED") refl
-lock_utf8 lock_state.NimbyLocked = IsUtf8-are_ascii (codes "NIMBY_LOCKED") refl
-
-host_utf8 : (s : HostState) → IsUtf8 (host_word s)
-host_utf8 host_state.Up = IsUtf8-are_ascii (codes "UP") refl
-host_utf8 host_state.Down = IsUtf8-are_ascii (codes "DOWN") refl
-
-job_utf8 : (s : JobState) → IsUtf8 (job_word s)
-job_utf8 job_state.Pending = IsUtf8-are_ascii (codes "PENDING") refl
-job_utf8 job_state.Finished = IsUtf8-are_ascii (codes "FINISHED") refl
-
 frame_utf8 : (s : StoredState) → IsUtf8 (frame_word s)
 frame_utf8 stored.Waiting = IsUtf8-are_ascii (codes "WAITING") refl
 frame_utf8 stored.Setup = IsUtf8-are_ascii (codes "SETUP") refl
@@ -62,19 +43,6 @@ frame_utf8 stored.Succeeded = IsUtf8-are_ascii (codes "SUCCEEDED") refl
 frame_utf8 stored.Depend = IsUtf8-are_ascii (codes "DEPEND") refl
 frame_utf8 stored.Dead = IsUtf8-are_ascii (codes "DEAD") refl
 frame_utf8 stored.Eaten = IsUtf8-are_ascii (codes "EATEN") refl
-
-kind_utf8 : (kind : DependKind) → IsUtf8 (kind_word kind)
-kind_utf8 depend_kind.JobOnJob = IsUtf8-are_ascii (codes "JOB_ON_JOB") refl
-kind_utf8 depend_kind.JobOnLayer = IsUtf8-are_ascii (codes "JOB_ON_LAYER") refl
-kind_utf8 depend_kind.JobOnFrame = IsUtf8-are_ascii (codes "JOB_ON_FRAME") refl
-kind_utf8 depend_kind.LayerOnJob = IsUtf8-are_ascii (codes "LAYER_ON_JOB") refl
-kind_utf8 depend_kind.LayerOnLayer = IsUtf8-are_ascii (codes "LAYER_ON_LAYER") refl
-kind_utf8 depend_kind.LayerOnFrame = IsUtf8-are_ascii (codes "LAYER_ON_FRAME") refl
-kind_utf8 depend_kind.FrameOnJob = IsUtf8-are_ascii (codes "FRAME_ON_JOB") refl
-kind_utf8 depend_kind.FrameOnLayer = IsUtf8-are_ascii (codes "FRAME_ON_LAYER") refl
-kind_utf8 depend_kind.FrameOnFrame = IsUtf8-are_ascii (codes "FRAME_ON_FRAME") refl
-kind_utf8 depend_kind.FrameByFrame = IsUtf8-are_ascii (codes "FRAME_BY_FRAME") refl
-kind_utf8 depend_kind.PreviousFrame = IsUtf8-are_ascii (codes "PREVIOUS_FRAME") refl
 
 -- ---- fields
 
@@ -155,7 +123,7 @@ fields_fit (row.Met r) h = (tt, tt)
 
 -- ---- keys
 
-state_keys : (version : ℕ) (x : StoredFrame) (s : StoredState) → are_keys no_members (fields_in_state version x s) ≡ true
+state_keys : (version : ℕ) (x : StoredFrame) (s : StoredState) → are_keys [] (fields_in_state version x s) ≡ true
 unfolding resting_fields running_fields
 state_keys version x (stored.Running boot host since) = refl
 state_keys version x stored.Waiting = refl
@@ -165,14 +133,14 @@ state_keys version x stored.Depend = refl
 state_keys version x stored.Dead = refl
 state_keys version x stored.Eaten = refl
 
-slot_keys : (version : ℕ) (frame : Option StoredFrame) → are_keys no_members (slot_fields version frame) ≡ true
+slot_keys : (version : ℕ) (frame : Option StoredFrame) → are_keys [] (slot_fields version frame) ≡ true
 unfolding free_fields
 slot_keys version None = refl
 slot_keys version (Some x) = state_keys version x x.state
 
 -- whichever of the fields are there that may be left out
 depend_keys : (any job kind met_all on_job : Data) (frame layer on_frame on_layer : Option Data)
-    → are_keys no_members (member (codes "any") any (field_if (codes "frame") frame (member (codes "job") job (member (codes "kind") kind (field_if (codes "layer") layer
+    → are_keys [] (member (codes "any") any (field_if (codes "frame") frame (member (codes "job") job (member (codes "kind") kind (field_if (codes "layer") layer
     (member (codes "met_all") met_all (field_if (codes "on_frame") on_frame (member (codes "on_job") on_job (field_if (codes "on_layer") on_layer no_members))))))))) ≡ true
 depend_keys any job kind met_all on_job None None None None = refl
 depend_keys any job kind met_all on_job None None None (Some m) = refl
@@ -191,7 +159,7 @@ depend_keys any job kind met_all on_job (Some f) (Some l) None (Some m) = refl
 depend_keys any job kind met_all on_job (Some f) (Some l) (Some g) None = refl
 depend_keys any job kind met_all on_job (Some f) (Some l) (Some g) (Some m) = refl
 
-pub keys_rise : (r : FarmRow) → are_keys no_members (row_fields r) ≡ true
+pub keys_rise : (r : FarmRow) → are_keys [] (row_fields r) ≡ true
 unfolding head_fields show_fields alloc_fields sub_fields host_fields job_fields layer_fields depend_fields met_fields
 keys_rise (row.Head r) = refl
 keys_rise (row.Show show r) = refl
@@ -201,5 +169,5 @@ keys_rise (row.Host host r) = refl
 keys_rise (row.Job r) = refl
 keys_rise (row.Layer r) = refl
 keys_rise (row.Frame r) = slot_keys r.version r.frame
-keys_rise (row.Depend r) = depend_keys _ _ _ _ _ (option_map signed r.waiter.frame) (option_map string r.waiter.layer) (option_map signed r.target.frame) (option_map string r.target.layer)
+keys_rise (row.Depend r) = depend_keys (boolean r.any) (whole r.waiter.job) (string (kind_word r.kind)) (boolean r.met_all) (whole r.target.job) (option_map signed r.waiter.frame) (option_map string r.waiter.layer) (option_map signed r.target.frame) (option_map string r.target.layer)
 keys_rise (row.Met r) = refl

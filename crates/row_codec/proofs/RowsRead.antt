@@ -1,5 +1,5 @@
 -- Each row's fields are read as that row.
-use Rattle.std.proofs.Common.{◌≡◌, Some, Ok, refl}
+use Rattle.std.proofs.Common.{◌≡◌, Ok, refl}
 use Rattle.std.specs.Prelude.{codes}
 use Rattle.farm_types.specs.declared.rows.AllocRow.{AllocRow}
 use Rattle.farm_types.specs.declared.rows.HostRow.{HostRow}
@@ -7,34 +7,13 @@ use Rattle.farm_types.specs.declared.rows.JobRow.{JobRow}
 use Rattle.farm_types.specs.declared.rows.LayerRow.{LayerRow}
 use Rattle.farm_types.specs.declared.rows.ShowRow.{ShowRow}
 use Rattle.farm_types.specs.declared.rows.SubRow.{SubRow}
-use Rattle.farm_types.specs.declared.states.HostState.{HostState}
-use Rattle.farm_types.specs.declared.states.HostState.TheVariants as host_state
-use Rattle.farm_types.specs.declared.states.JobState.{JobState}
-use Rattle.farm_types.specs.declared.states.JobState.TheVariants as job_state
-use Rattle.farm_types.specs.declared.states.LockState.{LockState}
-use Rattle.farm_types.specs.declared.states.LockState.TheVariants as lock_state
 use Rattle.farm_rows.specs.declared.head_row.HeadRow.{HeadRow}
-use Rattle.row_codec.specs.RowFields.{alloc_fields, head_fields, host_fields, host_word, job_fields, job_word, layer_fields, lock_word, show_fields, sub_fields}
+use Rattle.farm_words.specs.Words.{host_state_of, host_word, job_state_of, job_word, lock_of, lock_word}
+use Rattle.farm_words.proofs.WordsBack.{host_back, job_back, lock_back}
+use Rattle.row_codec.specs.RowFields.{alloc_fields, head_fields, host_fields, job_fields, layer_fields, show_fields, sub_fields}
 use Rattle.row_codec.specs.RowLaws.{HeadFits, HostFits, JobFits, LayerFits, SubFits}
-use Rattle.row_codec.specs.RowReading.{alloc_at, head_at, host_at, host_state_of, job_at, job_state_of, layer_at, lock_of, show_at, sub_at}
+use Rattle.row_codec.specs.RowReading.{alloc_at, head_at, host_at, job_at, layer_at, show_at, sub_at}
 use Rattle.row_codec.proofs.FieldsRead.{texts_read, u16_read, u32_read, u64_read, word_read}
-
--- ---- words
-
-lock_back : (l : LockState) → lock_of (lock_word l) ≡ Some l
-lock_back lock_state.Unlocked = refl
-lock_back lock_state.Locked = refl
-lock_back lock_state.NimbyLocked = refl
-
-host_back : (s : HostState) → host_state_of (host_word s) ≡ Some s
-host_back host_state.Up = refl
-host_back host_state.Down = refl
-
-job_back : (s : JobState) → job_state_of (job_word s) ≡ Some s
-job_back job_state.Pending = refl
-job_back job_state.Finished = refl
-
--- ---- rows
 
 pub head_read : (r : HeadRow) → HeadFits r → head_at (head_fields r) ≡ Ok r
 unfolding head_at head_fields

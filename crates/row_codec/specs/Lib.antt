@@ -3,4 +3,3 @@ pub mod RowExamples
 pub mod RowFields
 pub mod RowLaws
 pub mod RowReading
-pub mod Tokens

@@ -4,8 +4,6 @@ use Rattle.serde_json.specs.Data.{Data, boolean, number, unsigned, string, array
 use Rattle.serde_json.specs.Find.{of_integer}
 use Rattle.serde_json.specs.View.{items_of}
 use Rattle.serde_json.specs.Written.{compact_text}
-use Rattle.farm_types.specs.declared.depend.DependKind.{DependKind}
-use Rattle.farm_types.specs.declared.depend.DependKind.TheVariants as depend_kind
 use Rattle.farm_types.specs.declared.depend.DependRow.{DependRow}
 use Rattle.farm_types.specs.declared.rows.AllocRow.{AllocRow}
 use Rattle.farm_types.specs.declared.rows.HostRow.{HostRow}
@@ -13,12 +11,7 @@ use Rattle.farm_types.specs.declared.rows.JobRow.{JobRow}
 use Rattle.farm_types.specs.declared.rows.LayerRow.{LayerRow}
 use Rattle.farm_types.specs.declared.rows.ShowRow.{ShowRow}
 use Rattle.farm_types.specs.declared.rows.SubRow.{SubRow}
-use Rattle.farm_types.specs.declared.states.HostState.{HostState}
-use Rattle.farm_types.specs.declared.states.HostState.TheVariants as host_state
-use Rattle.farm_types.specs.declared.states.JobState.{JobState}
-use Rattle.farm_types.specs.declared.states.JobState.TheVariants as job_state
-use Rattle.farm_types.specs.declared.states.LockState.{LockState}
-use Rattle.farm_types.specs.declared.states.LockState.TheVariants as lock_state
+use Rattle.farm_words.specs.Words.{host_word, job_word, kind_word, lock_word}
 use Rattle.farm_rows.specs.declared.farm_row.FarmRow.{FarmRow}
 use Rattle.farm_rows.specs.declared.farm_row.FarmRow.TheVariants as row
 use Rattle.farm_rows.specs.declared.frame_row.FrameRow.{FrameRow}
@@ -41,19 +34,6 @@ texts ts = array (items_of (map string ts))
 
 -- ---- words
 
-abbrev pub lock_word : LockState → List ℕ
-lock_word lock_state.Unlocked = codes "OPEN"
-lock_word lock_state.Locked = codes "LOCKED"
-lock_word lock_state.NimbyLocked = codes "NIMBY_LOCKED"
-
-abbrev pub host_word : HostState → List ℕ
-host_word host_state.Up = codes "UP"
-host_word host_state.Down = codes "DOWN"
-
-abbrev pub job_word : JobState → List ℕ
-job_word job_state.Pending = codes "PENDING"
-job_word job_state.Finished = codes "FINISHED"
-
 abbrev pub frame_word : StoredState → List ℕ
 frame_word stored.Waiting = codes "WAITING"
 frame_word stored.Setup = codes "SETUP"
@@ -62,19 +42,6 @@ frame_word stored.Succeeded = codes "SUCCEEDED"
 frame_word stored.Depend = codes "DEPEND"
 frame_word stored.Dead = codes "DEAD"
 frame_word stored.Eaten = codes "EATEN"
-
-abbrev pub kind_word : DependKind → List ℕ
-kind_word depend_kind.JobOnJob = codes "JOB_ON_JOB"
-kind_word depend_kind.JobOnLayer = codes "JOB_ON_LAYER"
-kind_word depend_kind.JobOnFrame = codes "JOB_ON_FRAME"
-kind_word depend_kind.LayerOnJob = codes "LAYER_ON_JOB"
-kind_word depend_kind.LayerOnLayer = codes "LAYER_ON_LAYER"
-kind_word depend_kind.LayerOnFrame = codes "LAYER_ON_FRAME"
-kind_word depend_kind.FrameOnJob = codes "FRAME_ON_JOB"
-kind_word depend_kind.FrameOnLayer = codes "FRAME_ON_LAYER"
-kind_word depend_kind.FrameOnFrame = codes "FRAME_ON_FRAME"
-kind_word depend_kind.FrameByFrame = codes "FRAME_BY_FRAME"
-kind_word depend_kind.PreviousFrame = codes "PREVIOUS_FRAME"
 
 -- ---- fields
 

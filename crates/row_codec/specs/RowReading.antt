@@ -6,7 +6,6 @@ use Rattle.cue_json.specs.Fields.{Fault, ◌>>=◌, of_kind, text_at, whole_at, 
 use Rattle.cue_json.specs.Lines.{object_in}
 use Rattle.farm_types.specs.declared.depend.DependEnd.{DependEnd}
 use Rattle.farm_types.specs.declared.depend.DependKind.{DependKind}
-use Rattle.farm_types.specs.declared.depend.DependKind.TheVariants.{JobOnJob, JobOnLayer, JobOnFrame, LayerOnJob, LayerOnLayer, LayerOnFrame, FrameOnJob, FrameOnLayer, FrameOnFrame, FrameByFrame, PreviousFrame}
 use Rattle.farm_types.specs.declared.depend.DependRow.{DependRow}
 use Rattle.farm_types.specs.declared.rows.AllocRow.{AllocRow}
 use Rattle.farm_types.specs.declared.rows.HostRow.{HostRow}
@@ -14,13 +13,8 @@ use Rattle.farm_types.specs.declared.rows.JobRow.{JobRow}
 use Rattle.farm_types.specs.declared.rows.LayerRow.{LayerRow}
 use Rattle.farm_types.specs.declared.rows.ShowRow.{ShowRow}
 use Rattle.farm_types.specs.declared.rows.SubRow.{SubRow}
-use Rattle.farm_types.specs.declared.states.HostState.{HostState}
-use Rattle.farm_types.specs.declared.states.HostState.TheVariants.{Up, Down}
-use Rattle.farm_types.specs.declared.states.JobState.{JobState}
-use Rattle.farm_types.specs.declared.states.JobState.TheVariants.{Pending, Finished}
-use Rattle.farm_types.specs.declared.states.LockState.{LockState}
-use Rattle.farm_types.specs.declared.states.LockState.TheVariants.{Unlocked, Locked, NimbyLocked}
 use Rattle.farm_types.specs.Formed.{names_layer, names_frame, names_target_layer, names_target_frame}
+use Rattle.farm_words.specs.Words.{host_state_of, job_state_of, kind_of, lock_of, word_at}
 use Rattle.farm_rows.specs.declared.farm_row.FarmRow.{FarmRow}
 use Rattle.farm_rows.specs.declared.farm_row.FarmRow.TheVariants as row
 use Rattle.farm_rows.specs.declared.frame_row.FrameRow.{FrameRow}
@@ -57,25 +51,6 @@ texts_at field ms = list_at field ms >>= texts_in field
 
 -- ---- words
 
-abbrev pub lock_of : List ℕ → Option LockState
-lock_of word =
-    if bytes_eq word (codes "OPEN") then Some Unlocked
-    else (if bytes_eq word (codes "LOCKED") then Some Locked
-    else (if bytes_eq word (codes "NIMBY_LOCKED") then Some NimbyLocked
-    else None))
-
-abbrev pub host_state_of : List ℕ → Option HostState
-host_state_of word =
-    if bytes_eq word (codes "UP") then Some Up
-    else (if bytes_eq word (codes "DOWN") then Some Down
-    else None)
-
-abbrev pub job_state_of : List ℕ → Option JobState
-job_state_of word =
-    if bytes_eq word (codes "PENDING") then Some Pending
-    else (if bytes_eq word (codes "FINISHED") then Some Finished
-    else None)
-
 -- the state of a frame without an attempt
 abbrev pub resting_of : List ℕ → Option StoredState
 resting_of word =
@@ -86,25 +61,6 @@ resting_of word =
     else (if bytes_eq word (codes "DEAD") then Some stored.Dead
     else (if bytes_eq word (codes "EATEN") then Some stored.Eaten
     else None)))))
-
-abbrev pub kind_of : List ℕ → Option DependKind
-kind_of word =
-    if bytes_eq word (codes "JOB_ON_JOB") then Some JobOnJob
-    else (if bytes_eq word (codes "JOB_ON_LAYER") then Some JobOnLayer
-    else (if bytes_eq word (codes "JOB_ON_FRAME") then Some JobOnFrame
-    else (if bytes_eq word (codes "LAYER_ON_JOB") then Some LayerOnJob
-    else (if bytes_eq word (codes "LAYER_ON_LAYER") then Some LayerOnLayer
-    else (if bytes_eq word (codes "LAYER_ON_FRAME") then Some LayerOnFrame
-    else (if bytes_eq word (codes "FRAME_ON_JOB") then Some FrameOnJob
-    else (if bytes_eq word (codes "FRAME_ON_LAYER") then Some FrameOnLayer
-    else (if bytes_eq word (codes "FRAME_ON_FRAME") then Some FrameOnFrame
-    else (if bytes_eq word (codes "FRAME_BY_FRAME") then Some FrameByFrame
-    else (if bytes_eq word (codes "PREVIOUS_FRAME") then Some PreviousFrame
-    else None))))))))))
-
--- what the word of a field stands for
-abbrev pub word_at : {X : Type 0} → (List ℕ → Option X) → List ℕ → Members → Result X Fault
-word_at of_word field ms = text_at field ms >>= λ word. of_kind field (of_word word)
 
 -- ---- rows, by what their fields say; keys beside these are found out by the spelling
 

@@ -2,7 +2,7 @@
 
 ghost use Rattle.std.specs.Prelude.{◌≡◌, IfOk, OnOk};
 ghost use Rattle.row_codec.specs.RowFields.{row_fields, row_text};
-ghost use Rattle.row_codec.specs.Tokens.{added, object_tokens};
+ghost use Rattle.object_writer.specs.Tokens.{added, object_tokens};
 
 use crate::depend_fields::{write_depend, write_met};
 use crate::farm_fields::{write_alloc, write_head, write_show, write_sub};
@@ -10,9 +10,9 @@ use crate::frame_fields::write_frame;
 use crate::host_fields::write_host;
 use crate::job_fields::write_job;
 use crate::layer_fields::write_layer;
-use crate::row_writer::RowWriter;
 use farm_rows::FarmRow;
 use farm_types::Items;
+use object_writer::ObjectWriter;
 use std::alloc::{AllocError, Global};
 
 /// The row as compact JSON, its keys in byte order.
@@ -20,13 +20,13 @@ use std::alloc::{AllocError, Global};
 pub fn encode(alloc: Global, row: &FarmRow) -> Result<Items<u8>, AllocError>
     ensures { IfOk result (λ bytes. bytes ≡ row_text row.now) }
 {
-    let mut out = RowWriter::new(alloc)?;
+    let mut out = ObjectWriter::new(alloc)?;
     write_row(&mut out, row)?;
     Ok(out.into_bytes())
 }
 
 // The row as an object. Amounts of cores are in hundredths of a core.
-fn write_row(out: &mut RowWriter, row: &FarmRow) -> Result<(), AllocError>
+fn write_row(out: &mut ObjectWriter, row: &FarmRow) -> Result<(), AllocError>
     ensures { OnOk result (out.new ≡ added out.old (object_tokens (row_fields row.now))) }
 {
     match row {

@@ -5,18 +5,18 @@ ghost use Rattle.serde_json.specs.View.{members_view};
 ghost use Rattle.cue_json.specs.Fields.{Gives};
 ghost use Rattle.row_codec.specs.RowFields.{alloc_fields, head_fields, show_fields, sub_fields};
 ghost use Rattle.row_codec.specs.RowReading.{alloc_at, head_at, show_at, sub_at};
-ghost use Rattle.row_codec.specs.Tokens.{added, object_tokens};
+ghost use Rattle.object_writer.specs.Tokens.{added, object_tokens};
 
 use crate::read_fields::{read_text, read_u32, read_u64};
-use crate::row_writer::RowWriter;
 use cue_json::{FieldFault, Map};
 use farm_rows::HeadRow;
 use farm_types::{AllocRow, Cores, ShowRow, SubNo, SubRow};
+use object_writer::ObjectWriter;
 use std::alloc::{AllocError, Global};
 
 /// The farm's own row, as an object.
 #[tactic(auto, unfolding(crate::specs::RowFields::head_fields))]
-pub fn write_head(out: &mut RowWriter, row: &HeadRow) -> Result<(), AllocError>
+pub fn write_head(out: &mut ObjectWriter, row: &HeadRow) -> Result<(), AllocError>
     ensures { OnOk result (out.new ≡ added out.old (object_tokens (head_fields row.now))) }
 {
     out.begin_object()?;
@@ -49,11 +49,11 @@ pub fn read_head(alloc: Global, object: &Map) -> Result<HeadRow, FieldFault>
 
 /// A show, as an object.
 #[tactic(auto, unfolding(crate::specs::RowFields::show_fields))]
-pub fn write_show(out: &mut RowWriter, row: &ShowRow) -> Result<(), AllocError>
+pub fn write_show(out: &mut ObjectWriter, row: &ShowRow) -> Result<(), AllocError>
     ensures { OnOk result (out.new ≡ added out.old (object_tokens (show_fields row.now))) }
 {
     out.begin_object()?;
-    out.text("name", &row.name)?;
+    out.text("name", row.name.as_str())?;
     out.end_object()
 }
 
@@ -68,12 +68,12 @@ pub fn read_show(alloc: Global, object: &Map) -> Result<ShowRow, FieldFault>
 
 /// An allocation, as an object.
 #[tactic(auto, unfolding(crate::specs::RowFields::alloc_fields))]
-pub fn write_alloc(out: &mut RowWriter, row: &AllocRow) -> Result<(), AllocError>
+pub fn write_alloc(out: &mut ObjectWriter, row: &AllocRow) -> Result<(), AllocError>
     ensures { OnOk result (out.new ≡ added out.old (object_tokens (alloc_fields row.now))) }
 {
     out.begin_object()?;
-    out.text("facility", &row.facility)?;
-    out.text("tag", &row.tag)?;
+    out.text("facility", row.facility.as_str())?;
+    out.text("tag", row.tag.as_str())?;
     out.end_object()
 }
 
@@ -89,7 +89,7 @@ pub fn read_alloc(alloc: Global, object: &Map) -> Result<AllocRow, FieldFault>
 
 /// A subscription, as an object.
 #[tactic(auto, unfolding(crate::specs::RowFields::sub_fields))]
-pub fn write_sub(out: &mut RowWriter, row: &SubRow) -> Result<(), AllocError>
+pub fn write_sub(out: &mut ObjectWriter, row: &SubRow) -> Result<(), AllocError>
     ensures { OnOk result (out.new ≡ added out.old (object_tokens (sub_fields row.now))) }
 {
     out.begin_object()?;

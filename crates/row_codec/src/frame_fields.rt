@@ -3,19 +3,20 @@
 ghost use Rattle.std.specs.Prelude.{◌≡◌, codes, OnOk};
 ghost use Rattle.serde_json.specs.View.{members_view};
 ghost use Rattle.cue_json.specs.Fields.{Gives, of_kind};
-ghost use Rattle.row_codec.specs.RowFields.{fields_in_state, frame_fields, frame_word, free_fields, resting_fields, running_fields, slot_fields};
+ghost use Rattle.row_codec.specs.RowFields.{fields_in_state, frame_fields, frame_word, free_fields, resting_fields, running_fields};
 ghost use Rattle.row_codec.specs.RowReading.{frame_at, resting_of, running_at, state_at, stored_at, stored_if};
-ghost use Rattle.row_codec.specs.Tokens.{added, object_tokens};
+ghost use Rattle.object_writer.specs.Tokens.{added, object_tokens};
 
+use crate::members::write_signed;
 use crate::read_fields::{read_i32, read_u16, read_u32, read_u64};
-use crate::row_writer::RowWriter;
 use cue_json::{FieldFault, Map};
 use farm_rows::{FrameRow, StoredFrame, StoredState};
 use farm_types::{HostNo, JobNo, Slot, Version};
+use object_writer::ObjectWriter;
 use std::alloc::{AllocError, Global};
 
 /// A slot, as an object.
-pub fn write_frame(out: &mut RowWriter, row: &FrameRow) -> Result<(), AllocError>
+pub fn write_frame(out: &mut ObjectWriter, row: &FrameRow) -> Result<(), AllocError>
     ensures { OnOk result (out.new ≡ added out.old (object_tokens (frame_fields row.now))) }
 {
     match &row.frame {
@@ -26,18 +27,18 @@ pub fn write_frame(out: &mut RowWriter, row: &FrameRow) -> Result<(), AllocError
 
 // A free slot.
 #[tactic(auto, unfolding(crate::specs::RowFields::free_fields))]
-fn write_free(out: &mut RowWriter, version: Version) -> Result<(), AllocError>
+fn write_free(out: &mut ObjectWriter, version: Version) -> Result<(), AllocError>
     ensures { OnOk result (out.new ≡ added out.old (object_tokens (free_fields version))) }
 {
     out.begin_object()?;
-    out.word("state", "FREE")?;
+    out.text("state", "FREE")?;
     out.version("version", version)?;
     out.end_object()
 }
 
 // A slot with a frame.
 fn write_stored(
-    out: &mut RowWriter,
+    out: &mut ObjectWriter,
     version: Version,
     frame: &StoredFrame,
 ) -> Result<(), AllocError>
@@ -54,7 +55,7 @@ fn write_stored(
 // A frame without an attempt.
 #[tactic(auto, unfolding(crate::specs::RowFields::resting_fields))]
 fn write_resting(
-    out: &mut RowWriter,
+    out: &mut ObjectWriter,
     version: Version,
     frame: &StoredFrame,
 ) -> Result<(), AllocError>
@@ -63,9 +64,9 @@ fn write_resting(
     out.begin_object()?;
     out.job("job", frame.job)?;
     out.number("layer", frame.layer)?;
-    out.signed("number", frame.number)?;
+    write_signed(out, "number", frame.number)?;
     out.number("retries", frame.retries)?;
-    out.word("state", state_word(frame.state))?;
+    out.text("state", state_word(frame.state))?;
     out.version("version", version)?;
     out.end_object()
 }
@@ -73,7 +74,7 @@ fn write_resting(
 // A running frame, with its attempt.
 #[tactic(auto, unfolding(crate::specs::RowFields::running_fields))]
 fn write_running(
-    out: &mut RowWriter,
+    out: &mut ObjectWriter,
     version: Version,
     frame: &StoredFrame,
     boot: u32,
@@ -87,10 +88,10 @@ fn write_running(
     out.host("host", host)?;
     out.job("job", frame.job)?;
     out.number("layer", frame.layer)?;
-    out.signed("number", frame.number)?;
+    write_signed(out, "number", frame.number)?;
     out.number("retries", frame.retries)?;
     out.whole("since", since)?;
-    out.word("state", "RUNNING")?;
+    out.text("state", "RUNNING")?;
     out.version("version", version)?;
     out.end_object()
 }

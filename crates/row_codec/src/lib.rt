@@ -12,8 +12,8 @@ mod host_fields;
 mod job_fields;
 mod laws;
 mod layer_fields;
+mod members;
 mod read_fields;
-mod row_writer;
 
 pub use decoding::decode;
 pub use encoding::encode;

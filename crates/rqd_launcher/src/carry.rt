@@ -3,7 +3,7 @@ ghost use Rattle.std.specs.Prelude.{◌≡◌, ◌∷◌, [], true, List};
 ghost use Rattle.rqd_core.specs.Keeping.{AreStarted};
 ghost use Rattle.rqd_core.specs.Life.{Life, is_run};
 ghost use Rattle.rqd_launcher.specs.declared.call.SpawnCall.{SpawnCall};
-ghost use Rattle.rqd_launcher.specs.Calls.{Grows};
+ghost use Rattle.cue_io.specs.Growth.{Grows};
 ghost use Rattle.rqd_launcher.specs.Carries.{Carries, start_of, starts_of, stop_of, stops_of, tasks_of};
 
 use crate::spawner::{SpawnFault, Spawner};

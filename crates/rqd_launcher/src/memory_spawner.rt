@@ -5,7 +5,8 @@ ghost use Rattle.cue_io.specs.Faults.{HasRisen};
 ghost use Rattle.cue_io.specs.Memory.{after_call, is_to_fail};
 ghost use Rattle.rqd_launcher.specs.declared.call.SpawnTask.TheVariants.{Start, Poll, Stop};
 ghost use Rattle.rqd_launcher.specs.declared.spawner.SpawnFault.TheVariants.{Failed};
-ghost use Rattle.rqd_launcher.specs.Calls.{Grows, act_answer, poll_answer, polled, told_as};
+ghost use Rattle.cue_io.specs.Growth.{Grows};
+ghost use Rattle.rqd_launcher.specs.Calls.{act_answer, poll_answer, told_as};
 ghost use Rattle.rqd_launcher.specs.Memory.{Plays, exit_of, listed_exit, new_spawner, was_started};
 
 use crate::call::{SpawnAnswer, SpawnCall, SpawnTask};

@@ -2,7 +2,7 @@
 ghost use Rattle.std.specs.Prelude.{◌≡◌, ◌<◌, ◌∷◌, [], true, List, Some, length, slice_get, if◌then◌else◌, IfOk};
 ghost use Rattle.rqd_core.specs.Life.{attempts_of, is_run, without};
 ghost use Rattle.rqd_launcher.specs.declared.call.SpawnCall.{SpawnCall};
-ghost use Rattle.rqd_launcher.specs.Calls.{Grows};
+ghost use Rattle.cue_io.specs.Growth.{Grows};
 ghost use Rattle.rqd_launcher.specs.Carries.{Carries, poll_of, polls_of};
 
 use crate::spawner::{SpawnFault, Spawner};

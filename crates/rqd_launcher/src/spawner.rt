@@ -45,7 +45,8 @@ pub trait Spawner {
     ghost use Rattle.rqd_launcher.specs.declared.call.SpawnCall.{SpawnCall};
     ghost use Rattle.rqd_launcher.specs.declared.call.SpawnTask.TheVariants.{Start, Poll, Stop};
     ghost use Rattle.rqd_launcher.specs.declared.spawner.SpawnFault.TheVariants.{Failed};
-    ghost use Rattle.rqd_launcher.specs.Calls.{Grows, act_answer, poll_answer, told_as};
+    ghost use Rattle.cue_io.specs.Growth.{Grows};
+    ghost use Rattle.rqd_launcher.specs.Calls.{act_answer, poll_answer, told_as};
 
     ghost calls: { Self → Option (List SpawnCall) };
 

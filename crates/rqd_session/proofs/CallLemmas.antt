@@ -11,7 +11,7 @@ use Rattle.cue_io.specs.declared.line.LineFault.TheVariants as line_fault
 use Rattle.farm_lines.specs.declared.limits.TheConstants.{REPLY_LIMIT}
 use Rattle.rqd_core.specs.Life.{Life}
 use Rattle.rqd_launcher.specs.declared.call.SpawnCall.{SpawnCall}
-use Rattle.rqd_launcher.specs.Calls.{Grows, Grows-append}
+use Rattle.cue_io.specs.Growth.{Grows, Grows-append}
 use Rattle.rqd_launcher.specs.Carries.{HaveCauses}
 use Rattle.rqd_session.specs.declared.cut.Cut.{Cut}
 use Rattle.rqd_session.specs.declared.cut.Cut.TheVariants as cut

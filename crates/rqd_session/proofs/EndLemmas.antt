@@ -8,7 +8,7 @@ use Rattle.farm_types.specs.Forms.{is_between}
 use Rattle.farm_lines.specs.Points.{cores_of, number_of}
 use Rattle.rqd_core.specs.declared.config.RqdConfig.{RqdConfig}
 use Rattle.rqd_core.specs.Life.{Life, line_of, new_life}
-use Rattle.rqd_launcher.specs.Calls.{Grows-none}
+use Rattle.cue_io.specs.Growth.{Grows-none}
 use Rattle.rqd_session.specs.declared.cut.Cut.{Cut}
 use Rattle.rqd_session.specs.declared.cut.Cut.TheVariants as cut
 use Rattle.rqd_session.specs.Rounds.{AreRounds, Part, Polling, Sending, Waiting, Hearing, Acting, line_after, replies_in}

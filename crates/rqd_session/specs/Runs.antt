@@ -7,7 +7,7 @@ use Rattle.cue_io.specs.Output.{Adds}
 use Rattle.cue_io.specs.declared.limits.TheConstants.{BYTE_LIMIT}
 use Rattle.rqd_core.specs.Life.{Life, new_life}
 use Rattle.rqd_launcher.specs.declared.call.SpawnCall.{SpawnCall}
-use Rattle.rqd_launcher.specs.Calls.{Grows}
+use Rattle.cue_io.specs.Growth.{Grows}
 use Rattle.rqd_launcher.specs.Carries.{HaveCauses}
 use Rattle.rqd_session.specs.Rounds.{Round, Part, Sending, Waiting, AreRounds, IsPart, after_rounds, calls_by, calls_in, lines_sent, replies_by, replies_in, sent_by}
 use Rattle.rqd_session.specs.Words.{Asked, asked_of}

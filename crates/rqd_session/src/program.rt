@@ -1,8 +1,8 @@
 //! The daemon's whole work: a connection, and then the call.
 
 ghost use Rattle.std.specs.Prelude.{Some};
-ghost use Rattle.dialer.specs.Dials.{Grows, target_at};
-ghost use Rattle.rqd_launcher.specs.Calls as spawner_calls;
+ghost use Rattle.cue_io.specs.Growth.{Grows};
+ghost use Rattle.dialer.specs.Dials.{target_at};
 ghost use Rattle.rqd_launcher.specs.Carries.{HaveCauses};
 ghost use Rattle.rqd_session.specs.Programs.{HasCalledOver, IsRun, IsRunAt, Run};
 ghost use Rattle.rqd_session.specs.Runs.{Call};
@@ -27,7 +27,7 @@ pub fn run_program<D: Dialer, P: Spawner, R: Rest>(
     // Where it connected to, what was taken, sent and done, and why the status is this one.
     ensures { (run : Run) × IsRun words.now result run
         × Grows (D.dialled dialer.old) (D.dialled dialer.new) run.dialled
-        × spawner_calls.Grows (P.calls spawner.old) (P.calls spawner.new) run.call.told
+        × Grows (P.calls spawner.old) (P.calls spawner.new) run.call.told
         × HaveCauses run.call.told (P.faults spawner.old) (P.faults spawner.new) }
 {
     let Some((address, port, more)) = target_of(words) else {
@@ -48,7 +48,7 @@ fn run_connected<D: Dialer, P: Spawner, R: Rest>(
 ) -> Status
     ensures { (run : Run) × IsRunAt (Some (target_at address.now words.now port)) result run
         × Grows (D.dialled dialer.old) (D.dialled dialer.new) run.dialled
-        × spawner_calls.Grows (P.calls spawner.old) (P.calls spawner.new) run.call.told
+        × Grows (P.calls spawner.old) (P.calls spawner.new) run.call.told
         × HaveCauses run.call.told (P.faults spawner.old) (P.faults spawner.new) }
 {
     match dialer.dial(address, port) {
@@ -68,7 +68,7 @@ fn run_over<S: Source + Drop, W: Sink + Drop, P: Spawner, R: Rest>(
     rest: &mut R,
 ) -> Status
     ensures { (call : Call) × HasCalledOver (record { left = S.left source; written = W.written sink }) words.now result call
-        × spawner_calls.Grows (P.calls spawner.old) (P.calls spawner.new) call.told
+        × Grows (P.calls spawner.old) (P.calls spawner.new) call.told
         × HaveCauses call.told (P.faults spawner.old) (P.faults spawner.new) }
 {
     let mut source = source;

@@ -8,7 +8,7 @@ ghost use Rattle.cue_io.specs.Output.{Adds};
 ghost use Rattle.cue_io.specs.Reader.{Given, Moves};
 ghost use Rattle.rqd_core.specs.Keeping.{AreStarted};
 ghost use Rattle.rqd_core.specs.Replies.{take_line};
-ghost use Rattle.rqd_launcher.specs.Calls.{Grows};
+ghost use Rattle.cue_io.specs.Growth.{Grows};
 ghost use Rattle.rqd_launcher.specs.Carries.{Carries, HaveCauses};
 ghost use Rattle.rqd_launcher.specs.declared.call.SpawnCall.{SpawnCall};
 ghost use Rattle.rqd_session.specs.Steps.{Done, Gave, GaveSo, Hears, IsHeard, IsSent, Makes, tasks_ordered};

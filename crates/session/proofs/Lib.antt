@@ -1,7 +1,6 @@
 mod ExchangeLemmas
 mod LoadLemmas
 pub mod NewKeepers
-mod NumberLemmas
 mod OpenedLegal
 mod OpenedRun
 mod OpenedStore

@@ -1,10 +1,11 @@
 //! The forms of a depend's row.
 
 ghost use Rattle.std.specs.Prelude.{◌≡◌};
-ghost use Rattle.farm_types.specs.Formed.{is_frame_named, is_layer_name, names_frame, names_layer, names_target_frame, names_target_layer};
+ghost use Rattle.farm_types.specs.Formed.{is_frame_named, is_layer_name};
 ghost use Rattle.farm_types.specs.Kept.{is_formed_depend, is_formed_end, is_given};
 
-use farm_types::{DependEnd, DependKind, DependRow, Text, is_name};
+use farm_types::{DependEnd, DependRow, Text, is_name};
+use farm_words::{names_frame, names_layer, names_target_frame, names_target_layer};
 
 /// Whether each end has a job's number, and a layer and a frame where the depend's kind names them, each of its form.
 pub(crate) fn is_formed(depend: &DependRow) -> bool
@@ -69,42 +70,4 @@ fn is_frame_named(frame: Option<i32>) -> bool
         None => true,
         Some(number) => -9_999_999 <= number && number <= 9_999_999,
     }
-}
-
-// Whether a kind of depend names a layer of the waiting end, and a frame in it.
-fn names_layer(kind: DependKind) -> bool
-    ensures { result ≡ names_layer kind }
-{
-    !matches!(
-        kind,
-        DependKind::JobOnJob | DependKind::JobOnLayer | DependKind::JobOnFrame
-    )
-}
-
-fn names_frame(kind: DependKind) -> bool
-    ensures { result ≡ names_frame kind }
-{
-    matches!(
-        kind,
-        DependKind::FrameOnJob | DependKind::FrameOnLayer | DependKind::FrameOnFrame
-    )
-}
-
-// Whether it names a layer of the other end, and a frame in it.
-fn names_target_layer(kind: DependKind) -> bool
-    ensures { result ≡ names_target_layer kind }
-{
-    !matches!(
-        kind,
-        DependKind::JobOnJob | DependKind::LayerOnJob | DependKind::FrameOnJob
-    )
-}
-
-fn names_target_frame(kind: DependKind) -> bool
-    ensures { result ≡ names_target_frame kind }
-{
-    matches!(
-        kind,
-        DependKind::JobOnFrame | DependKind::LayerOnFrame | DependKind::FrameOnFrame
-    )
 }

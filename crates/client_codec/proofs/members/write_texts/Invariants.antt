@@ -6,7 +6,7 @@ use Rattle.serde_json.specs.Data.{string}
 use Rattle.serde_json.specs.View.{items_of}
 use Rattle.serde_json.specs.Written.{items_outline}
 use Rattle.farm_lines.specs.RequestText.{texts_data}
-use Rattle.line_writer.specs.Tokens.{added, tokens_of}
+use Rattle.object_writer.specs.Tokens.{added, tokens_of}
 use Rattle.client_codec.proofs.members.write_texts.Given as goal
 
 abbrev pub invariant-loop-text : goal.invariant-loop-text

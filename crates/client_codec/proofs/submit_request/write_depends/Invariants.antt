@@ -6,7 +6,7 @@ use Rattle.serde_json.specs.Data.{array}
 use Rattle.serde_json.specs.View.{items_of}
 use Rattle.serde_json.specs.Written.{items_outline}
 use Rattle.farm_lines.specs.RequestText.{own_depend_data}
-use Rattle.line_writer.specs.Tokens.{added, tokens_of}
+use Rattle.object_writer.specs.Tokens.{added, tokens_of}
 use Rattle.client_codec.proofs.submit_request.write_depends.Given as goal
 
 abbrev pub invariant-loop-depend : goal.invariant-loop-depend

@@ -3,7 +3,8 @@ use Rattle.std.proofs.Common.{rules, ◌≡◌, ℕ, List, [], ◌∷◌, refl, 
 use Rattle.cue_io.specs.Output.{Adds-none}
 use Rattle.cue_tool.specs.declared.program.SpecFault.{SpecFault}
 use Rattle.cue_tool.specs.declared.program.SpecFault.TheVariants as spec_faults
-use Rattle.dialer.specs.Dials.{Grows-none, Target, target_at}
+use Rattle.cue_io.specs.Growth.{Grows-none}
+use Rattle.dialer.specs.Dials.{Target, target_at}
 use Rattle.cue_tool.specs.Programs.{Opens, file_of}
 use Rattle.cue_tool.proofs.EndLemmas.{no_call}
 use Rattle.cue_tool.proofs.ProgramLemmas.{ended, ran_alone, ran_with}

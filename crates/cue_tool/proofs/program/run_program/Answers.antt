@@ -1,7 +1,8 @@
 -- The words don't say where to connect.
 use Rattle.std.proofs.Common.{rules, ◌≡◌, [], None}
 use Rattle.cue_io.specs.Output.{Adds-none}
-use Rattle.dialer.specs.Dials.{Grows-none, target_of}
+use Rattle.cue_io.specs.Growth.{Grows-none}
+use Rattle.dialer.specs.Dials.{target_of}
 use Rattle.cue_tool.proofs.EndLemmas.{no_call}
 use Rattle.cue_tool.proofs.ProgramLemmas.{unplaced}
 use Rattle.cue_tool.proofs.program.run_program.Goals as goal

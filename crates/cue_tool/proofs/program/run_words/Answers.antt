@@ -2,7 +2,8 @@
 use Rattle.std.proofs.Common.{◌≡◌, ℕ, List, [], ◌∷◌, true, false, inr, refl, Option, option_map}
 use Rattle.cue_io.specs.Output.{Adds-none}
 use Rattle.cue_words.specs.Commands.{words_of}
-use Rattle.dialer.specs.Dials.{Grows-none, Target, target_at}
+use Rattle.cue_io.specs.Growth.{Grows-none}
+use Rattle.dialer.specs.Dials.{Target, target_at}
 use Rattle.cue_tool.specs.Programs.{is_request}
 use Rattle.cue_tool.proofs.EndLemmas.{no_call}
 use Rattle.cue_tool.proofs.ProgramLemmas.{apart, connected, ended}

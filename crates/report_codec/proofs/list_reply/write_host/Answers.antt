@@ -1,7 +1,7 @@
 -- The steps one after the other.
 use Rattle.std.proofs.lemmas.Result.{on_ok_weaker}
 use Rattle.farm_lines.specs.ListReplies.{host_row_data}
-use Rattle.line_writer.proofs.Members.{last, next, next_number, next_text}
+use Rattle.object_writer.proofs.Members.{last, next, next_number, next_text}
 use Rattle.report_codec.proofs.list_reply.write_host.Goals as goal
 
 pub returns : goal.returns

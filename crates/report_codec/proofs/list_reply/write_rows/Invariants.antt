@@ -6,7 +6,7 @@ use Rattle.json.specs.Tree.{items_tokens}
 use Rattle.serde_json.specs.View.{items_of}
 use Rattle.serde_json.specs.Written.{items_outline}
 use Rattle.farm_lines.specs.ListReplies.{list_row_data, list_rows_data}
-use Rattle.line_writer.specs.Tokens.{added, tokens_of}
+use Rattle.object_writer.specs.Tokens.{added, tokens_of}
 use Rattle.report_codec.proofs.list_reply.write_rows.Given as goal
 
 abbrev pub invariant-loop-row : goal.invariant-loop-row

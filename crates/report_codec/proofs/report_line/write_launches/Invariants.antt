@@ -5,7 +5,7 @@ use Rattle.json.specs.Tree.{items_tokens}
 use Rattle.serde_json.specs.View.{items_of}
 use Rattle.serde_json.specs.Written.{items_outline}
 use Rattle.farm_lines.specs.Reply.{launch_data, launches_data}
-use Rattle.line_writer.specs.Tokens.{added, tokens_of}
+use Rattle.object_writer.specs.Tokens.{added, tokens_of}
 use Rattle.report_codec.proofs.report_line.write_launches.Given as goal
 
 abbrev pub invariant-loop-launch : goal.invariant-loop-launch

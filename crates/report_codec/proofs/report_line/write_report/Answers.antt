@@ -3,7 +3,7 @@ use Rattle.std.proofs.Common.{◌≡◌, ◌++◌, ◌∷◌, []}
 use Rattle.std.proofs.lemmas.Result.{on_ok_weaker}
 use Rattle.json.specs.Token.{end_object}
 use Rattle.farm_lines.specs.Reply.{report_data}
-use Rattle.line_writer.proofs.Printed.{added_append}
+use Rattle.object_writer.proofs.Printed.{added_append}
 use Rattle.report_codec.proofs.report_line.write_report.Goals as goal
 
 pub returns : goal.returns

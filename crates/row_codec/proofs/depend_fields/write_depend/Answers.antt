@@ -3,9 +3,10 @@ use Rattle.std.proofs.Common.{ap, ◌∙◌}
 use Rattle.std.specs.Prelude.{codes, option_map}
 use Rattle.std.proofs.lemmas.Result.{on_ok_weaker}
 use Rattle.serde_json.specs.Data.{Members, boolean, member, no_members, string}
-use Rattle.row_codec.specs.RowFields.{depend_fields, field_if, kind_word, signed, whole}
-use Rattle.row_codec.specs.Tokens.{added, fields_tokens}
-use Rattle.row_codec.proofs.Printed.{before_rest}
+use Rattle.farm_words.specs.Words.{kind_word}
+use Rattle.row_codec.specs.RowFields.{depend_fields, field_if, signed, whole}
+use Rattle.object_writer.specs.Tokens.{added, fields_tokens}
+use Rattle.object_writer.proofs.Members.{before_rest, text_before_rest}
 use Rattle.row_codec.proofs.depend_fields.write_depend.Goals as goal
 
 pub returns : goal.returns
@@ -22,8 +23,8 @@ returns c =
     let frame : Members = field_if (codes "frame") (option_map signed r.waiter.frame) job in
     on_ok_weaker c.end_object.result
     (λ done.
-    done ∙ c.in_ok-text_if-2.ensures no_members ∙ before_rest _ _ _ _ (fields_tokens on_layer) c.in_ok-job-2.ensures ∙ c.in_ok-signed_if-2.ensures on_job
-    ∙ before_rest _ _ _ _ (fields_tokens on_frame) c.in_ok-truth-2.ensures ∙ c.in_ok-text_if.ensures met_all ∙ before_rest _ _ _ _ (fields_tokens layer) c.in_ok-write_kind.ensures
-    ∙ before_rest _ _ _ _ (fields_tokens kind) c.in_ok-job.ensures ∙ c.in_ok-signed_if.ensures job ∙ before_rest _ _ _ _ (fields_tokens frame) c.in_ok-truth.ensures
+    done ∙ c.in_ok-write_text_if-2.ensures no_members ∙ before_rest _ _ _ _ (fields_tokens on_layer) c.in_ok-job-2.ensures ∙ c.in_ok-write_signed_if-2.ensures on_job
+    ∙ before_rest _ _ _ _ (fields_tokens on_frame) c.in_ok-truth-2.ensures ∙ c.in_ok-write_text_if.ensures met_all ∙ text_before_rest _ _ _ _ _ (fields_tokens layer) c.kind_word.ensures c.in_ok-text.ensures
+    ∙ before_rest _ _ _ _ (fields_tokens kind) c.in_ok-job.ensures ∙ c.in_ok-write_signed_if.ensures job ∙ before_rest _ _ _ _ (fields_tokens frame) c.in_ok-truth.ensures
     ∙ ap (λ m. added m (fields_tokens (member (codes "any") (boolean r.any) frame))) c.in_ok-begin_object.ensures)
     c.end_object.ensures

@@ -1,6 +1,6 @@
 -- The starts, and then the stops.
 use Rattle.std.proofs.Common.{◌≡◌, ◌++◌, sym}
-use Rattle.rqd_launcher.specs.Calls.{Grows-append}
+use Rattle.cue_io.specs.Growth.{Grows-append}
 use Rattle.rqd_launcher.specs.Carries.{starts_of, stops_of, tasks_of}
 use Rattle.rqd_launcher.proofs.Carrying.{last_done, more_done, none_done}
 use Rattle.rqd_launcher.proofs.carry.carry_out.Goals as goal

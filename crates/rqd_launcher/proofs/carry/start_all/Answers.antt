@@ -3,7 +3,7 @@ use Rattle.std.proofs.Common.{◌≡◌, ◌∷◌, ◌++◌, ◌+◌, ◌∙◌
 use Rattle.std.proofs.lemmas.List.{drop_more}
 use Rattle.farm_lines.specs.declared.launch.Launch.{Launch}
 use Rattle.rqd_core.specs.Keeping.{AreStarted}
-use Rattle.rqd_launcher.specs.Calls.{Grows-append}
+use Rattle.cue_io.specs.Growth.{Grows-append}
 use Rattle.rqd_launcher.specs.Carries.{starts_of}
 use Rattle.rqd_launcher.proofs.Carrying.{cut_short, last_done, more_done}
 use Rattle.rqd_launcher.proofs.Running.{rest_started}

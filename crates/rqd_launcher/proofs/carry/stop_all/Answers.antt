@@ -3,7 +3,7 @@ use Rattle.std.proofs.Common.{◌≡◌, ◌∷◌, [], ◌++◌, ◌+◌, ◌�
 use Rattle.std.proofs.lemmas.List.{drop_all, drop_more}
 use Rattle.farm_types.specs.declared.attempt.Attempt.{Attempt}
 use Rattle.rqd_core.specs.Life.{Life}
-use Rattle.rqd_launcher.specs.Calls.{Grows-append}
+use Rattle.cue_io.specs.Growth.{Grows-append}
 use Rattle.rqd_launcher.specs.Carries.{stops_of}
 use Rattle.rqd_launcher.proofs.Carrying.{all_done, cut_short, last_done, more_done}
 use Rattle.rqd_launcher.proofs.carry.stop_all.Goals as goal

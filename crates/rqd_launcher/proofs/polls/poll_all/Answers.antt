@@ -6,7 +6,7 @@ use Rattle.farm_types.specs.declared.attempt.Attempt.{Attempt}
 use Rattle.farm_types.specs.Run.{is_same}
 use Rattle.rqd_core.specs.declared.running.Running.{Running}
 use Rattle.rqd_core.specs.Life.{attempts_of, without}
-use Rattle.rqd_launcher.specs.Calls.{Grows-append}
+use Rattle.cue_io.specs.Growth.{Grows-append}
 use Rattle.rqd_launcher.specs.Carries.{poll_of}
 use Rattle.rqd_launcher.proofs.Carrying.{cut_short, last_done, more_done}
 use Rattle.rqd_launcher.proofs.Running.{at_ended, at_left, at_runs, is_at}

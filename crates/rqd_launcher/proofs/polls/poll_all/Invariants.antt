@@ -2,7 +2,7 @@
 use Rattle.std.proofs.Common.{List, drop, length, map}
 use Rattle.rqd_core.specs.Life.{attempts_of}
 use Rattle.rqd_launcher.specs.declared.call.SpawnCall.{SpawnCall}
-use Rattle.rqd_launcher.specs.Calls.{Grows}
+use Rattle.cue_io.specs.Growth.{Grows}
 use Rattle.rqd_launcher.specs.Carries.{poll_of, polls_of}
 use Rattle.rqd_launcher.proofs.Carrying.{IsBegun}
 use Rattle.rqd_launcher.proofs.polls.poll_all.Given as goal

@@ -3,7 +3,7 @@ use Rattle.std.proofs.Common.{◌≡◌, [], ◌∷◌, Ok, Err, Result, refl, a
 use Rattle.dialer.specs.declared.dial.DialFault.{DialFault}
 use Rattle.dialer.specs.declared.dial.DialFault.TheVariants as dial_faults
 use Rattle.dialer.specs.Dials.{Joined, Place, joined_by}
-use Rattle.rqd_launcher.specs.Calls.{Grows-none}
+use Rattle.cue_io.specs.Growth.{Grows-none}
 use Rattle.rqd_session.specs.Programs.{Connects}
 use Rattle.rqd_session.proofs.EndLemmas.{no_call}
 use Rattle.rqd_session.proofs.ProgramLemmas.{ended}

@@ -1,7 +1,7 @@
 -- The words don't say where to connect.
 use Rattle.std.proofs.Common.{rules, ◌≡◌, [], None}
-use Rattle.dialer.specs.Dials.{Grows-none, target_of}
-use Rattle.rqd_launcher.specs.Calls as spawner_calls
+use Rattle.cue_io.specs.Growth.{Grows-none}
+use Rattle.dialer.specs.Dials.{target_of}
 use Rattle.rqd_session.proofs.EndLemmas.{no_call}
 use Rattle.rqd_session.proofs.ProgramLemmas.{unplaced}
 use Rattle.rqd_session.proofs.RoundLemmas.{HaveCauses-none}
@@ -13,6 +13,6 @@ returns-in_default g c =
       record { dialled = []; call = no_call },
       unplaced c.args.words.now none,
       Grows-none (g.D.Dialer.dialled c.args.dialer.now),
-      spawner_calls.Grows-none (g.P.Spawner.calls c.args.spawner.now),
+      Grows-none (g.P.Spawner.calls c.args.spawner.now),
       HaveCauses-none (g.P.Spawner.faults c.args.spawner.now),
     )

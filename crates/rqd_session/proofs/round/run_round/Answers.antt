@@ -1,7 +1,7 @@
 -- Where a round was cut off, and a whole one.
 use Rattle.std.proofs.Common.{[], refl, None, Some}
 use Rattle.cue_io.specs.Output.{Adds-none}
-use Rattle.rqd_launcher.specs.Calls.{Grows-append, Grows-none}
+use Rattle.cue_io.specs.Growth.{Grows-append, Grows-none}
 use Rattle.rqd_session.specs.Rounds.{line_after}
 use Rattle.rqd_session.proofs.MadeLemmas.{cut_acting, cut_hearing, cut_polling, cut_sending, done_by, is_awaiting, line_sent, made_whole}
 use Rattle.rqd_session.proofs.RoundLemmas.{HaveCauses-append, HaveCauses-none}

@@ -3,7 +3,7 @@ use Rattle.std.proofs.Common.{◌≡◌, ◌<◌, [], ◌∷◌, ◌++◌, List,
 use Rattle.cue_io.specs.Faults.{HasRisen-earlier}
 use Rattle.cue_io.specs.Input.{Takes-none}
 use Rattle.cue_io.specs.Output.{Adds-none}
-use Rattle.rqd_launcher.specs.Calls.{Grows-none}
+use Rattle.cue_io.specs.Growth.{Grows-none}
 use Rattle.rqd_session.specs.Rounds.{Round}
 use Rattle.rqd_session.specs.Runs.{Call, Ends, ends}
 use Rattle.rqd_session.proofs.CallLemmas.{call_with, cut_more, made_more, made_none, moved_more}

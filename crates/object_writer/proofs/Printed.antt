@@ -5,7 +5,7 @@ use Rattle.json.specs.Token.{Token}
 use Rattle.serde_json.specs.Data.{Data}
 use Rattle.serde_json.specs.Written.{compact_text}
 use Rattle.serde_json.proofs.Texts.{print-outline}
-use Rattle.line_writer.specs.Tokens.{added, tokens_of}
+use Rattle.object_writer.specs.Tokens.{added, tokens_of}
 
 added_is : (before more : List Token) → added before more ≡ before ++ more
 added_is before [] = sym (append-nil before)

@@ -1,14 +1,10 @@
-//! Words for states and kinds.
+//! What words name.
 
 ghost use Rattle.std.specs.Prelude.{◌≡◌, ℕ, List, Option};
 ghost use Rattle.serde_json.specs.View.{members_view};
-ghost use Rattle.cue_json.specs.Fields.{Gives};
-ghost use Rattle.farm_lines.specs.DependLines.{kind_of};
-ghost use Rattle.farm_lines.specs.ReplyLines.{counted_of, cut_of};
-ghost use Rattle.farm_lines.specs.ReplyRows.{host_state_of, job_state_of, state_of, word_at};
-ghost use Rattle.farm_lines.specs.Request.{lock_of};
+ghost use Rattle.cue_json.specs.Fields.{Gives, of_kind};
+ghost use Rattle.farm_words.specs.Words.{counted_of, cut_of, host_state_of, job_state_of, kind_of, lock_of, state_of, word_at};
 
-use crate::fields::named;
 use cue_json::{FieldFault, Map};
 use farm_types::{Counted, Cut, DependKind, FrameState, HostState, JobState, LockState};
 use std::alloc::Global;
@@ -30,6 +26,16 @@ pub fn read_word<W: Word>(alloc: Global, object: &Map, field: &str) -> Result<W,
 {
     let word = cue_json::text(alloc, object, field)?;
     named(alloc, field, W::of_word(word))
+}
+
+/// What the field's text names, if it names anything, else `WrongKind`.
+pub fn named<X: Drop>(alloc: Global, field: &str, found: Option<X>) -> Result<X, FieldFault>
+    ensures { Gives (λ x. x) result (of_kind field.now found) }
+{
+    match found {
+        Some(x) => Ok(x),
+        None => Err(FieldFault::wrong_kind(alloc, field)),
+    }
 }
 
 impl Word for FrameState {

@@ -1,14 +1,14 @@
--- What is written of an object: its tokens, which json prints as serde_json's compact text.
+-- What is written of a JSON value: its tokens, which json prints as serde_json's compact text.
 use Rattle.std.specs.Prelude.{List, [], ◌∷◌, ◌++◌, fold}
 use Rattle.json.specs.Token.{Token, begin_object}
 use Rattle.json.specs.Tree.{json_tokens, members_tokens}
 use Rattle.serde_json.specs.Data.{Data, Members}
 use Rattle.serde_json.specs.Written.{members_outline, outline}
 
-abbrev pub value_tokens : Data → List Token
-value_tokens value = json_tokens (outline value)
+abbrev pub tokens_of : Data → List Token
+tokens_of value = json_tokens (outline value)
 
--- the tokens of fields, up to the object's end
+-- the tokens of members, up to the object's end
 abbrev pub fields_tokens : Members → List Token
 fields_tokens fields = members_tokens (members_outline fields)
 

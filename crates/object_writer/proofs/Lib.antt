@@ -1,3 +1,4 @@
+pub mod DataBack
 pub mod Members
 pub mod Newlines
 pub mod Printed

@@ -1,9 +1,9 @@
-//! The words of states in lines.
+//! The words.
 
 ghost use Rattle.std.specs.Prelude.{◌≡◌};
-ghost use Rattle.farm_lines.specs.Words.{host_word, job_word, kind_word, lock_word, state_word};
+ghost use Rattle.farm_words.specs.Words.{counted_word, cut_word, host_word, job_word, kind_word, lock_word, state_word};
 
-use farm_types::{DependKind, FrameState, HostState, JobState, LockState};
+use farm_types::{Counted, Cut, DependKind, FrameState, HostState, JobState, LockState};
 
 /// The word of a frame's state.
 pub fn state_word(state: FrameState) -> &'static str
@@ -67,5 +67,32 @@ pub fn kind_word(kind: DependKind) -> &'static str
         DependKind::FrameOnFrame => "FRAME_ON_FRAME",
         DependKind::FrameByFrame => "FRAME_BY_FRAME",
         DependKind::PreviousFrame => "PREVIOUS_FRAME",
+    }
+}
+
+/// The word for how a report's bookings ended.
+pub fn cut_word(cut: Cut) -> &'static str
+    ensures { result.now ≡ cut_word cut }
+{
+    match cut {
+        Cut::Whole => "",
+        Cut::Store => "store",
+        Cut::Memory => "memory",
+    }
+}
+
+/// The word for what is counted.
+pub fn counted_word(what: Counted) -> &'static str
+    ensures { result.now ≡ counted_word what }
+{
+    match what {
+        Counted::Shows => "shows",
+        Counted::Allocs => "allocs",
+        Counted::Hosts => "hosts",
+        Counted::Boots => "boots",
+        Counted::Jobs => "jobs",
+        Counted::Depends => "depends",
+        Counted::Groups => "groups",
+        Counted::DependNumbers => "depend_numbers",
     }
 }

@@ -16,12 +16,7 @@ use Rattle.farm_types.specs.declared.states.JobState.{JobState}
 use Rattle.farm_types.specs.declared.states.JobState.TheVariants as job_state
 use Rattle.farm_types.specs.declared.states.LockState.{LockState}
 use Rattle.farm_types.specs.declared.states.LockState.TheVariants as lock_state
-use Rattle.farm_lines.specs.DependLines.{kind_of}
-use Rattle.farm_lines.specs.Reply.{counted_word, cut_text}
-use Rattle.farm_lines.specs.ReplyLines.{counted_of, cut_of}
-use Rattle.farm_lines.specs.ReplyRows.{host_state_of, job_state_of, state_of}
-use Rattle.farm_lines.specs.Request.{lock_of}
-use Rattle.farm_lines.specs.Words.{host_word, job_word, kind_word, lock_word, state_word}
+use Rattle.farm_words.specs.Words.{counted_of, counted_word, cut_of, cut_word, host_state_of, host_word, job_state_of, job_word, kind_of, kind_word, lock_of, lock_word, state_of, state_word}
 
 pub state_back : (s : FrameState) → state_of (state_word s) ≡ Some s
 state_back frame_state.Waiting = refl
@@ -93,12 +88,12 @@ kind_utf8 depend_kind.FrameOnFrame = IsUtf8-are_ascii (codes "FRAME_ON_FRAME") r
 kind_utf8 depend_kind.FrameByFrame = IsUtf8-are_ascii (codes "FRAME_BY_FRAME") refl
 kind_utf8 depend_kind.PreviousFrame = IsUtf8-are_ascii (codes "PREVIOUS_FRAME") refl
 
-pub cut_back : (c : Cut) → cut_of (cut_text c) ≡ Some c
+pub cut_back : (c : Cut) → cut_of (cut_word c) ≡ Some c
 cut_back cut.Whole = refl
 cut_back cut.Store = refl
 cut_back cut.Memory = refl
 
-pub cut_utf8 : (c : Cut) → IsUtf8 (cut_text c)
+pub cut_utf8 : (c : Cut) → IsUtf8 (cut_word c)
 cut_utf8 cut.Whole = IsUtf8-are_ascii [] refl
 cut_utf8 cut.Store = IsUtf8-are_ascii (codes "store") refl
 cut_utf8 cut.Memory = IsUtf8-are_ascii (codes "memory") refl

@@ -1,5 +1,0 @@
-use Rattle.session.proofs.NumberLemmas.{number_read}
-use Rattle.session.proofs.number.read_digits.Goals as goal
-
-pub returns-then-is_number : goal.returns-then-is_number
-returns-then-is_number c = number_read c.args.text.now c.parse.result c.ok.result c.parse.ensures.value.0 c.if-is_number.ensures c.ok.ensures.value
