@@ -4,7 +4,7 @@ ghost use Rattle.std.specs.Prelude.{ℕ, ◌≡◌, ◌<◌, ◌+◌, Some, is_s
 ghost use Rattle.farm_types.specs.Farm.{sub_of};
 ghost use Rattle.farm_types.specs.Depends.{is_open};
 ghost use Rattle.farm_types.specs.declared.limits.TheConstants.{LAST_VERSION};
-ghost use Rattle.farm_types.specs.Booking.{is_waiting, is_ready, in_facility, takes_frames, has_capacity, within_burst, may_place, may_record, may_book, tags_match};
+ghost use Rattle.farm_types.specs.Booking.{is_ready, in_facility, has_capacity, within_burst, may_place, may_record, may_book, tags_match};
 ghost use Rattle.farm_books.specs.Bookings.{booked_at, row_of_booking};
 ghost use Rattle.farm_books.specs.Reads.{rows_share_tag, takes_job, takes_layer};
 
@@ -12,8 +12,8 @@ use crate::begin::Booking;
 use crate::books::Books;
 use alloc_tags::matches;
 use farm_types::{
-    AllocNo, Cores, Frame, FrameState, HostNo, HostRow, HostState, JobNo, JobRow, JobState,
-    LAST_VERSION, LayerRow, LockState, Slot, SubNo, Text, Version,
+    AllocNo, Cores, Frame, HostNo, HostRow, JobNo, JobRow, LAST_VERSION, LayerRow, Slot, SubNo,
+    Text, Version,
 };
 
 impl Books {
@@ -45,7 +45,7 @@ impl Books {
         match self.job(job) {
             None => false,
             Some(job) => {
-                takes_frames(row) && !job.paused && self.in_facility(row.alloc, &job.facility)
+                row.takes_frames() && !job.paused && self.in_facility(row.alloc, &job.facility)
             }
         }
     }
@@ -79,7 +79,7 @@ impl Books {
         let Some(frame) = &row.frame else {
             return None;
         };
-        if !is_waiting(frame.state) {
+        if !frame.state.is_waiting() {
             return None;
         }
         let Some(job) = self.job(frame.job) else {
@@ -121,7 +121,7 @@ impl Books {
         let fits = is_ready(version, frame, job)
             && self.is_open(slot)
             && self.in_facility(host_row.alloc, &job.facility)
-            && takes_frames(host_row)
+            && host_row.takes_frames()
             && self.has_capacity(host, host_row, layer);
         if !fits {
             return None;
@@ -185,28 +185,11 @@ impl Books {
     }
 }
 
-// Whether a frame of that state waits.
-fn is_waiting(state: FrameState) -> bool
-    ensures { result ≡ is_waiting state }
-{
-    matches!(state, FrameState::Waiting)
-}
-
 // Whether the frame waits below the last version, and its job is pending and not paused.
 fn is_ready(version: Version, frame: &Frame, job: &JobRow) -> bool
     ensures { result ≡ is_ready version frame.now job.now }
 {
-    is_waiting(frame.state)
-        && version.0 < LAST_VERSION
-        && matches!(job.state, JobState::Pending)
-        && !job.paused
-}
-
-// Whether the host is up and open.
-fn takes_frames(host_row: &HostRow) -> bool
-    ensures { result ≡ takes_frames host_row.now }
-{
-    matches!(host_row.state, HostState::Up) && matches!(host_row.lock, LockState::Unlocked)
+    frame.state.is_waiting() && version.0 < LAST_VERSION && job.state.is_pending() && !job.paused
 }
 
 // Whether so many booked cores with the layer's are within the burst.

@@ -15,8 +15,8 @@ use crate::shows::Shows;
 use alloc_tags::Allocs;
 use attempt_book::Attempts;
 use farm_types::{
-    AllocNo, AllocRow, HostNo, HostRow, JobNo, JobRow, LayerRow, MOST_ALLOCS, ProcRow, SUB_NUMBERS,
-    ShowNo, ShowRow, Slot, SlotRow, SubNo, SubRow,
+    AllocNo, AllocRow, HostNo, HostRow, JobNo, JobRow, LayerRow, ProcRow, ShowNo, ShowRow, Slot,
+    SlotRow, SubNo, SubRow,
 };
 use host_book::{HostLife, Hosts};
 use job_book::Jobs;
@@ -143,12 +143,10 @@ impl Books {
         ensures value { result ≡ sub_at self.now (sub_of show alloc) }
         ensures number { IfSome result (λ s. s.sub ≡ sub_of show alloc) }
     {
-        let number = sub_number(show, alloc);
         let subs = self.attempts.subs();
-        if number < SUB_NUMBERS {
-            subs.row(SubNo(number as u16))
-        } else {
-            None
+        match SubNo::of(show, alloc) {
+            None => None,
+            Some(sub) => subs.row(sub),
         }
     }
 
@@ -191,11 +189,4 @@ impl Books {
             Some(row) => row.proc,
         }
     }
-}
-
-/// The number of a show's subscription to an allocation.
-pub fn sub_number(show: ShowNo, alloc: AllocNo) -> u32
-    ensures { result ≡ sub_of show alloc }
-{
-    MOST_ALLOCS * u32::from(show.0) + u32::from(alloc.0)
 }

@@ -15,5 +15,5 @@ mod rows;
 mod shows;
 mod used;
 
-pub use books::{Books, sub_number};
+pub use books::Books;
 pub use look::is_attempt;

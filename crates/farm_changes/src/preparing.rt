@@ -20,7 +20,7 @@ use crate::prepare_operators::{prepare_eat, prepare_kill_frame, prepare_retry};
 use crate::prepare_slots::prepare_book;
 use crate::refused::{existing, existing_alloc, full};
 use alloc_tags::AllocRefusal;
-use farm_books::{Books, sub_number};
+use farm_books::Books;
 use farm_draft::Rows;
 use farm_places::{PrepareFault, unknown};
 use farm_types::{
@@ -138,7 +138,9 @@ fn prepare_sub(
     let Some(allocation) = books.alloc_named(line.alloc.as_str()) else {
         return Err(unknown(alloc, &line.alloc));
     };
-    let sub = SubNo(sub_number(show, allocation) as u16);
+    let Some(sub) = SubNo::of(show, allocation) else {
+        unreachable!()
+    };
     let answer = Answer::Sub {
         booked: books.booked(sub),
         burst: line.burst,

@@ -18,9 +18,8 @@ use depend_book::Depends;
 use farm_books::Books;
 use farm_depends::follow_rows;
 use farm_finish::finish_rows;
-use farm_rows::{FarmRow, HeadRow, RowChange};
+use farm_rows::{FarmRow, HeadRow, RowChange, exactly};
 use farm_types::{Entry, HostNo, Items, Slot};
-use row_changes::exactly;
 use std::alloc::{AllocError, Global};
 
 impl Farm {

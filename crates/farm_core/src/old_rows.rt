@@ -9,14 +9,13 @@ ghost use Rattle.farm_rows.specs.Changes.{is_mark, row_at, row_key, used_row};
 ghost use Rattle.farm_rows.specs.Rows.{frame_row, head_row, is_unused};
 
 use crate::farm::Farm;
-use farm_rows::{FarmRow, FrameRow, HeadRow, RowKey};
+use farm_rows::{
+    FarmRow, FrameRow, HeadRow, OldRows, RowKey, is_same_alloc, is_same_depend, is_same_frame,
+    is_same_host, is_same_job, is_same_layer, is_same_show,
+};
 use farm_types::{
     AllocNo, AllocRow, DependNo, DependRow, HostNo, HostRow, JobRow, LayerRow, ShowNo, ShowRow,
     Slot, SlotRow, SubRow,
-};
-use row_changes::{
-    OldRows, is_same_alloc, is_same_depend, is_same_frame, is_same_host, is_same_job,
-    is_same_layer, is_same_show,
 };
 
 impl OldRows for Farm {

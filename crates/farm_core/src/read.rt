@@ -6,7 +6,7 @@ ghost use Rattle.farm_types.specs.DependActs.{depend_at};
 ghost use Rattle.farm_core.specs.Reads.{depend_after};
 ghost use Rattle.farm_types.specs.Farm.{job_at, layer_at, sub_at, sub_of};
 ghost use Rattle.farm_types.specs.Finish.{waits_by};
-ghost use Rattle.farm_types.specs.Rising.{depend_key};
+ghost use Rattle.farm_types.specs.Rising.{IsNextKey, depend_key};
 ghost use Rattle.farm_types.specs.Run.{live_at};
 ghost use Rattle.farm_types.specs.Step.{lists_of};
 ghost use Rattle.farm_types.specs.Sums.{booked_in, total_at};
@@ -151,7 +151,9 @@ impl Farm {
 
     /// The depend with the least number above this one.
     pub fn next_depend(&self, after: u32) -> Option<DependNo>
-        ensures { result ≡ depend_after self.now after }
+        ensures value { result ≡ depend_after self.now after }
+        ensures least { IfSome result (IsNextKey depend_key self.now.depends after) }
+        ensures none { IfNone result (All (λ d. d.depend ≤ after) self.now.depends) }
     {
         self.depends.next(after)
     }

@@ -6,10 +6,10 @@ use Rattle.farm_types.specs.declared.refusal.Counted.TheVariants as counted
 use Rattle.farm_types.specs.declared.refusal.Refusal.{Refusal}
 use Rattle.farm_types.specs.declared.refusal.Refusal.TheVariants.{Full, SelfDepend, Started}
 use Rattle.farm_types.specs.declared.slot_row.SlotRow.{SlotRow}
-use Rattle.farm_types.specs.Booking.{is_waiting}
 use Rattle.farm_types.specs.DependActs.{frame_name_at, new_groups, or_else, place_refusal, runs_already, waits_for_itself}
 use Rattle.farm_types.specs.Depends.{are_done, groups_left, is_done}
 use Rattle.farm_types.specs.Farm.{Farm, for_some}
+use Rattle.farm_types.specs.Operators.{waits}
 use Rattle.farm_types.specs.declared.limits.TheConstants.{LAST_DEPEND, MOST_DEPENDS, MOST_GROUPS}
 use Rattle.depend_graph.specs.Graph.{is_flagged}
 use Rattle.depend_book.specs.declared.new_depend.NewDepend.{NewDepend}
@@ -41,7 +41,7 @@ all_unmet_waiters f (spec ∷ specs) = unmet_waiters f spec ++ all_unmet_waiters
 
 -- the slot's frame waits to be booked
 abbrev pub waits_at : List SlotRow → ℕ → Bool
-waits_at slots slot = for_some (slice_get slots slot) (λ (s : SlotRow). for_some s.frame (λ x. is_waiting x.state))
+waits_at slots slot = for_some (slice_get slots slot) waits
 
 -- ---- what follows
 

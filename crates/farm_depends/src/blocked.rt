@@ -4,7 +4,7 @@ ghost use Rattle.std.specs.Prelude.{◌≡◌, filter, IfOk};
 ghost use Rattle.farm_depends.specs.Coming.{unmet_by, waits_at};
 
 use depend_book::Depends;
-use farm_types::{FrameState, Group, Items, Slot};
+use farm_types::{Group, Items, Slot};
 use job_book::Jobs;
 use std::alloc::{AllocError, Global};
 
@@ -54,5 +54,5 @@ fn waits_at(jobs: &Jobs, slot: Slot) -> bool
     let Some(frame) = &row.frame else {
         return false;
     };
-    matches!(frame.state, FrameState::Waiting)
+    frame.state.is_waiting()
 }

@@ -171,7 +171,7 @@ pub(crate) fn is_done(row: &SlotRow) -> bool
 {
     match &row.frame {
         None => false,
-        Some(frame) => matches!(frame.state, FrameState::Succeeded | FrameState::Eaten),
+        Some(frame) => frame.state.is_done(),
     }
 }
 

@@ -8,13 +8,14 @@ ghost use Rattle.farm_rows.specs.declared.frame_row.FrameRow.{FrameRow};
 ghost use Rattle.farm_rows.specs.Changes.{MakesRows};
 ghost use Rattle.farm_rows.specs.Rows.{frame_row};
 ghost use Rattle.depend_book.specs.Book.{DependLists, joined};
-ghost use Rattle.farm_depends.specs.Follow.{IsMovable, change_of, put_blocked, put_opened, slots_after};
+ghost use Rattle.farm_depends.specs.Follow.{IsMovable, put_blocked, put_opened, slots_after};
 ghost use Rattle.farm_depends.specs.FollowRows.{IsActed, IsPut, Notes, Stands, blocked_row, frame_or, frame_put, noted, opened_row, stored_in};
 
 use crate::follow::Follow;
+use crate::moving::changed;
 use farm_books::Books;
 use farm_rows::{FarmRow, FrameRow, RowChange, StoredFrame, StoredState};
-use farm_types::{LAST_VERSION, Slot, Version};
+use farm_types::Slot;
 use indexmap::IndexMap;
 use std::alloc::{AllocError, Global};
 
@@ -233,16 +234,6 @@ fn blocked(row: FrameRow, raises: bool) -> FrameRow
         version: changed(version, raises),
         frame: stored_in(frame, StoredState::Depend),
     }
-}
-
-// The version, or one more where it is raised, up to the last.
-fn changed(version: Version, raises: bool) -> Version
-    ensures { result ≡ change_of raises version }
-{
-    if raises && version.0 < LAST_VERSION {
-        return Version(version.0 + 1);
-    }
-    version
 }
 
 // The frame in that state.

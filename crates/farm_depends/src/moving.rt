@@ -2,12 +2,12 @@
 
 ghost use Rattle.std.specs.Prelude.{◌≡◌, None, All};
 ghost use Rattle.farm_types.specs.Farm.{changed_at};
-ghost use Rattle.farm_types.specs.Settle.{blocked_row, in_state, raised};
+ghost use Rattle.farm_types.specs.Settle.{blocked_row, in_state};
 ghost use Rattle.farm_types.specs.declared.states.FrameState.TheVariants as frame_state;
 ghost use Rattle.farm_depends.specs.Follow.{IsMovable, change_of, put_blocked, put_opened};
 
 use farm_books::Books;
-use farm_types::{Frame, FrameState, LAST_VERSION, Slot, SlotRow, Version};
+use farm_types::{Frame, FrameState, Slot, SlotRow, Version};
 
 /// The frames in the slots wait to be booked. None has an attempt.
 pub(crate) fn open_all(books: &mut Books, slots: &[Slot])
@@ -71,11 +71,7 @@ fn in_state(row: SlotRow, state: FrameState) -> SlotRow
 fn blocked_row(row: SlotRow, raises: bool) -> SlotRow
     ensures { result ≡ blocked_row (change_of raises) row }
 {
-    let version = if raises {
-        raised(row.version)
-    } else {
-        row.version
-    };
+    let version = changed(row.version, raises);
     let SlotRow {
         version: _,
         frame,
@@ -88,13 +84,9 @@ fn blocked_row(row: SlotRow, raises: bool) -> SlotRow
     }
 }
 
-// One version more, up to the last.
-fn raised(version: Version) -> Version
-    ensures { result ≡ raised version }
+/// The version, or one more where it is raised, up to the last.
+pub(crate) fn changed(version: Version, raises: bool) -> Version
+    ensures { result ≡ change_of raises version }
 {
-    if version.0 < LAST_VERSION {
-        Version(version.0 + 1)
-    } else {
-        version
-    }
+    if raises { version.next() } else { version }
 }

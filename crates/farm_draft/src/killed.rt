@@ -1,7 +1,6 @@
 //! A job that is killed: all that is left of it is eaten.
 
 ghost use Rattle.std.specs.Prelude.{◌≡◌, map, OnOk};
-ghost use Rattle.farm_types.specs.Depends.{is_done_state};
 ghost use Rattle.farm_types.specs.Farm.{changed_at};
 ghost use Rattle.farm_types.specs.Kept.{KeepsRows};
 ghost use Rattle.farm_types.specs.Operators.{is_left_of, killed_row};
@@ -57,13 +56,6 @@ fn is_left_of(job: JobNo, row: &SlotRow) -> bool
 {
     match &row.frame {
         None => false,
-        Some(frame) => frame.job == job && !is_done(frame.state),
+        Some(frame) => frame.job == job && !frame.state.is_done(),
     }
-}
-
-// Whether a frame in that state is done.
-fn is_done(state: FrameState) -> bool
-    ensures { result ≡ is_done_state state }
-{
-    matches!(state, FrameState::Succeeded | FrameState::Eaten)
 }

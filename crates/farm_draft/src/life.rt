@@ -1,7 +1,6 @@
 //! Hosts that are heard, locked, and opened again.
 
 ghost use Rattle.std.specs.Prelude.{◌≡◌, map, OnOk};
-ghost use Rattle.farm_types.specs.Booking.{is_up};
 ghost use Rattle.farm_types.specs.Farm.{changed_at};
 ghost use Rattle.farm_types.specs.Hosts.{heard_row, locked_row, reopened_row};
 ghost use Rattle.farm_draft.specs.Drafted.{with_hosts};
@@ -65,7 +64,7 @@ impl<'a> Draft<'a> {
         let Some(life) = self.life(host) else {
             return Ok(());
         };
-        if !is_up(&life) {
+        if !life.state.is_up() {
             return Ok(());
         }
         self.set_life(
@@ -78,11 +77,4 @@ impl<'a> Draft<'a> {
             },
         )
     }
-}
-
-// Whether a host of that life is up.
-fn is_up(life: &HostLife) -> bool
-    ensures { result ≡ is_up life.now.state }
-{
-    matches!(life.state, HostState::Up)
 }

@@ -5,7 +5,7 @@ ghost use Rattle.farm_types.specs.Operators.{retried_row, stopped_row, waits};
 ghost use Rattle.farm_types.specs.Settle.{raised};
 ghost use Rattle.farm_types.specs.declared.states.FrameState.TheVariants as frame_state;
 
-use farm_types::{Frame, FrameState, LAST_VERSION, SlotRow, Version};
+use farm_types::{Frame, FrameState, SlotRow, Version};
 
 /// The slot without its attempt, its frame in that state. A frame that waited leaves its version.
 pub fn stopped_row(row: &SlotRow, state: FrameState) -> SlotRow
@@ -36,7 +36,7 @@ fn next_version(row: &SlotRow) -> Version
     ensures { result ≡ (if waits row.now then raised row.now.version else row.now.version) }
 {
     if waits(row) {
-        raised(row.version)
+        row.version.next()
     } else {
         row.version
     }
@@ -48,18 +48,7 @@ fn waits(row: &SlotRow) -> bool
 {
     match &row.frame {
         None => false,
-        Some(frame) => matches!(frame.state, FrameState::Waiting),
-    }
-}
-
-// One version more, up to the last.
-fn raised(version: Version) -> Version
-    ensures { result ≡ raised version }
-{
-    if version.0 < LAST_VERSION {
-        Version(version.0 + 1)
-    } else {
-        version
+        Some(frame) => frame.state.is_waiting(),
     }
 }
 

@@ -25,7 +25,6 @@ use Rattle.farm_finish.specs.Closing.{left_in}
 use Rattle.farm_finish.specs.Finishing.{CanFinishAll, MayFinish}
 use Rattle.farm_finish.proofs.EndsLaw.{any_left}
 use Rattle.farm_finish.proofs.LeftFrames.{left_sum}
-use Rattle.farm_finish.proofs.Turns.{pending_some}
 
 -- ---- attempts
 
@@ -58,10 +57,6 @@ may_one f job rows pending none =
       can =
           record {
             pending = pending;
-            number_left = omega (arith, rows.jobs.finish_within, rows.jobs.next_within, pending_some job f rows pending);
-            finished_count = rows.jobs.finished_count;
-            finishes_within = rows.jobs.finishes_within;
-            finishes_differ = rows.jobs.finishes_differ;
             none_waits = omega (arith, left_sum job f.slots, left);
             none_live = list_all-from_at (has_ended job) f.slots (λ n s at. row_ended job n s.version s.frame s.proc (rows.sound.attempts n s at) (none_at (is_left_of job) f.slots n s none at));
           };

@@ -22,7 +22,7 @@ use Rattle.farm_finish.proofs.Leavers.{order_next}
 use Rattle.farm_finish.proofs.OthersStay.{Stays, stays_one, stays_same, stays_then}
 
 -- there is a pending job
-pub pending_some : (job : ℕ) (f : Farm) → KeepsRows f → is_of_pending f.jobs job ≡ true → 1 ≤ length (filter is_pending_job f.jobs)
+pending_some : (job : ℕ) (f : Farm) → KeepsRows f → is_of_pending f.jobs job ≡ true → 1 ≤ length (filter is_pending_job f.jobs)
 pending_some job f rows pending =
     let among = is_among job 1 f.jobs f.next_job rows.jobs.jobs_rise pending in
     let is = ap (filter is_pending_job) among.are ∙ filter_among is_pending_job among.before among.itself among.behind true among.pending in

@@ -6,7 +6,6 @@ ghost use Rattle.farm_types.specs.Kept.{EachOnce, is_kept_slot};
 ghost use Rattle.std.specs.List.{list_all};
 ghost use Rattle.depend_graph.specs.Graph.{groups_at};
 ghost use Rattle.depend_book.specs.Book.{waiting_in};
-ghost use Rattle.farm_types.specs.Settle.{raised};
 ghost use Rattle.farm_depends.specs.FollowRows.{delete_mark};
 ghost use Rattle.farm_finish.specs.Adding.{AddsFrames, is_of_job};
 ghost use Rattle.farm_finish.specs.Cleared.{is_in_layer, is_in_layers};
@@ -16,7 +15,7 @@ ghost use Rattle.farm_finish.specs.Versions.{freed_by};
 use crate::versions::version_of;
 use depend_book::Depends;
 use farm_rows::{FarmRow, FrameRow, RowChange, RowKey};
-use farm_types::{DependNo, JobNo, LAST_VERSION, LayerRow, MetRow, Slot, Version};
+use farm_types::{DependNo, JobNo, LayerRow, MetRow, Slot, Version};
 use indexmap::IndexMap;
 use job_book::Jobs;
 use std::alloc::{AllocError, Global};
@@ -108,7 +107,7 @@ fn slots_free(
     ensures { OnOk result (changes.new.items ≡ changes.old.items ++ map (freed_by book.now.slots (get nat_eq versions.now)) slots.now) }
 {
     for slot in slots {
-        let version = raised(version_of(book, versions, *slot));
+        let version = version_of(book, versions, *slot).next();
         changes.push(RowChange::Put(FarmRow::Frame(FrameRow {
             slot: *slot,
             version,
@@ -116,17 +115,6 @@ fn slots_free(
         })))?;
     }
     Ok(())
-}
-
-// One version later, up to the last.
-fn raised(version: Version) -> Version
-    ensures { result ≡ raised version }
-{
-    if version.0 < LAST_VERSION {
-        Version(version.0 + 1)
-    } else {
-        version
-    }
 }
 
 /// The rows of the depends in which the job waits go, with the marks of their groups.

@@ -4,7 +4,7 @@ use Rattle.farm_types.specs.declared.attempt.Attempt.{Attempt}
 use Rattle.farm_law.proofs.Ended.{end_law, end_all_law}
 use Rattle.farm_law.proofs.Spent.{IsSpent, spent_stays, spent_not_live, spent_same, counted_spent}
 use Rattle.farm_types.specs.Farm.{Farm}
-use Rattle.farm_types.specs.Run.{IsSound, HasItsHosts, AllDiffer, counted_in, is_same}
+use Rattle.farm_types.specs.Run.{IsSound, HasItsHosts, AttemptsDiffer, counted_in, is_same}
 use Rattle.farm_types.specs.Step.{is_live, end_attempt, end_all}
 use Rattle.farm_types.specs.declared.attempt.DoneItem.{DoneItem}
 use Rattle.std.proofs.lemmas.Bool.{false≢true, or_from}
@@ -24,16 +24,16 @@ HasNoSpent f xs = (a : Attempt) → IsSpent f a → list_any (is_same a) xs ≡ 
 pub record CountsOnce (f g : Farm) (xs : List Attempt) : Type 0 where
   pub none : HasNoSpent f xs
   pub spent : AreSpent g xs
-  pub differ : AllDiffer xs
+  pub differ : AttemptsDiffer xs
 
 pub counts_none : (f g : Farm) → CountsOnce f g []
 counts_none f g = record { none = λ a spent. refl; spent = tt; differ = tt }
 
 -- ---- one after the other
 
-AllDiffer-append : (f : Farm) (xs ys : List Attempt) → AllDiffer xs → AllDiffer ys → AreSpent f xs → HasNoSpent f ys → AllDiffer (xs ++ ys)
-AllDiffer-append f [] ys dx dy sx none = dy
-AllDiffer-append f (x ∷ xs) ys dx dy sx none = (list_any-append (is_same x) xs ys ∙ or_from _ _ dx.0 (none x sx.0), AllDiffer-append f xs ys dx.1 dy sx.1 none)
+AttemptsDiffer-append : (f : Farm) (xs ys : List Attempt) → AttemptsDiffer xs → AttemptsDiffer ys → AreSpent f xs → HasNoSpent f ys → AttemptsDiffer (xs ++ ys)
+AttemptsDiffer-append f [] ys dx dy sx none = dy
+AttemptsDiffer-append f (x ∷ xs) ys dx dy sx none = (list_any-append (is_same x) xs ys ∙ or_from _ _ dx.0 (none x sx.0), AttemptsDiffer-append f xs ys dx.1 dy sx.1 none)
 
 AreSpent-append : (g k : Farm) (xs ys : List Attempt) → ((a : Attempt) → IsSpent g a → IsSpent k a) → AreSpent g xs → AreSpent k ys → AreSpent k (xs ++ ys)
 AreSpent-append g k [] ys stays first second = second
@@ -44,7 +44,7 @@ counts_then f g k xs ys stays_g stays_k first second =
     record {
       none = λ a spent. list_any-append (is_same a) xs ys ∙ or_from _ _ (first.none a spent) (second.none a (stays_g a spent));
       spent = AreSpent-append g k xs ys stays_k first.spent second.spent;
-      differ = AllDiffer-append g xs ys first.differ second.differ first.spent second.none;
+      differ = AttemptsDiffer-append g xs ys first.differ second.differ first.spent second.none;
     }
 
 -- ---- the completions of one report

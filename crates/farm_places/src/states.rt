@@ -123,17 +123,14 @@ fn state_at(books: &Books, slot: Slot) -> Option<FrameState>
 fn may_kill(state: FrameState) -> bool
     ensures { result ≡ may_kill state }
 {
-    !matches!(
-        state,
-        FrameState::Succeeded | FrameState::Eaten | FrameState::Dead
-    )
+    !state.is_done() && !matches!(state, FrameState::Dead)
 }
 
 // A frame that isn't done may be eaten.
 fn may_eat(state: FrameState) -> bool
     ensures { result ≡ may_eat state }
 {
-    !matches!(state, FrameState::Succeeded | FrameState::Eaten)
+    !state.is_done()
 }
 
 // A frame that doesn't wait may be retried.

@@ -3,6 +3,7 @@ pub mod ChangedLists
 pub mod ChangesInTurn
 pub mod ListSums
 pub mod Lists
+pub mod NextKey
 pub mod Passes
 pub mod Ranges
 pub mod Searched

@@ -1,5 +1,5 @@
 -- What every farm of the program keeps: each legal run from the empty farm, or from a farm that keeps it, does.
-use Rattle.std.specs.Prelude.{ℕ, ℤ, ◌≡◌, ◌≤◌, ◌<◌, ◌==◌, ◌&&◌, ◌||◌, ◌+◌, ◌*◌, ◌^◌, ◌/◌, ◌%◌, Bool, true, false, not, List, [], ◌∷◌, length, map, filter, sum_by, find, is_none, is_some, slice_get, nat_le, nat_lt, bytes_eq, nat_eq, Option, None, Some, if◌then◌else◌}
+use Rattle.std.specs.Prelude.{ℕ, ℤ, pos, negsuc, int_le, ◌≡◌, ◌≤◌, ◌<◌, ◌==◌, ◌&&◌, ◌||◌, ◌+◌, ◌*◌, ◌^◌, ◌/◌, ◌%◌, Bool, true, false, not, List, [], ◌∷◌, length, map, filter, sum_by, find, is_none, is_some, slice_get, nat_le, nat_lt, bytes_eq, nat_eq, Option, None, Some, if◌then◌else◌}
 use Rattle.std.specs.List.{IsDistinct, list_all}
 use Rattle.std.specs.Ordering.{int_eq}
 use Rattle.farm_types.specs.declared.attempt.ProcRow.{ProcRow}
@@ -20,7 +20,7 @@ use Rattle.farm_types.specs.DependActs.{has_number, is_running, waits_for_itself
 use Rattle.farm_types.specs.Depends.{groups_left, groups_of, is_open}
 use Rattle.farm_types.specs.Farm.{Farm, empty_farm, for_some, alloc_name, sub_of, is_placed, slot_from, layers_of}
 use Rattle.farm_types.specs.Finish.{finishes, is_finished}
-use Rattle.farm_types.specs.Formed.{is_frame_named, is_layer_name, names_frame, names_layer, names_target_frame, names_target_layer}
+use Rattle.farm_types.specs.Formed.{is_layer_name, names_frame, names_layer, names_target_frame, names_target_layer}
 use Rattle.farm_types.specs.Forms.{is_between, is_command_text, is_name_or_empty, is_name_text, is_tag_text}
 use Rattle.farm_types.specs.Jobs.{JobLists}
 use Rattle.farm_types.specs.Ranges.{is_range_text, range_numbers}
@@ -278,10 +278,16 @@ abbrev pub is_given : {X : Type 0} → Bool → Option X → Bool
 is_given true part = is_some part
 is_given false part = not (is_some part)
 
--- an end of a job's number, that names a layer and a frame where its depend's kind does, each of its form
+-- a number of 32 bits with a sign, where there is one
+abbrev pub is_number_named : Option ℤ → Bool
+is_number_named None = true
+is_number_named (Some number) = int_le (negsuc 2147483647) number && int_le number (pos 2147483647)
+
+-- An end of a job's number, that names a layer and a frame where its depend's kind does. The frame's number may be any of its type: that a layer has it is
+-- asked of an end that has to be there.
 abbrev pub is_formed_end : Bool → Bool → DependEnd → Bool
 is_formed_end layered framed e =
-    is_between 1 LAST_JOB e.job && (is_given layered e.layer && (is_layer_name e.layer && (is_given framed e.frame && is_frame_named e.frame)))
+    is_between 1 LAST_JOB e.job && (is_given layered e.layer && (is_layer_name e.layer && (is_given framed e.frame && is_number_named e.frame)))
 
 abbrev pub is_formed_depend : DependRow → Bool
 is_formed_depend d =

@@ -1,5 +1,5 @@
 -- Lists whose keys rise.
-use Rattle.std.specs.Prelude.{ℕ, ◌≤◌, ◌+◌, ◌*◌, List, [], ◌∷◌}
+use Rattle.std.specs.Prelude.{ℕ, ◌≤◌, ◌<◌, ◌==◌, ◌+◌, ◌*◌, List, [], ◌∷◌, All, find, IsSome}
 use Rattle.farm_types.specs.declared.depend.DependRow.{DependRow}
 use Rattle.farm_types.specs.declared.rows.JobRow.{JobRow}
 use Rattle.farm_types.specs.declared.rows.LayerRow.{LayerRow}
@@ -23,3 +23,9 @@ layer_key l = MOST_LAYERS * l.job + l.place
 
 abbrev pub depend_key : DependRow → ℕ
 depend_key d = d.depend
+
+-- an item has the key, it is above the other one, and no item's key lies between
+pub record IsNextKey {X : Type 0} (key : X → ℕ) (xs : List X) (after next : ℕ) : Type 0 where
+  pub there : IsSome (find (λ x. key x == next) xs)
+  pub above : after < next
+  pub least : All (λ x. after < key x → next ≤ key x) xs

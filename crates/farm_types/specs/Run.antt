@@ -111,9 +111,9 @@ abbrev pub is_same : Attempt → Attempt → Bool
 is_same a b = a.slot == b.slot && a.version == b.version
 
 -- no attempt stands twice in the list
-abbrev pub AllDiffer : List Attempt → Type 0
-AllDiffer [] = Unit {0}
-AllDiffer (a ∷ later) = (list_any (is_same a) later ≡ false) × AllDiffer later
+abbrev pub AttemptsDiffer : List Attempt → Type 0
+AttemptsDiffer [] = Unit {0}
+AttemptsDiffer (a ∷ later) = (list_any (is_same a) later ≡ false) × AttemptsDiffer later
 
 -- ---- a whole run
 
@@ -126,4 +126,4 @@ EachStepSafe f (e ∷ es) = IsSound f × ActsSafely (at_moment f (moment_of f e.
 -- no other completion of the run changes. That such a completion is of an attempt live just before is what `end_attempt` says.
 pub record IsSafe (f : Farm) (es : List Entry) : Type 0 where
   pub steps : EachStepSafe f es
-  pub once : AllDiffer (counted f es)
+  pub once : AttemptsDiffer (counted f es)

@@ -14,6 +14,7 @@ mod names;
 mod numbers;
 mod refusal;
 mod rows;
+mod single;
 mod slot_row;
 mod states;
 mod sub_line;

@@ -25,7 +25,7 @@ impl HostLife {
     pub fn is_silent(&self, moment: u64) -> bool
         ensures { result ≡ is_unheard_life moment self.now }
     {
-        matches!(self.state, HostState::Up) && is_past(self.heard, moment)
+        self.state.is_up() && is_past(self.heard, moment)
     }
 }
 

@@ -197,9 +197,9 @@ module _ (jobs : List JobRow) (high : ℕ) (most : high ≤ JOB_NUMBERS) (rise :
   pub few_stay : length numbers ≤ MOST_FINISHED → jobs ≡ cut_finished jobs
   few_stay few = let within : nat_lt MOST_FINISHED (length (filter is_finished jobs)) ≡ false = le-ltb MOST_FINISHED (length (filter is_finished jobs)) (omega (arith, few, as_many)) in rw within refl
 
-  module _ (more : MOST_FINISHED < length numbers) (first : ℕ) (is : first ≡ get_or numbers 0 first) where
+  module _ (some : 0 < length numbers) (first : ℕ) (is : first ≡ get_or numbers 0 first) where
     f : HasFirst keys
-    f = first_key keys (omega (arith, more, ap (λ (ns : List ℕ). length ns) numbers_are, length-map keys job_of))
+    f = first_key keys (omega (arith, some, ap (λ (ns : List ℕ). length ns) numbers_are, length-map keys job_of))
 
     its_number : first ≡ job_of f.key
     its_number = is ∙ ap (λ (ns : List ℕ). get_or ns 0 first) (numbers_are ∙ ap (map job_of) f.is)
@@ -210,8 +210,8 @@ module _ (jobs : List JobRow) (high : ℕ) (most : high ≤ JOB_NUMBERS) (rise :
     pub can_go : for_some (find (λ (j : JobRow). eqb j.job first) jobs) is_finished ≡ true
     can_go = ap (λ (n : ℕ). for_some (find (λ (j : JobRow). eqb j.job n) jobs) is_finished) its_number ∙ first_leaves jobs high most rise f.key itself
 
-    pub goes : IsDistinct nat_eq (map finish_of (filter is_finished jobs)) → filter (λ (j : JobRow). not (eqb j.job first)) jobs ≡ cut_finished jobs
-    goes differ =
+    pub goes : MOST_FINISHED < length numbers → IsDistinct nat_eq (map finish_of (filter is_finished jobs)) → filter (λ (j : JobRow). not (eqb j.job first)) jobs ≡ cut_finished jobs
+    goes more differ =
         ap (λ (n : ℕ). filter (λ (j : JobRow). not (eqb j.job n)) jobs) its_number
         ∙ first_goes jobs high most rise f.key itself differ (lt-ltb MOST_FINISHED (length (filter is_finished jobs)) (omega (arith, more, as_many)))
 

@@ -1,5 +1,5 @@
 -- The finished jobs in the order of their finish, as one more finishes.
-use Rattle.std.proofs.Common.{◌≡◌, ℕ, zero, suc, ◌+◌, ◌*◌, ◌-◌, ◌≤◌, ◌<◌, ◌&&◌, ◌||◌, Bool, true, false, not, cond, eqb, ltb, List, [], ◌∷◌, ◌++◌, map, filter, length, drop, Option, Some, None, refl, sym, ap, subst, ◌∙◌, arith}
+use Rattle.std.proofs.Common.{◌≡◌, ℕ, suc, ◌+◌, ◌-◌, ◌≤◌, ◌<◌, ◌&&◌, ◌||◌, Bool, true, false, not, cond, eqb, ltb, List, [], ◌∷◌, ◌++◌, map, filter, length, drop, Option, Some, None, refl, sym, ap, subst, ◌∙◌, arith}
 use Rattle.std.specs.Prelude.{get_or, nat_eq, nat_lt}
 use Rattle.std.specs.List.{IsDistinct, list_all, list_any, position_or_len, slice_get}
 use Rattle.std.proofs.lemmas.Bool.{false≢true, eqb-true, ltb-false, ltb-true, le-ltb, lt-ltb}
@@ -19,7 +19,7 @@ use Rattle.job_book.specs.Entries.{finished_by}
 use Rattle.job_book.specs.Finished.{KeepsFinished, finish_key, finished_of, has_finish, leaver}
 use Rattle.job_book.specs.Ready.{job_of, put_key, sorted}
 use Rattle.job_book.proofs.CutJobs.{few_stay, goes, later_left}
-use Rattle.job_book.proofs.FinishedRows.{IsThere, ended, finished_finished, finishes_differ, is_there, rows_are, rows_rise}
+use Rattle.job_book.proofs.FinishedRows.{IsThere, count_done, ended, finished_finished, finishes_differ, is_there, rows_are, rows_rise}
 use Rattle.job_book.proofs.LeftJobs.{not_true}
 use Rattle.job_book.proofs.ReadyLists.{at_bounds, length-sorted, none-put, number_of_key}
 
@@ -85,11 +85,15 @@ module _ (job finish : ℕ) (slots : List SlotRow) (jobs : List JobRow) (high : 
       below j false is has above = omega (arith, above (ap not is), less)
 
   keeps : KeepsFinished jobs (keys_of jobs)
-  keeps = record { keys_are = refl; within = all_known; few = omega (arith, few) }
+  keeps = record { keys_are = refl; within = all_known }
 
   -- the book's keys then
   news_keep : KeepsFinished news (put_key (finish_key last) (keys_of jobs))
-  news_keep = subst (λ (js : List JobRow). KeepsFinished js (put_key (finish_key last) (keys_of jobs))) news_are (finished_finished job finish (counts_of job slots) jobs high most rise there (keys_of jobs) less few keeps)
+  news_keep = subst (λ (js : List JobRow). KeepsFinished js (put_key (finish_key last) (keys_of jobs))) news_are (finished_finished job finish (counts_of job slots) jobs high most rise there (keys_of jobs) less keeps)
+
+  -- one more than before at most
+  news_few : length (filter is_finished news) ≤ MOST_FINISHED + 1
+  news_few = subst (λ (js : List JobRow). length (filter is_finished js) ≤ MOST_FINISHED + 1) news_are (omega (arith, few, count_done job finish (counts_of job slots) 0 jobs high rise))
 
   news_rise : IsRising job_key 0 news high
   news_rise = subst (λ (js : List JobRow). IsRising job_key 0 js high) news_are (rows_rise job finish (counts_of job slots) 0 jobs high rise)
@@ -135,11 +139,11 @@ module _ (job finish : ℕ) (slots : List SlotRow) (jobs : List JobRow) (high : 
   cut_by true is =
       let more : MOST_FINISHED < length (finished_of news) = ltb-true MOST_FINISHED (length (finished_of news)) is in
       let first = first_of (finished_of news) more in
-      let gone = goes news high most news_rise (keys_of news) (finished_of news) refl refl more first.0 first.2 news_differ in
-      let few_then : length (finished_of news) ≤ MOST_FINISHED + 1 = omega (arith, length-map (keys_of news) job_of, length-sorted (map finish_key (filter is_finished news)), length-map (filter is_finished news) finish_key, news_keep.few) in
+      let gone = goes news high most news_rise (keys_of news) (finished_of news) refl refl (omega (arith, more)) first.0 first.2 more news_differ in
+      let few_then : length (finished_of news) ≤ MOST_FINISHED + 1 = omega (arith, length-map (keys_of news) job_of, length-sorted (map finish_key (filter is_finished news)), length-map (filter is_finished news) finish_key, news_few) in
       let one : length (finished_of news) - MOST_FINISHED ≡ 1 = omega (arith, few_then, more) in (
         sym gone ∙ sym (ap (λ (c : Bool). without_job (cond c (slice_get (finished_of news) 0) None) news) is ∙ ap (λ (o : Option ℕ). without_job o news) first.1),
-        ap finished_of (sym gone) ∙ (later_left news high most news_rise (keys_of news) (finished_of news) refl refl more first.0 first.2 kept_then ∙ sym (ap (λ (n : ℕ). drop n (finished_of news)) one)),
+        ap finished_of (sym gone) ∙ (later_left news high most news_rise (keys_of news) (finished_of news) refl refl (omega (arith, more)) first.0 first.2 kept_then ∙ sym (ap (λ (n : ℕ). drop n (finished_of news)) one)),
       )
 
   pub cut_is : (cut_finished news ≡ without_job (leaver order) news) × (finished_of (cut_finished news) ≡ drop (length order - MOST_FINISHED) order)

@@ -162,7 +162,7 @@ module _ (job finish : ℕ) (c : Counts) where
 
   -- ---- finished jobs
 
-  count_done : (low : ℕ) (js : List JobRow) (high : ℕ) → IsRising job_key low js high → length (filter is_finished (map row js)) ≤ length (filter is_finished js) + 1
+  pub count_done : (low : ℕ) (js : List JobRow) (high : ℕ) → IsRising job_key low js high → length (filter is_finished (map row js)) ≤ length (filter is_finished js) + 1
   count_done low [] high rise = omega arith
   count_done low (j ∷ js) high rise = by (eqb j.job job) (is_finished j) refl refl (count_done (j.job + 1) js high rise.1)
     where
@@ -222,23 +222,22 @@ module _ (job finish : ℕ) (c : Counts) where
         by true is = rw is (lt-ltb finish JOB_NUMBERS less)
         by false is = rw is h
 
-    pub finished_finished : (keys : List ℕ) → finish < JOB_NUMBERS → length (filter is_finished jobs) ≤ MOST_FINISHED → KeepsFinished jobs keys → KeepsFinished (map row jobs) (put_key (finish_key ended) keys)
-    finished_finished keys less few keeps =
+    pub finished_finished : (keys : List ℕ) → finish < JOB_NUMBERS → KeepsFinished jobs keys → KeepsFinished (map row jobs) (put_key (finish_key ended) keys)
+    finished_finished keys less keeps =
         record {
           keys_are = ap (put_key (finish_key ended)) keeps.keys_are ∙ sym put_then;
           within = all_rows has_finish has_finish (within less) jobs keeps.within;
-          few = omega (arith, few, count_done 0 jobs high rise);
         }
 
     -- its key isn't there, and one more fits
-    pub can_put_then : (keys : List ℕ) → finish < JOB_NUMBERS → KeepsFinished jobs keys → (has_finish ended && can_put (finish_key ended) keys) ≡ true
-    can_put_then keys less keeps =
+    pub can_put_then : (keys : List ℕ) → finish < JOB_NUMBERS → length (filter is_finished jobs) ≤ MOST_FINISHED → KeepsFinished jobs keys → (has_finish ended && can_put (finish_key ended) keys) ≡ true
+    can_put_then keys less few keeps =
         let bounds = at_bounds 0 jobs high place there.row rise at in
         let new : list_any (λ (k : ℕ). eqb k (finish_key ended)) keys ≡ false =
         ap (list_any (λ (k : ℕ). eqb k (finish_key ended))) (keeps.keys_are ∙ sym (same_finished there.row.job there.number))
         ∙ absent ended refl 0 (map row jobs) high most bounds.1 (rows_rise 0 jobs high rise) in
         let long = ap (λ (ks : List ℕ). length ks) keeps.keys_are in
-        let room : length keys < MOST_JOBS = omega (arith, long, length-sorted (map finish_key (filter is_finished jobs)), length-map (filter is_finished jobs) finish_key, keeps.few) in
+        let room : length keys < MOST_JOBS = omega (arith, long, length-sorted (map finish_key (filter is_finished jobs)), length-map (filter is_finished jobs) finish_key, few) in
         and_from (has_finish ended) (can_put (finish_key ended) keys) (lt-ltb finish JOB_NUMBERS less)
         (and_from (not (list_any (λ (k : ℕ). eqb k (finish_key ended)) keys)) (ltb (length keys) MOST_JOBS) (not_from_false _ new) (lt-ltb (length keys) MOST_JOBS room))
 

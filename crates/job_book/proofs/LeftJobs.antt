@@ -227,17 +227,6 @@ module _ (j : JobRow) (done : is_finished j ≡ true) where
           rw (e, f) (none-put (λ (k : ℕ). eqb k (finish_key j)) (finish_key r) (keys_of_finished (filter (remains j.job) rs)) (ne_eqb (finish_key r) (finish_key j) apart) later)
       by false false e f few later = rw (e, f) later
 
-  fewer_left : (js : List JobRow) → length (filter is_finished (filter (remains j.job) js)) ≤ length (filter is_finished js)
-  fewer_left [] = omega arith
-  fewer_left (r ∷ rs) = by (eqb r.job j.job) (is_finished r) refl refl (fewer_left rs)
-    where
-      by : (a b : Bool) → eqb r.job j.job ≡ a → is_finished r ≡ b → length (filter is_finished (filter (remains j.job) rs)) ≤ length (filter is_finished rs)
-          → length (filter is_finished (filter (remains j.job) (r ∷ rs))) ≤ length (filter is_finished (r ∷ rs))
-      by true true e f later = rw (e, f) (omega (arith, later))
-      by true false e f later = rw (e, f) later
-      by false true e f later = rw (e, f) (omega (arith, later))
-      by false false e f later = rw (e, f) later
-
   pub finished_left : (jobs : List JobRow) (high i : ℕ) (keys : List ℕ) → high ≤ JOB_NUMBERS → IsRising job_key 0 jobs high → slice_get jobs i ≡ Some j → KeepsFinished jobs keys
       → KeepsFinished (filter (remains j.job) jobs) (drop_key (finish_key j) keys)
   finished_left jobs high i keys most rise at keeps =
@@ -246,7 +235,6 @@ module _ (j : JobRow) (done : is_finished j ≡ true) where
         keys_are = ap (drop_key (finish_key j)) (keeps.keys_are ∙ put_back 0 jobs high i most rise at)
             ∙ drop_put (finish_key j) (keys_of_finished (filter (remains j.job) jobs)) (absent 0 jobs high most bounds.1 rise);
         within = all_left j.job has_finish jobs keeps.within;
-        few = omega (arith, keeps.few, fewer_left jobs);
       }
 
 -- ---- a finished job of a name

@@ -1,3 +1,4 @@
+pub mod FinishNumbers
 pub mod Held
 pub mod HeldLists
 pub mod HeldKept

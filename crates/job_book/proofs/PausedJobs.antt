@@ -1,5 +1,5 @@
 -- One job is paused or resumed: where its row stands, and what the book keeps of the other fields.
-use Rattle.std.proofs.Common.{◌≡◌, ℕ, suc, ◌+◌, ◌<◌, ◌≤◌, Bool, true, false, cond, eqb, List, [], ◌∷◌, map, filter, length, refl, sym, ap, ◌∙◌, arith}
+use Rattle.std.proofs.Common.{◌≡◌, ℕ, suc, ◌+◌, ◌<◌, ◌≤◌, Bool, true, false, cond, eqb, List, [], ◌∷◌, map, filter, refl, sym, ap, ◌∙◌, arith}
 use Rattle.std.specs.List.{list_all, position_or_len}
 use Rattle.std.proofs.lemmas.Bool.{eqb-true, ne_eqb}
 use Rattle.std.proofs.lemmas.List.{length-map}
@@ -112,7 +112,6 @@ module _ (job : ℕ) (paused : Bool) where
       record {
         keys_are = keeps.keys_are ∙ sym (ap sorted same);
         within = all_kept has_finish (kept has_finish (λ j. refl)) jobs ∙ keeps.within;
-        few = omega (arith, keeps.few, ap (λ (ns : List ℕ). length ns) same, length-map (filter is_finished (map row jobs)) finish_key, length-map (filter is_finished jobs) finish_key);
       }
 
   pub paused_ready : (jobs : List JobRow) (slots : List SlotRow) (ready : List (List ℕ)) → KeepsReady jobs slots ready → KeepsReady (map row jobs) slots ready

@@ -397,7 +397,6 @@ placed_finished b show spec keys keeps =
     record {
       keys_are = keeps.keys_are ∙ ap (λ (js : List JobRow). sorted (map finish_key js)) (sym same);
       within = list_all-append has_finish b.jobs (job_row b.next_job show spec ∷ []) ∙ and_from _ _ keeps.within refl;
-      few = omega (arith, keeps.few, ap (λ (js : List JobRow). length js) same);
     }
 
 -- ---- how many jobs there are

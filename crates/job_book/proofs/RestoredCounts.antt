@@ -14,7 +14,7 @@ use Rattle.farm_types.specs.Farm.{for_some}
 use Rattle.farm_types.specs.Rising.{IsRising, job_key}
 use Rattle.job_book.specs.declared.counts.Counts.{Counts}
 use Rattle.job_book.specs.Book.{count_in, counts_of, is_in, number_of}
-use Rattle.job_book.specs.Counting.{new_counts, one, part, raised}
+use Rattle.job_book.specs.Counting.{new_counts, one, part, counted_in}
 use Rattle.job_book.specs.Inside.{counts_for}
 use Rattle.job_book.specs.Restored.{HasFew, counted_frame}
 use Rattle.job_book.proofs.InState.{part_is, same_counts}
@@ -37,14 +37,14 @@ pub none_counted : (js : List JobRow) → replicate (length js) (new_counts 0) �
 none_counted [] = refl
 none_counted (j ∷ js) = ap (λ (cs : List Counts). new_counts 0 ∷ cs) (none_counted js)
 
-part_raised : (state : FrameState) (c : Counts) (other : FrameState) → part other (raised state c) ≡ part other c + one state (number_of other)
-part_raised state c Waiting = refl
-part_raised state c Setup = refl
-part_raised state c Running = refl
-part_raised state c Succeeded = refl
-part_raised state c Depend = refl
-part_raised state c Dead = refl
-part_raised state c Eaten = refl
+part_counted_in : (state : FrameState) (c : Counts) (other : FrameState) → part other (counted_in state c) ≡ part other c + one state (number_of other)
+part_counted_in state c Waiting = refl
+part_counted_in state c Setup = refl
+part_counted_in state c Running = refl
+part_counted_in state c Succeeded = refl
+part_counted_in state c Depend = refl
+part_counted_in state c Dead = refl
+part_counted_in state c Eaten = refl
 
 module _ (slots : List SlotRow) (s : SlotRow) where
   abbrev more : List SlotRow
@@ -70,12 +70,12 @@ module _ (slots : List SlotRow) (s : SlotRow) where
       let none : ◌≡◌ {A = ℕ} (cond (is_in job state x) 1 0) 0 = rw apart refl in
       part_is job more state ∙ omega (arith, count_with (Some x) is job state, none) ∙ sym (part_is job slots state))
 
-  one_more : (x : Frame) → s.frame ≡ Some x → counts_of x.job more ≡ raised x.state (counts_of x.job slots)
+  one_more : (x : Frame) → s.frame ≡ Some x → counts_of x.job more ≡ counted_in x.state (counts_of x.job slots)
   one_more x is =
-      same_counts (counts_of x.job more) (raised x.state (counts_of x.job slots)) (λ state.
+      same_counts (counts_of x.job more) (counted_in x.state (counts_of x.job slots)) (λ state.
       let itself : eqb x.job x.job ≡ true = eq-eqb x.job x.job refl in
       let here : cond (is_in x.job state x) 1 0 ≡ one x.state (number_of state) = rw itself refl in
-      part_is x.job more state ∙ omega (arith, count_with (Some x) is x.job state, here, part_is x.job slots state) ∙ sym (part_raised x.state (counts_of x.job slots) state))
+      part_is x.job more state ∙ omega (arith, count_with (Some x) is x.job state, here, part_is x.job slots state) ∙ sym (part_counted_in x.state (counts_of x.job slots) state))
 
   -- one slot more is its frame more
   pub count_more : (js : List JobRow) (high : ℕ) → IsRising job_key 0 js high → counts_for js more ≡ counted_frame js s.frame (counts_for js slots)
@@ -83,4 +83,4 @@ module _ (slots : List SlotRow) (s : SlotRow) where
     where
       by : (frame : Option Frame) → s.frame ≡ frame → counts_for js more ≡ counted_frame js frame (counts_for js slots)
       by None is = all_none is js
-      by (Some x) is = recounted (λ job. counts_of job slots) (λ job. counts_of job more) x.job (raised x.state) (λ job apart. other_more x is job apart) (one_more x is) 0 js high rise
+      by (Some x) is = recounted (λ job. counts_of job slots) (λ job. counts_of job more) x.job (counted_in x.state) (λ job apart. other_more x is job apart) (one_more x is) 0 js high rise

@@ -21,8 +21,8 @@ part frame_state.Dead c = c.dead
 part frame_state.Eaten c = c.eaten
 
 -- one fewer in that state
-abbrev pub lowered : FrameState → Counts → Counts
-lowered state c =
+abbrev pub counted_out : FrameState → Counts → Counts
+counted_out state c =
     record {
       waiting = c.waiting - one state 0;
       setup = c.setup - one state 1;
@@ -34,8 +34,8 @@ lowered state c =
     }
 
 -- one more in that state
-abbrev pub raised : FrameState → Counts → Counts
-raised state c =
+abbrev pub counted_in : FrameState → Counts → Counts
+counted_in state c =
     record {
       waiting = c.waiting + one state 0;
       setup = c.setup + one state 1;
@@ -48,7 +48,7 @@ raised state c =
 
 -- a frame gone from one state into another
 abbrev pub moved : FrameState → FrameState → Counts → Counts
-moved old new c = raised new (lowered old c)
+moved old new c = counted_in new (counted_out old c)
 
 -- some frame is counted in the old state, and no state counts more frames than there are slots
 abbrev pub CanMove : FrameState → FrameState → Counts → Type 0

@@ -1,8 +1,11 @@
 -- The finished jobs, as the book keeps them: by keys that rise.
-use Rattle.std.specs.Prelude.{ℕ, ◌≡◌, ◌≤◌, ◌&&◌, ◌==◌, ◌+◌, ◌*◌, Bool, true, not, List, map, filter, length, nat_lt, Option, None, slice_get, if◌then◌else◌}
-use Rattle.std.specs.List.{list_all, list_any}
+use Rattle.std.specs.Prelude.{ℕ, ◌≡◌, ◌≤◌, ◌&&◌, ◌==◌, ◌+◌, ◌*◌, Bool, true, not, List, map, filter, length, nat_eq, nat_le, nat_lt, Option, None, slice_get, if◌then◌else◌}
+use Rattle.std.specs.List.{IsDistinct, list_all, list_any}
 use Rattle.farm_types.specs.declared.rows.JobRow.{JobRow}
-use Rattle.farm_types.specs.Finish.{is_finished}
+use Rattle.farm_types.specs.declared.rows.LayerRow.{LayerRow}
+use Rattle.farm_types.specs.Finish.{finished_row, freed_row, is_finished}
+use Rattle.farm_types.specs.Jobs.{JobLists}
+use Rattle.farm_types.specs.Kept.{finish_of, has_its_finish, is_pending_job}
 use Rattle.farm_types.specs.declared.limits.TheConstants.{MOST_FINISHED}
 use Rattle.job_book.specs.Ready.{job_of, sorted}
 use Rattle.job_book.specs.declared.jobs.TheConstants.{MOST_JOBS}
@@ -24,11 +27,33 @@ finished_of jobs = map job_of (sorted (map finish_key (filter is_finished jobs))
 abbrev pub leaver : List ℕ → Option ℕ
 leaver order = if nat_lt MOST_FINISHED (length order) then slice_get order 0 else None
 
--- the keys of the finished jobs, of which there is one more than are kept at most
+-- of finished jobs in that order, as many as are kept, the first one, which leaves before one more finishes
+abbrev pub first_of_full : List ℕ → Option ℕ
+first_of_full order = if nat_le MOST_FINISHED (length order) then slice_get order 0 else None
+
+-- the keys of the finished jobs
 pub record KeepsFinished (jobs : List JobRow) (keys : List ℕ) : Type 0 where
   pub keys_are : keys ≡ sorted (map finish_key (filter is_finished jobs))
   pub within : list_all has_finish jobs ≡ true
-  pub few : length (filter is_finished jobs) ≤ MOST_FINISHED + 1
+
+-- Each finished job has a number of its own below that of the next finish, for each pending job one is left, and no more are finished than are kept.
+pub record KeepsFinishes (jobs : List JobRow) (next_job next_finish : ℕ) : Type 0 where
+  pub from : 1 ≤ next_finish
+  pub left : next_finish + length (filter is_pending_job jobs) ≤ next_job
+  pub numbered : list_all (has_its_finish next_finish) jobs ≡ true
+  pub differ : IsDistinct nat_eq (map finish_of (filter is_finished jobs))
+  pub few : length (filter is_finished jobs) ≤ MOST_FINISHED
+
+-- the lists with that job finished beside all that are
+abbrev pub with_one_finished : ℕ → JobLists → JobLists
+with_one_finished job b =
+    record {
+      jobs = map (λ (j : JobRow). if j.job == job then finished_row b.slots b.next_finish j else j) b.jobs;
+      layers = filter (λ (l : LayerRow). not (l.job == job)) b.layers;
+      slots = map (freed_row job) b.slots;
+      next_job = b.next_job;
+      next_finish = b.next_finish + 1;
+    }
 
 -- the key isn't there, and one more fits
 abbrev pub can_put : ℕ → List ℕ → Bool

@@ -13,7 +13,7 @@ use Rattle.farm_types.specs.Rising.{IsRising, job_key}
 use Rattle.job_book.specs.declared.counts.Counts.{Counts}
 use Rattle.job_book.specs.declared.jobs.Jobs.TheInside.{Inside}
 use Rattle.job_book.specs.Book.{counts_of}
-use Rattle.job_book.specs.Finished.{KeepsFinished}
+use Rattle.job_book.specs.Finished.{KeepsFinished, KeepsFinishes}
 use Rattle.job_book.specs.Names.{KeepsNames}
 use Rattle.job_book.specs.Ready.{KeepsReady}
 use Rattle.job_book.specs.Layers.{KeepsLayers, KeepsWaiting, slots_of}
@@ -73,11 +73,12 @@ pub record KeepsFree (free lowest : ℕ) (slots : List SlotRow) : Type 0 where
   pub within : lowest ≤ length slots
   pub none_below : free_among (drop lowest slots) ≡ free_among slots
 
--- the names, the counts, the finished jobs and the free slots that are kept are those of the jobs and the slots, and there is
--- capacity for all slots
+-- finishes have their numbers; the names, the counts, the finished jobs and the free slots that are kept are those of the jobs and
+-- the slots, and there is capacity for all slots
 pub record KeepsBook (book : Inside) : Type 0 where
   pub lists : IsBook (book_of book)
   pub names : KeepsNames book.names book.entries.rows
+  pub finishes : KeepsFinishes book.entries.rows book.entries.next book.next_finish
   pub finished : KeepsFinished book.entries.rows book.finished
   pub free : KeepsFree book.free book.lowest book.slots.items
   pub layers : KeepsLayers book.entries.layers book.slots.items (map slots_of book.entries.index)

@@ -13,7 +13,7 @@ use Rattle.farm_types.specs.Jobs.{JobLists}
 use Rattle.farm_types.specs.Ranges.{range_numbers}
 use Rattle.job_book.specs.declared.counts.Counts.{Counts}
 use Rattle.job_book.specs.declared.entries.Place.{Place}
-use Rattle.job_book.specs.Counting.{part, raised}
+use Rattle.job_book.specs.Counting.{part, counted_in}
 use Rattle.job_book.specs.Entries.{are_layers}
 use Rattle.job_book.specs.Layers.{LayerPlaces, layer_position}
 use Rattle.job_book.specs.Ready.{ready_key}
@@ -31,7 +31,7 @@ HasFew c = (state : FrameState) → part state c ≤ SLOT_LIMIT
 -- the counts of these jobs with one frame more
 abbrev pub counted_frame : List JobRow → Option Frame → List Counts → List Counts
 counted_frame rows None counts = counts
-counted_frame rows (Some x) counts = changed_at counts (position_or_len (λ (j : JobRow). j.job == x.job) rows) (raised x.state)
+counted_frame rows (Some x) counts = changed_at counts (position_or_len (λ (j : JobRow). j.job == x.job) rows) (counted_in x.state)
 
 -- ---- where the frames of layers stand
 

@@ -2,12 +2,11 @@
 
 ghost use Rattle.std.specs.Prelude.{◌≡◌, ◌<◌, length, slice_get, slice_set};
 ghost use Rattle.std.specs.Vec.{vec_capacity};
-ghost use Rattle.farm_types.specs.Booking.{is_waiting};
 ghost use Rattle.job_book.specs.Book.{KeepsFrame};
 
 use crate::jobs::Jobs;
 use crate::ready::{change_ready, has_waiting};
-use farm_types::{FrameState, Slot, SlotRow};
+use farm_types::{Slot, SlotRow};
 
 impl Jobs {
     /// The slot holds this row, whose frame is the one that stands there, in any state and with any retries.
@@ -30,16 +29,9 @@ impl Jobs {
         let has = has_waiting(&self.entries, job);
         change_ready(&mut self.ready, &self.entries, job, had, has);
         self.entries
-            .mark(job, was.layer, was.position, is_waiting(frame.state));
+            .mark(job, was.layer, was.position, frame.state.is_waiting());
         set_row(&mut self.slots, slot, *row);
     }
-}
-
-/// Whether a frame in the state waits.
-pub(crate) fn is_waiting(state: FrameState) -> bool
-    ensures { result ≡ is_waiting state }
-{
-    matches!(state, FrameState::Waiting)
 }
 
 /// What stands in the slot is set.

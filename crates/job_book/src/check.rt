@@ -14,9 +14,7 @@ use crate::entries::Entries;
 use crate::jobs::Jobs;
 use crate::placing::{JobFault, Placing};
 use crate::put::next_free;
-use farm_types::{
-    Counted, JobNo, JobSpec, JobState, LAST_JOB, LayerSpec, Refusal, ShowNo, Slot, Text,
-};
+use farm_types::{Counted, JobNo, JobSpec, LAST_JOB, LayerSpec, Refusal, ShowNo, Slot, Text};
 use std::alloc::{AllocError, Global};
 
 impl Jobs {
@@ -93,7 +91,7 @@ pub(crate) fn is_pending_in(entries: &Entries, job: JobNo) -> bool
 {
     match entries.row(job) {
         None => false,
-        Some(row) => matches!(row.state, JobState::Pending),
+        Some(row) => row.state.is_pending(),
     }
 }
 

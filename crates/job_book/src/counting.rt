@@ -2,7 +2,7 @@
 
 ghost use Rattle.std.specs.Prelude.{◌≡◌, ◌<◌, ◌≤◌};
 ghost use Rattle.farm_types.specs.declared.limits.TheConstants.{SLOT_LIMIT};
-ghost use Rattle.job_book.specs.Counting.{part, lowered, raised, CanMove, moved};
+ghost use Rattle.job_book.specs.Counting.{CanMove, counted_in, counted_out, moved, part};
 
 use crate::counts::Counts;
 use farm_types::FrameState;
@@ -12,41 +12,41 @@ pub(crate) fn moved(counts: Counts, old: FrameState, new: FrameState) -> Counts
     requires { CanMove old new counts }
     ensures { result ≡ moved old new counts }
 {
-    raised(lowered(counts, old), new)
+    counted_in(counted_out(counts, old), new)
 }
 
 // One fewer in that state.
-fn lowered(counts: Counts, state: FrameState) -> Counts
+fn counted_out(counts: Counts, state: FrameState) -> Counts
     requires { 0 < part state counts }
-    ensures { result ≡ lowered state counts }
+    ensures { result ≡ counted_out state counts }
 {
-    let mut lowered = counts;
+    let mut fewer = counts;
     match state {
-        FrameState::Waiting => lowered.waiting -= 1,
-        FrameState::Setup => lowered.setup -= 1,
-        FrameState::Running => lowered.running -= 1,
-        FrameState::Succeeded => lowered.succeeded -= 1,
-        FrameState::Depend => lowered.depend -= 1,
-        FrameState::Dead => lowered.dead -= 1,
-        FrameState::Eaten => lowered.eaten -= 1,
+        FrameState::Waiting => fewer.waiting -= 1,
+        FrameState::Setup => fewer.setup -= 1,
+        FrameState::Running => fewer.running -= 1,
+        FrameState::Succeeded => fewer.succeeded -= 1,
+        FrameState::Depend => fewer.depend -= 1,
+        FrameState::Dead => fewer.dead -= 1,
+        FrameState::Eaten => fewer.eaten -= 1,
     }
-    lowered
+    fewer
 }
 
 /// One more in that state.
-pub(crate) fn raised(counts: Counts, state: FrameState) -> Counts
+pub(crate) fn counted_in(counts: Counts, state: FrameState) -> Counts
     requires { part state counts ≤ SLOT_LIMIT }
-    ensures { result ≡ raised state counts }
+    ensures { result ≡ counted_in state counts }
 {
-    let mut raised = counts;
+    let mut more = counts;
     match state {
-        FrameState::Waiting => raised.waiting += 1,
-        FrameState::Setup => raised.setup += 1,
-        FrameState::Running => raised.running += 1,
-        FrameState::Succeeded => raised.succeeded += 1,
-        FrameState::Depend => raised.depend += 1,
-        FrameState::Dead => raised.dead += 1,
-        FrameState::Eaten => raised.eaten += 1,
+        FrameState::Waiting => more.waiting += 1,
+        FrameState::Setup => more.setup += 1,
+        FrameState::Running => more.running += 1,
+        FrameState::Succeeded => more.succeeded += 1,
+        FrameState::Depend => more.depend += 1,
+        FrameState::Dead => more.dead += 1,
+        FrameState::Eaten => more.eaten += 1,
     }
-    raised
+    more
 }

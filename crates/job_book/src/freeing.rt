@@ -5,7 +5,6 @@ ghost use Rattle.std.specs.Vec.{vec_capacity};
 ghost use Rattle.farm_types.specs.Farm.{changed_at};
 ghost use Rattle.farm_types.specs.Finish.{freed_row, is_frame_of};
 ghost use Rattle.farm_types.specs.Jobs.{is_free};
-ghost use Rattle.farm_types.specs.Settle.{raised};
 ghost use Rattle.farm_types.specs.declared.limits.TheConstants.{SLOT_LIMIT};
 ghost use Rattle.job_book.specs.Freed.{freed_all, freed_at, without_frame};
 ghost use Rattle.job_book.specs.Inside.{KeepsFree};
@@ -14,7 +13,7 @@ ghost use Rattle.job_book.specs.Layers.{slots_of};
 use crate::change::set_row;
 use crate::layer_frames::LayerFrames;
 use crate::put::{is_free, row_at};
-use farm_types::{JobNo, LAST_VERSION, Slot, SlotRow, Version};
+use farm_types::{JobNo, Slot, SlotRow};
 
 /// How many slots are free, and a slot below which none is.
 #[derive(Clone, Copy, Debug, PartialEq, Eq)]
@@ -109,18 +108,8 @@ fn freed_row(row: &SlotRow) -> SlotRow
     ensures { result ≡ without_frame row.now }
 {
     SlotRow {
-        version: raised(row.version),
+        version: row.version.next(),
         frame: None,
         proc: None,
     }
-}
-
-// The next version, but the last one stays.
-fn raised(version: Version) -> Version
-    ensures { result ≡ raised version }
-{
-    if version.0 < LAST_VERSION {
-        return Version(version.0 + 1);
-    }
-    version
 }

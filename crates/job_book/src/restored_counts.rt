@@ -9,7 +9,7 @@ ghost use Rattle.job_book.specs.declared.ready_jobs.TheConstants.{JOB_NUMBERS};
 ghost use Rattle.job_book.specs.Inside.{counts_for};
 ghost use Rattle.job_book.specs.Restored.{HasFew, counted_frame};
 
-use crate::counting::raised;
+use crate::counting::counted_in;
 use crate::counts::Counts;
 use crate::place::all_waiting;
 use farm_types::{JobNo, JobRow, SlotRow};
@@ -51,7 +51,7 @@ fn count_frame(counts: &mut Vec<Counts>, rows: &[JobRow], slot: &SlotRow)
     };
     let at = job_place(rows, frame.job);
     if at < counts.len() {
-        counts[at] = raised(counts[at], frame.state);
+        counts[at] = counted_in(counts[at], frame.state);
     }
 }
 

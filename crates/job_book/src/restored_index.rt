@@ -12,7 +12,6 @@ ghost use Rattle.job_book.specs.declared.ready_jobs.TheConstants.{JOB_NUMBERS};
 ghost use Rattle.job_book.specs.Layers.{layer_position};
 ghost use Rattle.job_book.specs.Restored.{noted_frame, noted_from, range_length, unplaced, with_slot};
 
-use crate::change::is_waiting;
 use crate::layer_frames::LayerFrames;
 use farm_types::{Frame, JobNo, LayerRow, MOST_LAYERS, Slot, SlotRow, Text};
 use frame_range::parse_set;
@@ -88,7 +87,7 @@ fn note_at(index: &mut Vec<LayerFrames>, place: usize, slot: Slot, frame: &Frame
     ensures { index.new.items ≡ changed_at index.old.items place (with_slot frame.now.position slot (is_waiting frame.now.state)) }
 {
     if place < index.len() {
-        index[place].note(frame.position, slot, is_waiting(frame.state));
+        index[place].note(frame.position, slot, frame.state.is_waiting());
     }
 }
 

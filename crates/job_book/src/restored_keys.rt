@@ -19,7 +19,7 @@ use crate::leave::finish_key;
 use crate::ready::ready_key;
 use crate::ready_jobs::ReadyJobs;
 use crate::restored_counts::counts_at;
-use farm_types::{Items, JobRow, JobState, MOST_SHOWS};
+use farm_types::{Items, JobRow, MOST_SHOWS};
 use std::alloc::{AllocError, Global};
 
 /// The names of these jobs, each of which is copied.
@@ -65,7 +65,7 @@ fn finished_keys(alloc: Global, rows: &[JobRow]) -> Result<Vec<u64>, AllocError>
 fn is_finished(row: &JobRow) -> bool
     ensures { result ≡ is_finished row.now }
 {
-    !matches!(row.state, JobState::Pending)
+    !row.state.is_pending()
 }
 
 /// Each show's ready jobs, where these are all jobs and their counts.

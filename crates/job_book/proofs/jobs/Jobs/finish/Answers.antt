@@ -1,122 +1,34 @@
-use Rattle.std.proofs.Common.{◌≡◌, ◌∙◌, ◌+◌, ◌≤◌, ◌<◌, ◌&&◌, List, Option, Some, eqb, filter, length, map, is_some, sym, ap, subst, arith}
-use Rattle.std.specs.Prelude.{nat_eq}
-use Rattle.std.specs.List.{IsDistinct, find, list_all, position_or_len, slice_get}
-use Rattle.std.specs.Option.{IfSome}
+use Rattle.std.proofs.Common.{◌∙◌, ◌≤◌, ◌<◌, ℕ, List, Option, map, sym, ap, refl, arith}
 use Rattle.farm_types.specs.declared.rows.JobRow.{JobRow}
-use Rattle.farm_types.specs.declared.limits.TheConstants.{MOST_FINISHED}
 use Rattle.farm_types.specs.declared.states.FrameState.TheVariants.{Waiting}
-use Rattle.farm_types.specs.Farm.{changed_at, for_some}
-use Rattle.farm_types.specs.Finish.{cut_finished, freed_row, is_finished, with_finished}
 use Rattle.farm_types.specs.Jobs.{JobLists}
-use Rattle.farm_types.specs.Kept.{finish_of, has_its_finish, is_of_pending}
-use Rattle.job_book.specs.declared.counts.Counts.{Counts}
+use Rattle.farm_law.proofs.FinishedJobs.{finished_if, unchanged}
 use Rattle.job_book.specs.declared.ready_jobs.TheConstants.{JOB_NUMBERS}
-use Rattle.job_book.specs.Book.{count_in, counts_of}
-use Rattle.job_book.specs.Counting.{new_counts}
-use Rattle.job_book.specs.Finished.{can_put, finish_key, has_finish}
-use Rattle.job_book.specs.Inside.{book_of, counts_for}
-use Rattle.job_book.specs.OneJob.{AllJobs}
-use Rattle.job_book.specs.Ready.{put_key}
-use Rattle.job_book.proofs.FinishedBook.{finished_book}
-use Rattle.job_book.proofs.FinishedLayers.{finished_layers, finished_waiting}
-use Rattle.job_book.proofs.FinishedRows.{can_put_then, ended, finished_counts, finished_finished, finished_names, finished_ready, finishes_differ, found_then, is_there, rows_are}
-use Rattle.job_book.proofs.FreedJob.{freed_is}
-use Rattle.job_book.proofs.JobPlaces.{at_place, counts_there}
+use Rattle.job_book.specs.Book.{count_in, without_job}
+use Rattle.job_book.specs.Finished.{finished_of, first_of_full, with_one_finished}
+use Rattle.job_book.proofs.FinishNumbers.{leaver_before, map_without, number_left}
+use Rattle.job_book.proofs.FinishOrder.{cut_is}
 use Rattle.job_book.proofs.jobs.Jobs.finish.Goals as goal
 
-pub unreachable-requires : goal.unreachable-requires
-unreachable-requires c =
-    let inside = c.self.inside in
-    let jobs = inside.entries.rows in
-    let slots = inside.slots.items in
-    let job = c.args.job in
-    let there = is_there jobs job (ap (λ (b : JobLists). is_of_pending b.jobs job) c.self.view_is ∙ c.requires.pending) in
-    counts_there job jobs slots (ap (λ (o : Option JobRow). is_some o) there.found)
-    (ap (λ (cs : List Counts). slice_get cs (position_or_len (λ (j : JobRow). eqb j.job job) jobs)) (sym c.self.invariant.counts_are) ∙ sym c.in_default.ensures)
+pub finish_one-requires-clause-pending : goal.finish_one-requires-clause-pending
+finish_one-requires-clause-pending c = c.leave_first.ensures.pending c.args.job c.requires.pending
 
-pub put_finished-requires : goal.put_finished-requires
-put_finished-requires c =
-    let inside = c.self.inside in
-    let ok = c.self.invariant in
-    let jobs = inside.entries.rows in
-    let job = c.args.job in
-    let there = is_there jobs job (ap (λ (b : JobLists). is_of_pending b.jobs job) c.self.view_is ∙ c.requires.pending) in
-    let next : inside.next_finish < JOB_NUMBERS = omega (arith, ap (λ (b : JobLists). b.next_finish) c.self.view_is, c.requires.next) in
-    let most : inside.entries.next ≤ JOB_NUMBERS = omega (arith, ok.lists.next_within) in
-    let counts = c.in-Some.counts in
-    record {
-      there =
-          ap (λ (a : AllJobs). for_some (find (λ (j : JobRow). eqb j.job job) a.rows) (λ (j : JobRow). has_finish j && can_put (finish_key j) inside.finished)) c.finish.ensures
-          ∙ ap (λ (o : Option JobRow). for_some o (λ (j : JobRow). has_finish j && can_put (finish_key j) inside.finished)) (found_then job inside.next_finish counts jobs inside.entries.next most ok.lists.jobs_rise there)
-          ∙ can_put_then job inside.next_finish counts jobs inside.entries.next most ok.lists.jobs_rise there inside.finished next ok.finished;
-    }
-
-pub invariant_of-self : goal.invariant_of-self
-invariant_of-self c =
-    let inside = c.self.inside in
-    let ok = c.self.invariant in
-    let jobs = inside.entries.rows in
-    let layers = inside.entries.layers in
-    let slots = inside.slots.items in
-    let index = inside.entries.index in
-    let job = c.args.job in
-    let finish = inside.next_finish in
-    let counts = c.in-Some.counts in
-    let high = inside.entries.next in
-    let rise = ok.lists.jobs_rise in
-    let most : high ≤ JOB_NUMBERS = omega (arith, ok.lists.next_within) in
-    let test = λ (j : JobRow). eqb j.job job in
-    let there = is_there jobs job (ap (λ (b : JobLists). is_of_pending b.jobs job) c.self.view_is ∙ c.requires.pending) in
-    let few = subst (λ (b : JobLists). length (filter is_finished b.jobs) ≤ MOST_FINISHED) (sym c.self.view_is) c.requires.kept in
-    let next : finish < JOB_NUMBERS = omega (arith, ap (λ (b : JobLists). b.next_finish) c.self.view_is, c.requires.next) in
-    let none : count_in job Waiting slots ≡ 0 = ap (λ (b : JobLists). count_in job Waiting b.slots) c.self.view_is ∙ c.requires.none_waits in
-    let entries = c.finish.ensures in
-    let freed : c.free_layers-free.new.slots.items ≡ map (freed_row job) slots = c.free_layers-free.ensures.slots ∙ freed_is job layers slots index c.index.result.now ok.layers c.index.ensures in
-    let last = ended job finish counts jobs high most rise there in
-    let found : find test c.finish.new.self.rows ≡ Some last = ap (λ (a : AllJobs). find test a.rows) entries ∙ found_then job finish counts jobs high most rise there in
-    let keys : c.put_finished.new.finished ≡ put_key (finish_key last) inside.finished =
-    subst (λ (o : Option JobRow). IfSome o (λ (j : JobRow). c.put_finished.new.finished ≡ put_key (finish_key j) inside.finished)) found c.put_finished.ensures in
-    let finished = finished_finished job finish counts jobs high most rise there inside.finished next few ok.finished in
-    record {
-      lists = rw (entries, freed) (finished_book job finish counts (book_of inside) there ok.lists);
-      names = rw entries (finished_names job finish counts inside.names jobs ok.names);
-      finished = rw (entries, keys) finished;
-      free = c.free_layers-free.ensures.free;
-      layers = rw (entries, freed) (finished_layers job layers slots index ok.layers);
-      waiting = rw (entries, freed) (finished_waiting job layers slots index ok.layers none ok.waiting);
-      ready = rw (entries, freed) (finished_ready job finish counts jobs slots inside.ready.items none ok.ready);
-      counts_are =
-          rw (entries, freed) (ap (λ (cs : List Counts). changed_at cs (position_or_len test jobs) (λ _. new_counts 0)) ok.counts_are ∙ finished_counts job finish counts jobs high rise slots);
-      slots_capacity = rw c.free_layers-free.ensures.capacity ok.slots_capacity;
-    }
-
-pub cut-requires : goal.cut-requires
-cut-requires c =
-    let inside = c.self.inside in
-    let jobs = inside.entries.rows in
-    let finish = inside.next_finish in
-    let within = ap (λ (b : JobLists). list_all (has_its_finish b.next_finish) b.jobs) c.self.view_is ∙ c.requires.within in
-    let differ = subst (λ (b : JobLists). IsDistinct nat_eq (map finish_of (filter is_finished b.jobs))) (sym c.self.view_is) c.requires.differ in
-    subst (λ (a : AllJobs). IsDistinct nat_eq (map finish_of (filter is_finished a.rows))) (sym c.finish.ensures)
-    (finishes_differ c.args.job finish c.in-Some.counts 0 jobs inside.entries.next c.self.invariant.lists.jobs_rise within differ)
+pub finish_one-requires-clause-none_waits : goal.finish_one-requires-clause-none_waits
+finish_one-requires-clause-none_waits c = ap (λ (b : JobLists). count_in c.args.job Waiting b.slots) c.leave_first.ensures.left ∙ c.requires.none_waits
 
 pub returns : goal.returns
 returns c =
-    let inside = c.self.inside in
-    let ok = c.self.invariant in
-    let jobs = inside.entries.rows in
-    let layers = inside.entries.layers in
-    let slots = inside.slots.items in
-    let index = inside.entries.index in
+    let b = c.args.self.now in
     let job = c.args.job in
-    let finish = inside.next_finish in
-    let counts = c.in-Some.counts in
-    let read : slice_get (counts_for jobs slots) (position_or_len (λ (j : JobRow). eqb j.job job) jobs) ≡ Some counts =
-    ap (λ (cs : List Counts). slice_get cs (position_or_len (λ (j : JobRow). eqb j.job job) jobs)) (sym ok.counts_are) ∙ sym c.in-Some.ensures in
-    let are : counts ≡ counts_of job slots = at_place (λ k. counts_of k slots) job jobs counts read in
-    let rows = ap (λ (a : AllJobs). a.rows) c.finish.ensures ∙ rows_are job finish counts slots are jobs in
-    let left = ap (λ (a : AllJobs). a.layers) c.finish.ensures in
-    let next = ap (λ (a : AllJobs). a.next) c.finish.ensures in
-    let freed : c.free_layers-free.new.slots.items ≡ map (freed_row job) slots = c.free_layers-free.ensures.slots ∙ freed_is job layers slots index c.index.result.now ok.layers c.index.ensures in
-    c.cut.ensures ∙ (λ i. record { jobs = cut_finished (rows i); layers = left i; slots = freed i; next_job = next i; next_finish = finish + 1 })
-    ∙ ap (with_finished job) c.self.view_is
+    let lists = c.kept.ensures.lists in
+    let kept = c.kept.ensures.finishes in
+    let most : b.next_job ≤ JOB_NUMBERS = omega (arith, lists.next_within) in
+    let left = number_left job b.slots b.jobs b.next_job b.next_finish lists.jobs_rise c.requires.pending kept in
+    let less : b.next_finish < JOB_NUMBERS = omega (arith, left, most) in
+    let change = finished_if job b.slots b.next_finish in
+    let leaves = first_of_full (finished_of b.jobs) in
+    let cut = cut_is job b.next_finish b.slots b.jobs b.next_job most lists.jobs_rise c.requires.pending less kept.numbered kept.few kept.differ in
+    let first = map_without change (unchanged job b.slots b.next_finish (λ j. j.job) (λ j. refl)) leaves b.jobs in
+    let same = ap (λ (o : Option ℕ). without_job o (map change b.jobs)) (leaver_before (finished_of b.jobs) job) in
+    let jobs = first ∙ (sym same ∙ sym cut.0) in
+    c.finish_one.ensures ∙ ap (with_one_finished job) c.leave_first.ensures.left ∙ ap (λ (js : List JobRow). record (with_one_finished job b) { jobs = js }) jobs

@@ -18,6 +18,7 @@ use Rattle.job_book.specs.Inside.{book_of, has_layers_if}
 use Rattle.job_book.specs.Names.{KeepsNames, number_of}
 use Rattle.job_book.specs.OneJob.{AllJobs}
 use Rattle.job_book.specs.Ready.{KeepsReady, drop_key}
+use Rattle.job_book.proofs.FinishNumbers.{left_finishes}
 use Rattle.job_book.proofs.LeftJobs.{book_left, counts_left, finished_left, names_left, not_true, ready_left, remains}
 use Rattle.job_book.proofs.jobs.Jobs.leave.Goals as goal
 
@@ -78,6 +79,7 @@ invariant_of-self c =
     record {
       lists = rw entries (book_left job (book_of inside) ok.lists);
       names = rw entries (subst (λ (n : ℕ). KeepsNames c.remove.new.self (filter (remains n) jobs)) number names);
+      finishes = rw entries (left_finishes job jobs high inside.next_finish ok.finishes);
       finished = rw (entries, taken) (subst (λ (n : ℕ). KeepsFinished (filter (remains n) jobs) (drop_key (finish_key j) inside.finished)) number finished);
       free = ok.free;
       layers = rw entries ok.layers;

@@ -88,7 +88,8 @@ invariant_of-result-3 c =
     record {
       lists = rw (entries, slots) book;
       names = rw entries (subst (λ (ns : List (List ℕ × ℕ)). KeepsNames ns b.jobs) (sym c.names.view_is) (subst (KeepsNames c.in_ok-names.names) c.as_slice-5.ensures.value c.in_ok-names.ensures));
-      finished = rw entries (record { keys_are = c.finished.view_is ∙ keys; within = finishes b MOST_SHOWS kept; few = omega (arith, kept.finished_count) });
+      finishes = rw entries (record { from = kept.finish_from; left = kept.finish_within; numbered = kept.finishes_within; differ = kept.finishes_differ; few = kept.finished_count });
+      finished = rw entries (record { keys_are = c.finished.view_is ∙ keys; within = finishes b MOST_SHOWS kept });
       free = rw slots (record { free_is = free; within = omega arith; none_below = refl });
       layers = rw (entries, slots) (noted_layers b.layers _ book.layers_rise b.slots kept.slots_kept kept.frames_once kept.frames_there);
       waiting = rw (entries, slots) (noted_waiting b.layers _ book.layers_rise b.slots kept.slots_kept kept.frames_once kept.frames_there);

@@ -22,6 +22,7 @@ use Rattle.job_book.specs.Names.{is_named, number_of}
 use Rattle.job_book.specs.OneJob.{AllJobs}
 use Rattle.job_book.specs.Puts.{free_from}
 use Rattle.job_book.specs.Ready.{has_priority, put_key, ready_key}
+use Rattle.job_book.proofs.FinishNumbers.{placed_finishes}
 use Rattle.job_book.proofs.NamedJobs.{keeps_more, unnamed}
 use Rattle.job_book.proofs.Placed.{accepted_fits, length-layer_rows, placed_book, placed_counts, placed_finished, placed_free, rows_few, rows_are_layers}
 use Rattle.job_book.proofs.PlacedWaiting.{more_layers, more_waiting}
@@ -56,7 +57,7 @@ add-requires-clause-few c =
     let placing : c.args.placing ≡ placing_of b show spec = c.requires.placing ∙ ap (λ (l : JobLists). placing_of l show spec) (sym c.self.view_is) in
     let job : c.args.placing.job ≡ b.next_job = ap (λ (p : Placing). p.job) placing in
     let fits = accepted_fits b spec accepted in
-    let few : length inside.entries.rows + 1 < MOST_JOBS = omega (arith, rows_few inside.slots.items inside.entries.rows ok.slots_had, ok.jobs_fit, kept.finished.few, fits.0, c.requires.limits.frames_within.0) in
+    let few : length inside.entries.rows + 1 < MOST_JOBS = omega (arith, rows_few inside.slots.items inside.entries.rows ok.slots_had, ok.jobs_fit, kept.finishes.few, fits.0, c.requires.limits.frames_within.0) in
     omega (arith, few, kept.names.as_many)
 
 pub put_ready-requires-clause-priority : goal.put_ready-requires-clause-priority
@@ -75,7 +76,7 @@ put_ready-requires-clause-can c =
     let placing : c.args.placing ≡ placing_of b show spec = c.requires.placing ∙ ap (λ (l : JobLists). placing_of l show spec) (sym c.self.view_is) in
     let job : c.args.placing.job ≡ b.next_job = ap (λ (p : Placing). p.job) placing in
     let fits = accepted_fits b spec accepted in
-    let few : length inside.entries.rows + 1 < MOST_JOBS = omega (arith, rows_few inside.slots.items inside.entries.rows ok.slots_had, ok.jobs_fit, kept.finished.few, fits.0, c.requires.limits.frames_within.0) in
+    let few : length inside.entries.rows + 1 < MOST_JOBS = omega (arith, rows_few inside.slots.items inside.entries.rows ok.slots_had, ok.jobs_fit, kept.finishes.few, fits.0, c.requires.limits.frames_within.0) in
     let row : c.taken_apart-row.result.0 ≡ job_row b.next_job show spec = c.taken_apart-row.ensures.row ∙ ap (λ n. job_row n show spec) job in
     let placed = placed_book b show spec c.requires.limits accepted ok in
     rw row (placed_can b show spec c.requires.limits ok placed few inside.ready.items kept.ready)
@@ -142,7 +143,7 @@ add-requires-2-clause-few c =
     let placing : c.args.placing ≡ placing_of b show spec = c.requires.placing ∙ ap (λ (l : JobLists). placing_of l show spec) (sym c.self.view_is) in
     let job : c.args.placing.job ≡ b.next_job = ap (λ (p : Placing). p.job) placing in
     let fits = accepted_fits b spec accepted in
-    let few : length inside.entries.rows + 1 < MOST_JOBS = omega (arith, rows_few inside.slots.items inside.entries.rows ok.slots_had, ok.jobs_fit, kept.finished.few, fits.0, c.requires.limits.frames_within.0) in
+    let few : length inside.entries.rows + 1 < MOST_JOBS = omega (arith, rows_few inside.slots.items inside.entries.rows ok.slots_had, ok.jobs_fit, kept.finishes.few, fits.0, c.requires.limits.frames_within.0) in
     omega (arith, few)
 
 -- where as many are free from a place on as in all, none below it is
@@ -164,7 +165,7 @@ invariant_of-self c =
     let placing : c.args.placing ≡ placing_of b show spec = c.requires.placing ∙ ap (λ (l : JobLists). placing_of l show spec) (sym c.self.view_is) in
     let job : c.args.placing.job ≡ b.next_job = ap (λ (p : Placing). p.job) placing in
     let fits = accepted_fits b spec accepted in
-    let few : length inside.entries.rows + 1 < MOST_JOBS = omega (arith, rows_few inside.slots.items inside.entries.rows ok.slots_had, ok.jobs_fit, kept.finished.few, fits.0, c.requires.limits.frames_within.0) in
+    let few : length inside.entries.rows + 1 < MOST_JOBS = omega (arith, rows_few inside.slots.items inside.entries.rows ok.slots_had, ok.jobs_fit, kept.finishes.few, fits.0, c.requires.limits.frames_within.0) in
     let frames : c.args.placing.frames ≡ frames_in spec.layers = ap (λ (p : Placing). p.frames) placing in
     let layers = c.taken_apart-row.ensures.layers in
     let row : c.taken_apart-row.result.0 ≡ job_row b.next_job show spec = c.taken_apart-row.ensures.row ∙ ap (λ n. job_row n show spec) job in
@@ -197,6 +198,7 @@ invariant_of-self c =
     record {
       lists = rw (entries, new_slots) placed;
       names = rw entries (keeps_more inside.names c.add.new.self b.jobs (job_row b.next_job show spec) none found c.add.ensures.count kept.names);
+      finishes = rw entries (placed_finishes b show spec kept.finishes);
       finished = rw entries (placed_finished b show spec inside.finished kept.finished);
       free = record {
         free_is = rw new_slots (omega (arith, free, kept.free.free_is, frames));

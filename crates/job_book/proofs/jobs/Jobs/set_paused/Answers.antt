@@ -3,6 +3,7 @@ use Rattle.farm_types.specs.Jobs.{JobLists}
 use Rattle.farm_types.specs.Operators.{paused_row}
 use Rattle.job_book.specs.Inside.{book_of}
 use Rattle.job_book.specs.OneJob.{AllJobs}
+use Rattle.job_book.proofs.FinishNumbers.{paused_finishes}
 use Rattle.job_book.proofs.PausedJobs.{paused_book, paused_counts, paused_finished, paused_names, paused_ready}
 use Rattle.job_book.proofs.jobs.Jobs.set_paused.Goals as goal
 
@@ -17,6 +18,7 @@ invariant_of-self c =
     record {
       lists = rw new (paused_book job paused (book_of inside) ok.lists);
       names = rw new (paused_names job paused inside.names jobs ok.names);
+      finishes = rw new (paused_finishes job paused jobs inside.entries.next inside.next_finish ok.finishes);
       finished = rw new (paused_finished job paused jobs inside.finished ok.finished);
       free = ok.free;
       layers = rw new ok.layers;

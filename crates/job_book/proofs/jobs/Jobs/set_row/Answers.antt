@@ -40,7 +40,7 @@ change_ready-requires c =
     let r = in_state (book_of c.self.inside) _ c.args.slot _ c.args.row.now _ _ c.self.view_is (sym c.in-Some.ensures) c.in-Some-frame.is c.in-Some-frame-2.is c.requires in
     let begun = λ (j : JobRow) (at : slice_get jobs place ≡ Some j).
     begun_here inside.slots.items c.args.slot c.args.row.now was c.in-Some-frame-2.frame.state r jobs place j ok.lists.slots_had at (eqb-true j.job was.job (found_is test jobs j (find_at test jobs ∙ at))) in
-    let few : length jobs < MOST_JOBS = omega (arith, rows_few inside.slots.items jobs ok.lists.slots_had, ok.lists.jobs_fit, ok.finished.few) in
+    let few : length jobs < MOST_JOBS = omega (arith, rows_few inside.slots.items jobs ok.lists.slots_had, ok.lists.jobs_fit, ok.finishes.few) in
     subst (λ (o : Option JobRow). CanChange c.has_waiting-had.result c.has_waiting-has.result inside.ready.items o) (sym (ap (λ (a : AllJobs). find test a.rows) c.recount.ensures ∙ find_at test jobs))
     (can_change jobs inside.entries.next (omega (arith, ok.lists.next_within)) ok.lists.jobs_rise few inside.ready.items
     inside.slots.items ok.ready inside.entries.counts ok.counts_are place begun c.has_waiting-had.result c.has_waiting-has.result c.has_waiting-had.ensures)
@@ -74,7 +74,7 @@ invariant_of-self c =
     let has = c.has_waiting-has.ensures ∙ ap (λ (a : AllJobs). said (slice_get a.counts (position_or_len test a.rows))) c.recount.ensures in
     let begun = λ (j : JobRow) (at : slice_get jobs place ≡ Some j).
     begun_here slots c.args.slot row was state r jobs place j ok.lists.slots_had at (eqb-true j.job was.job (found_is test jobs j (find_at test jobs ∙ at))) in
-    let few : length jobs < MOST_JOBS = omega (arith, rows_few slots jobs ok.lists.slots_had, ok.lists.jobs_fit, ok.finished.few) in
+    let few : length jobs < MOST_JOBS = omega (arith, rows_few slots jobs ok.lists.slots_had, ok.lists.jobs_fit, ok.finishes.few) in
     let ready = in_state_ready jobs inside.entries.next (omega (arith, ok.lists.next_within)) ok.lists.jobs_rise few inside.ready.items
     slots ok.ready inside.entries.counts ok.counts_are place begun c.has_waiting-had.result c.has_waiting-has.result c.has_waiting-had.ensures
     c.args.slot row was state r refl (changed_at inside.entries.counts place (moved was.state state)) recounted has in
@@ -82,6 +82,7 @@ invariant_of-self c =
     record {
       lists = rw (entries, new) (in_state_book (book_of inside) c.args.slot row was state r ok.lists);
       names = rw entries ok.names;
+      finishes = rw entries ok.finishes;
       finished = rw entries ok.finished;
       free = rw new (in_state_free inside.free inside.lowest slots c.args.slot row was state r ok.free);
       layers = rw (entries, new) (kept_layers layers slots index _ ok.lists.layers_rise ok.layers ok.waiting c.args.slot row was state r);
