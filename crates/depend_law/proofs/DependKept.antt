@@ -1,9 +1,10 @@
 -- Depends that come and go keep what a farm keeps that isn't settled yet.
-use Rattle.std.proofs.Common.{◌≡◌, ◌≤◌, ℕ, ◌+◌, Bool, true, false, cond, ◌&&◌, ◌||◌, not, eqb, List, [], ◌∷◌, ◌++◌, map, length, Option, Some, None, refl, ap, sym, subst, ◌∙◌, arith, length-append}
+use Rattle.std.proofs.Common.{◌≡◌, ◌≤◌, ℕ, ◌+◌, Bool, true, false, cond, ◌&&◌, ◌||◌, not, eqb, leb, List, [], ◌∷◌, ◌++◌, map, length, Option, Some, None, refl, ap, sym, subst, ◌∙◌, arith, length-append}
+use Rattle.std.specs.Prelude.{ℤ, pos, negsuc, int_le}
 use Rattle.std.specs.List.{AllByRecursion, filter, find, list_all, list_any, position_or_len, slice_get, sum_by}
 use Rattle.std.specs.Option.{is_none, is_some}
 use Rattle.std.specs.Cmp.Derive.{both_true}
-use Rattle.std.proofs.lemmas.Bool.{and_left, eqb-true, le-leb, ne_eqb, not-false, not_from_false, not_from_true, or_right, true≢false}
+use Rattle.std.proofs.lemmas.Bool.{and_left, eqb-true, le-leb, leb-true, ne_eqb, not-false, not_from_false, not_from_true, or_right, true≢false}
 use Rattle.std.proofs.lemmas.List.{length-map}
 use Rattle.std.proofs.lemmas.List.Folds.{find_at, list_all-map}
 use Rattle.std.proofs.lemmas.List.Sums.{sum_by-append}
@@ -20,9 +21,9 @@ use Rattle.farm_types.specs.declared.depend.DependEnd.{DependEnd}
 use Rattle.farm_types.specs.declared.limits.TheConstants.{LAST_JOB}
 use Rattle.farm_types.specs.declared.rows.JobRow.{JobRow}
 use Rattle.farm_types.specs.Farm.{Farm, for_some, layers_of}
-use Rattle.farm_types.specs.Forms.{is_between}
-use Rattle.farm_types.specs.Formed.{IsFormedDepend, IsFormedPlace, names_frame, names_layer, names_target_frame, names_target_layer}
-use Rattle.farm_types.specs.Kept.{has_no_self_depend, has_part, is_end_there, is_formed_depend, is_formed_end, is_given, is_kept_depend, is_of_pending, is_pending_job}
+use Rattle.farm_types.specs.Forms.{is_between, is_frame_number}
+use Rattle.farm_types.specs.Formed.{IsFormedDepend, IsFormedPlace, is_frame_named, names_frame, names_layer, names_target_frame, names_target_layer}
+use Rattle.farm_types.specs.Kept.{has_no_self_depend, has_part, is_end_there, is_formed_depend, is_formed_end, is_given, is_kept_depend, is_number_named, is_of_pending, is_pending_job}
 use Rattle.farm_types.specs.Rising.{IsRising, depend_key, job_key}
 use Rattle.farm_types.proofs.Lists.{and_both, for_some_true, found_is, list_all-at, list_all-from_at}
 use Rattle.farm_types.proofs.Passes.{for_some-there}
@@ -42,10 +43,21 @@ given : {X : Type 0} (flag : Bool) (part : Option X) → is_some part ≡ flag �
 given true part is = is
 given false part is = ap not is
 
+-- a number that a frame may have is one of 32 bits with a sign
+number_within : (z : ℤ) → is_frame_number z ≡ true → (int_le (negsuc 2147483647) z && int_le z (pos 2147483647)) ≡ true
+number_within (pos n) h = let both = and_both (int_le (negsuc 9999998) (pos n)) (leb n 9999999) h in le-leb n 2147483647 (omega (arith, leb-true n 9999999 both.1))
+number_within (negsuc n) h =
+    let both = and_both (leb n 9999998) (int_le (negsuc n) (pos 9999999)) h in
+    both_true (le-leb n 2147483647 (omega (arith, leb-true n 9999998 both.0))) refl
+
+number_named : (o : Option ℤ) → is_frame_named o ≡ true → is_number_named o ≡ true
+number_named None h = refl
+number_named (Some number) h = number_within number h
+
 -- an end that has its form as it is asked for has it as it is recorded
 end_formed : (layered framed : Bool) (p : Place) (job : ℕ) → is_between 1 LAST_JOB job ≡ true → IsFormedPlace layered framed p → is_formed_end layered framed (record { job = job; layer = p.layer; frame = p.frame }) ≡ true
 end_formed layered framed p job numbered formed =
-    both_true numbered (both_true (given layered p.layer formed.layer) (both_true formed.layer_name (both_true (given framed p.frame formed.frame) formed.frame_named)))
+    both_true numbered (both_true (given layered p.layer formed.layer) (both_true formed.layer_name (both_true (given framed p.frame formed.frame) (number_named p.frame formed.frame_named))))
 
 -- jobs in the order of their numbers, up to the last one
 pub record AreNumbered (f : Farm) : Type 0 where

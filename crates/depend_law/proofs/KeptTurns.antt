@@ -166,7 +166,7 @@ report_carries f heard moment (Some host) rows =
     carries_then f now (end_all now host heard.boot heard.done) (all_same f now refl refl refl refl refl refl).carries
     (ends_carry now host heard.boot heard.done ((heard_law f host heard.seq moment).sound rows.sound (kept_hosts f rows)))
 
-heard_carries : (f : Farm) (heard : HeardAct) (moment : ℕ) (o : Option ℕ) → KeepsRows f → Carries f (after_heard (expire f moment) heard moment o)
+pub heard_carries : (f : Farm) (heard : HeardAct) (moment : ℕ) (o : Option ℕ) → KeepsRows f → Carries f (after_heard (expire f moment) heard moment o)
 heard_carries f heard moment o rows =
     carries_then f (expire f moment) (after_heard (expire f moment) heard moment o) (expire_carries f moment rows.sound).carries
     (report_carries (expire f moment) heard moment o (kept_expire f moment rows))

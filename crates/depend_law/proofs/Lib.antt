@@ -1,8 +1,11 @@
 pub mod Accepted
+pub mod ActGroups
 pub mod Among
 pub mod Blocked
 pub mod Carries
+pub mod Comes
 pub mod DependKept
+pub mod EarnedMarks
 pub mod Fewer
 pub mod Filled
 pub mod Finishes

@@ -64,7 +64,7 @@ other_depend d e g (h ∷ hs) differ = or_from _ _ (and_left _ _ (ne_eqb e.depen
 -- ---- the rows of all depends
 
 module _ (f : Farm) where
-  other_rows : (d e : DependRow) (g : Group) → (e.depend ≡ d.depend → ⊥) → list_any (marks d g) (met_rows_of f e) ≡ false
+  pub other_rows : (d e : DependRow) (g : Group) → (e.depend ≡ d.depend → ⊥) → list_any (marks d g) (met_rows_of f e) ≡ false
   other_rows d e g differ =
       cond_each (λ (rows : List MetRow). list_any (marks d g) rows ≡ false) (settled_row f e).met_all [] (map (met_row e) (filter (is_met_now f e) (groups_of f e)))
       refl (other_depend d e g (filter (is_met_now f e) (groups_of f e)) differ)

@@ -147,7 +147,7 @@ module _ (f : Farm) (rows : KeepsRows f) (k : KeepsDepends f) where
     filled_blocked o n (inl e) h = ap (on_slot is_blocked) (sym e) ∙ h
     filled_blocked o n (inr new) h = absurd (false≢true (sym (waiting_slot n new.1).1 ∙ h))
 
-    job_carries : CarriesAll f with_it
+    pub job_carries : CarriesAll f with_it
     job_carries =
         record {
           carries =

@@ -1,2 +1,3 @@
+pub mod Earned
 pub mod Ending
 pub mod Unsettled

@@ -1,12 +1,14 @@
 //! The laws: functions that do nothing, whose contracts are the laws.
 
-ghost use Rattle.std.specs.Prelude.{◌≡◌, ◌<◌, ◌^◌, ℕ, List};
+ghost use Rattle.std.specs.Prelude.{◌≡◌, ◌<◌, ◌^◌, ◌⊎◌, ℕ, List};
+ghost use Rattle.farm_types.specs.declared.depend.Group.{Group};
 ghost use Rattle.farm_types.specs.declared.entry.Entry.{Entry};
 ghost use Rattle.farm_types.specs.Demo.{demo_farm};
 ghost use Rattle.farm_types.specs.Farm.{Farm, empty_farm};
 ghost use Rattle.farm_types.specs.Kept.{IsKeptFarm};
 ghost use Rattle.farm_types.specs.Run.{IsLegal, run_of};
 ghost use Rattle.farm_types.specs.Settle.{settle};
+ghost use Rattle.depend_law.specs.Earned.{AreDoneIn, IsMarkedIn, MetStays};
 
 /// What every farm of the program keeps: the empty farm and the demonstration's do, and so does every legal run from a
 /// farm that does.
@@ -20,4 +22,11 @@ pub fn legal_runs_keep_farms()
 /// leaves depends and completions as they are.
 pub fn kept_farms_are_settled()
     ensures { (f : Farm) → IsKeptFarm f → settle f ≡ f }
+{}
+
+/// Along a legal run from a farm that keeps this, a group of a depend that is met stays met while its depend is there. And each mark of a group that comes was
+/// earned: once one of the entries had changed frames, the group's targets were done as its depend asks.
+pub fn marks_are_earned()
+    ensures stays { (f : Farm) (es : List Entry) → IsKeptFarm f → IsLegal f es → MetStays f (run_of f es) }
+    ensures earned { (f : Farm) (es : List Entry) (depend : ℕ) (g : Group) → IsKeptFarm f → IsLegal f es → IsMarkedIn (run_of f es) depend g → IsMarkedIn f depend g ⊎ AreDoneIn f es g }
 {}

@@ -3,4 +3,4 @@
 
 mod laws;
 
-pub use laws::{kept_farms_are_settled, legal_runs_keep_farms};
+pub use laws::{kept_farms_are_settled, legal_runs_keep_farms, marks_are_earned};

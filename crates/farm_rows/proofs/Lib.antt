@@ -1,2 +1,3 @@
 pub mod MadeRows
 pub mod MadeLists
+mod Exactness

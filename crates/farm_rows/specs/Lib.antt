@@ -1,5 +1,6 @@
 pub mod Changes
 pub mod Examples
+pub mod Keys
 pub mod Lists
 pub mod Recovery
 pub mod RecoveryExamples

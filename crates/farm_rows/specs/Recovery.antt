@@ -30,7 +30,7 @@ use Rattle.farm_types.specs.Kept.{alloc_label, frames_said, has_its_counts, has_
 use Rattle.farm_types.specs.Ranges.{range_numbers}
 use Rattle.farm_types.specs.Settle.{is_met_now, opens}
 use Rattle.farm_types.specs.Sums.{used_cores, used_memory}
-use Rattle.farm_types.specs.declared.limits.TheConstants.{LAST_DEPEND, LAST_JOB, LAST_VERSION, MOST_ALLOCS, MOST_DEPENDS, MOST_FINISHED, MOST_FRAMES, MOST_GROUPS, MOST_HOSTS, MOST_RETRIES, MOST_SHOWS, SLOT_LIMIT}
+use Rattle.farm_types.specs.declared.limits.TheConstants.{LAST_DEPEND, LAST_JOB, LAST_VERSION, MOST_ALLOCS, MOST_DEPENDS, MOST_FINISHED, MOST_GROUPS, MOST_HOSTS, MOST_RETRIES, MOST_SHOWS, SLOT_LIMIT}
 use Rattle.farm_rows.specs.declared.farm_row.FarmRow.{FarmRow}
 use Rattle.farm_rows.specs.declared.farm_row.FarmRow.TheVariants as row
 use Rattle.farm_rows.specs.declared.frame_row.FrameRow.{FrameRow}
@@ -189,25 +189,27 @@ is_part_in f job (Some name) frame = for_some (find (λ (l : LayerRow). bytes_eq
 abbrev pub end_is_there : Farm → DependEnd → Bool
 end_is_there f e = is_of_pending f.jobs e.job && is_part_in f e.job e.layer e.frame
 
--- a number past all slots for a frame that has no slot yet
-abbrev pub stand_in : ℕ → ℕ → ℕ → Option ℕ → ℕ
-stand_in job layer position None = SLOT_LIMIT + ((LAYER_IDS * job + layer) * MOST_FRAMES + position)
-stand_in job layer position (Some slot) = slot
+-- the slot of a frame, or that number where it has none yet
+abbrev pub slot_or : ℕ → Option ℕ → ℕ
+slot_or none None = none
+slot_or none (Some slot) = slot
 
--- the slots of the numbers of a layer, counted from a position
-abbrev pub slots_so_far : List SlotRow → LayerRow → ℕ → List ℤ → List ℕ
-slots_so_far slots l position [] = []
-slots_so_far slots l position (n ∷ ns) = stand_in l.job l.place position (slot_from 0 (is_placed l.job l.place position) slots) ∷ slots_so_far slots l (position + 1) ns
+-- the slots of the numbers of a layer, counted from a position, and that number for each that has none
+abbrev pub slots_so_far : ℕ → List SlotRow → LayerRow → ℕ → List ℤ → List ℕ
+slots_so_far none slots l position [] = []
+slots_so_far none slots l position (n ∷ ns) = slot_or none (slot_from 0 (is_placed l.job l.place position) slots) ∷ slots_so_far none slots l (position + 1) ns
 
-abbrev pub layer_so_far : List SlotRow → LayerRow → LayerShape
-layer_so_far slots l = record { name = l.name; numbers = range_numbers l.range; slots = slots_so_far slots l 0 (range_numbers l.range) }
+abbrev pub layer_so_far : ℕ → List SlotRow → LayerRow → LayerShape
+layer_so_far none slots l = record { name = l.name; numbers = range_numbers l.range; slots = slots_so_far none slots l 0 (range_numbers l.range) }
 
-abbrev pub shape_so_far : Farm → ℕ → Shape
-shape_so_far f job = record { layers = map (layer_so_far f.slots) (layers_of f.layers job) }
+abbrev pub shape_so_far : ℕ → Farm → ℕ → Shape
+shape_so_far none f job = record { layers = map (layer_so_far none f.slots) (layers_of f.layers job) }
 
--- the groups of a depend, those of frames without slots too
+-- The groups of a depend, those of frames without slots too. Of these, the waiting ones stand at the number past all slots, and the targets at the one
+-- after it: so no frame without a slot is its own target.
 unfoldable pub groups_so_far : Farm → DependRow → List Group
-groups_so_far f d = groups_by d.kind d.any (part_at d.waiter) (part_at d.target) (shape_so_far f d.waiter.job) (shape_so_far f d.target.job)
+groups_so_far f d =
+    groups_by d.kind d.any (part_at d.waiter) (part_at d.target) (shape_so_far SLOT_LIMIT f d.waiter.job) (shape_so_far (SLOT_LIMIT + 1) f d.target.job)
 
 abbrev pub groups_fit : Farm → DependRow → List Group → Bool
 groups_fit f r groups = not (is_some (waits_for_itself groups)) && (nat_lt 0 (length groups) && nat_le (groups_left f + length groups) MOST_GROUPS)
@@ -243,39 +245,39 @@ row_fits f (row.Depend r) = f.recorded && depend_fits f r
 row_fits f (row.Met r) = f.recorded && met_fits f r
 
 -- a kind and an id
-abbrev pub RowKey : Type 0
-RowKey = ℕ × ℕ
+abbrev pub StoredKey : Type 0
+StoredKey = ℕ × ℕ
 
-abbrev pub key_of : FarmRow → RowKey
+abbrev pub key_of : FarmRow → StoredKey
 key_of r = (row_kind r, row_id r)
 
 -- by kind, then id
-abbrev pub is_before : RowKey → RowKey → Bool
+abbrev pub is_before : StoredKey → StoredKey → Bool
 is_before a b = nat_lt a.0 b.0 || (a.0 == b.0 && nat_lt a.1 b.1)
 
 -- the row comes after the last one, where there is one
-abbrev pub comes_after : Option RowKey → RowKey → Bool
+abbrev pub comes_after : Option StoredKey → StoredKey → Bool
 comes_after None key = true
 comes_after (Some last) key = is_before last key
 
 -- ---- after the last row
 
-abbrev pub first_job : (JobRow → Bool) → List JobRow → Option RowKey
+abbrev pub first_job : (JobRow → Bool) → List JobRow → Option StoredKey
 first_job test jobs = option_map (λ (j : JobRow). (6, j.job)) (find test jobs)
 
-abbrev pub first_layer : (LayerRow → Bool) → List LayerRow → Option RowKey
+abbrev pub first_layer : (LayerRow → Bool) → List LayerRow → Option StoredKey
 first_layer test layers = option_map (λ (l : LayerRow). (7, LAYER_IDS * l.job + l.place)) (find test layers)
 
-abbrev pub first_depend : (DependRow → Bool) → List DependRow → Option RowKey
+abbrev pub first_depend : (DependRow → Bool) → List DependRow → Option StoredKey
 first_depend test depends = option_map (λ (d : DependRow). (9, d.depend)) (find test depends)
 
 -- the first slot that passes, counted from a place
-abbrev pub first_slot : (ℕ → SlotRow → Bool) → ℕ → List SlotRow → Option RowKey
+abbrev pub first_slot : (ℕ → SlotRow → Bool) → ℕ → List SlotRow → Option StoredKey
 first_slot test place [] = None
 first_slot test place (s ∷ ss) = if test place s then Some (8, place) else first_slot test (place + 1) ss
 
 -- more finish than there are jobs
-abbrev pub head_ends : Farm → Option RowKey
+abbrev pub head_ends : Farm → Option StoredKey
 head_ends f = if nat_le (f.next_finish + length (filter is_pending_job f.jobs)) f.next_job then None else Some (1, 0)
 
 -- a pending job whose layers aren't all its frames
@@ -296,22 +298,22 @@ is_wrongly_marked f d =
     not d.met_all && (list_all (is_met f d) (groups_of f d) || list_any (λ (g : Group). not (is_met f d g) && is_met_now f d g) (groups_of f d))
 
 -- the first row at fault
-abbrev pub end_fault : Farm → Option RowKey
+abbrev pub end_fault : Farm → Option StoredKey
 end_fault f =
     or_else (head_ends f) (or_else (first_job (lacks_frames f) f.jobs) (or_else (first_layer (lacks_slots f) f.layers) (or_else (first_job (finishes f.slots) f.jobs)
     (or_else (first_depend (is_wrongly_marked f) f.depends) (or_else (first_slot (runs_unmet f) 0 f.slots) (first_slot (opens f) 0 f.slots))))))
 
 -- ---- all rows
 
-abbrev pub ended : Farm → Option RowKey → Result Farm RowKey
+abbrev pub ended : Farm → Option StoredKey → Result Farm StoredKey
 ended f None = Ok f
 ended f (Some key) = Err key
 
 -- the farm that rows say with those before them, or the key of the first one that doesn't come after the last or doesn't fit
-abbrev pub farm_with : Option RowKey → Farm → List FarmRow → Result Farm RowKey
+abbrev pub farm_with : Option StoredKey → Farm → List FarmRow → Result Farm StoredKey
 farm_with last f [] = ended f (end_fault f)
 farm_with last f (r ∷ rs) = if comes_after last (key_of r) && row_fits f r then farm_with (Some (key_of r)) (with_stored f r) rs else Err (key_of r)
 
 -- the farm that rows say, or the key of the row at fault
-abbrev pub farm_said : List FarmRow → Result Farm RowKey
+abbrev pub farm_said : List FarmRow → Result Farm StoredKey
 farm_said rows = farm_with None empty_farm rows

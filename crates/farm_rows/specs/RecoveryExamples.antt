@@ -4,7 +4,7 @@ use Rattle.farm_types.specs.declared.slot_row.SlotRow.{SlotRow}
 use Rattle.farm_types.specs.declared.states.FrameState.TheVariants as frame_state
 use Rattle.farm_types.specs.Farm.{Farm}
 use Rattle.farm_rows.specs.Examples.{attempt, frame_in, host_one, small_farm, used}
-use Rattle.farm_rows.specs.Recovery.{RowKey, farm_said}
+use Rattle.farm_rows.specs.Recovery.{StoredKey, farm_said}
 use Rattle.farm_rows.specs.Rows.{rows_of}
 
 -- a frame runs, one is blocked by it, and a slot is free
@@ -18,7 +18,7 @@ abbrev pub whole_farm : Farm
 whole_farm = record small_farm { slots = runs_first ∷ waits_blocked ∷ used 0 ∷ used 3 ∷ []; met = [] }
 
 -- the farm with something wrong in it
-abbrev pub said_of : Farm → Result Farm RowKey
+abbrev pub said_of : Farm → Result Farm StoredKey
 said_of f = farm_said (rows_of f)
 
 abbrev pub without_blocking : Farm

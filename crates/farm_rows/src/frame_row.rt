@@ -1,6 +1,7 @@
 //! What is stored of a frame slot.
 
 ghost use Rattle.std.specs.Prelude.{◌≡◌, option_map};
+ghost use Rattle.farm_rows.specs.Recovery.{state_of};
 ghost use Rattle.farm_rows.specs.Rows.{frame_row, running_state, stored_frame, stored_state};
 
 use farm_types::{Frame, FrameState, HostNo, JobNo, ProcRow, Slot, SlotRow, Version};
@@ -16,6 +17,23 @@ pub enum StoredState {
     Depend,
     Dead,
     Eaten,
+}
+
+impl StoredState {
+    /// The frame's state, without its attempt.
+    pub fn state(self) -> FrameState
+        ensures { result ≡ state_of self }
+    {
+        match self {
+            StoredState::Waiting => FrameState::Waiting,
+            StoredState::Setup => FrameState::Setup,
+            StoredState::Running { .. } => FrameState::Running,
+            StoredState::Succeeded => FrameState::Succeeded,
+            StoredState::Depend => FrameState::Depend,
+            StoredState::Dead => FrameState::Dead,
+            StoredState::Eaten => FrameState::Eaten,
+        }
+    }
 }
 
 /// A stored frame: its job, its layer's place in the job, its number, how often it was retried, and its state.

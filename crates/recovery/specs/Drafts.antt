@@ -2,13 +2,13 @@
 use Rattle.std.specs.Prelude.{◌≡◌, true, false, List, [], ◌∷◌, ◌++◌, Result, Ok, Err}
 use Rattle.farm_types.specs.Farm.{Farm}
 use Rattle.farm_rows.specs.declared.farm_row.FarmRow.{FarmRow}
-use Rattle.farm_rows.specs.Recovery.{RowKey, farm_said, farm_with, key_of}
+use Rattle.farm_rows.specs.Recovery.{StoredKey, farm_said, farm_with, key_of}
 use Rattle.recovery.specs.declared.fault.DraftFault.{DraftFault}
 use Rattle.recovery.specs.declared.fault.DraftFault.TheVariants as draft_fault
-use Rattle.stored_rows.specs.Told.{Takes, Told}
+use Rattle.stored_rows.specs.Told.{Accepts, Told}
 
 -- the farm that these rows say after those of the draft, or the key of the row at fault
-abbrev pub said_from : Told → List FarmRow → Result Farm RowKey
+abbrev pub said_from : Told → List FarmRow → Result Farm StoredKey
 said_from t rows = farm_with t.last t.farm rows
 
 -- the rows lead to the draft: with any rows after them they say what those say after it
@@ -21,8 +21,8 @@ IsReached t = (rows : List FarmRow) × LeadsTo rows t
 
 -- a row was added, or it broke the farm and nothing changed, unless memory ran out
 abbrev pub IsAdded : Told → FarmRow → Told → Result (Unit {0}) DraftFault → Type 0
-IsAdded old r new (Ok done) = Takes true old r new
-IsAdded old r new (Err (draft_fault.Breaks kind id)) = Takes false old r new × ((kind, id) ≡ key_of r)
+IsAdded old r new (Ok done) = Accepts true old r new
+IsAdded old r new (Err (draft_fault.Breaks kind id)) = Accepts false old r new × ((kind, id) ≡ key_of r)
 IsAdded old r new (Err draft_fault.NoMemory) = Unit {0}
 
 -- the farm of a draft's rows, or the key of the row at fault, unless memory ran out

@@ -1,45 +1,52 @@
 -- The farm of rows of bytes, or why there is none.
-use Rattle.std.specs.Prelude.{◌≡◌, ◌==◌, ◌&&◌, Bool, true, false, List, [], ◌∷◌, Option, None, Some, Result, Ok, Err, if◌then◌else◌}
+use Rattle.std.specs.Prelude.{ℕ, ◌≡◌, ◌==◌, ◌&&◌, Bool, true, false, List, [], ◌∷◌, Option, None, Some, Result, Ok, Err, if◌then◌else◌}
 use Rattle.farm_keeper.specs.declared.row.Row.{Row}
 use Rattle.farm_types.specs.Farm.{Farm}
 use Rattle.farm_rows.specs.declared.farm_row.FarmRow.{FarmRow}
-use Rattle.farm_rows.specs.Recovery.{RowKey, end_fault, is_before, key_of, row_fits, with_stored}
+use Rattle.farm_rows.specs.Recovery.{StoredKey, end_fault, is_before, key_of, row_fits, with_stored}
 use Rattle.farm_rows.specs.Rows.{row_id, row_kind}
 use Rattle.recovery.specs.declared.fault.RecoverFault.{RecoverFault}
 use Rattle.recovery.specs.declared.fault.RecoverFault.TheVariants.{BadBytes, BreaksFarm, NoMemory}
 use Rattle.row_codec.specs.RowFields.{row_text}
 use Rattle.row_codec.specs.RowReading.{row_from}
-use Rattle.stored_rows.specs.Told.{Takes, Told, none_told}
+use Rattle.stored_rows.specs.Told.{Accepts, Told, none_told}
 
-abbrev pub given_key : Row → RowKey
+abbrev pub given_key : Row → StoredKey
 given_key r = (r.kind, r.id)
 
-abbrev pub bad_bytes : RowKey → RecoverFault
+abbrev pub bad_bytes : StoredKey → RecoverFault
 bad_bytes key = BadBytes key.0 key.1
 
-abbrev pub breaks_farm : RowKey → RecoverFault
+abbrev pub breaks_farm : StoredKey → RecoverFault
 breaks_farm key = BreaksFarm key.0 key.1
 
 -- the first row is the farm's own, and each other one comes after the one before it
-abbrev pub may_follow : Option RowKey → RowKey → Bool
+abbrev pub may_follow : Option StoredKey → StoredKey → Bool
 may_follow None key = key.0 == 1 && key.1 == 0
 may_follow (Some last) key = is_before last key
 
 -- after the last row none may be at fault
-abbrev pub all_ended : Farm → Option RowKey → Result Farm RecoverFault
+abbrev pub all_ended : Farm → Option StoredKey → Result Farm RecoverFault
 all_ended f None = Ok f
 all_ended f (Some key) = Err (breaks_farm key)
 
--- the bytes are a row, which fits the farm so far
-abbrev pub read_with : Option FarmRow → Farm → RowKey → (FarmRow → Result Farm RecoverFault) → Result Farm RecoverFault
+-- The row that bytes are. A row of the farm's own kind is read as the farm's own whatever its id is, so that one of another id breaks the farm.
+abbrev pub read_id : ℕ → ℕ → ℕ
+read_id kind id = if kind == 1 then 0 else id
+
+abbrev pub row_given : Row → Option FarmRow
+row_given r = row_from r.kind (read_id r.kind r.id) r.bytes
+
+-- the bytes are a row of that id, which fits the farm so far
+abbrev pub read_with : Option FarmRow → Farm → StoredKey → (FarmRow → Result Farm RecoverFault) → Result Farm RecoverFault
 read_with None f key rest = Err (bad_bytes key)
-read_with (Some r) f key rest = if row_fits f r then rest r else Err (breaks_farm key)
+read_with (Some r) f key rest = if row_id r == key.1 && row_fits f r then rest r else Err (breaks_farm key)
 
 -- the farm that rows say with those before them, or the first one at fault
-abbrev pub recovered_with : Option RowKey → Farm → List Row → Result Farm RecoverFault
+abbrev pub recovered_with : Option StoredKey → Farm → List Row → Result Farm RecoverFault
 recovered_with last f [] = all_ended f (end_fault f)
 recovered_with last f (r ∷ rs) =
-    if may_follow last (given_key r) then read_with (row_from r.kind r.id r.bytes) f (given_key r) (λ row. recovered_with (Some (given_key r)) (with_stored f row) rs)
+    if may_follow last (given_key r) then read_with (row_given r) f (given_key r) (λ row. recovered_with (Some (given_key r)) (with_stored f row) rs)
     else Err (breaks_farm (given_key r))
 
 abbrev pub recovered_from : Told → List Row → Result Farm RecoverFault
@@ -56,23 +63,23 @@ IsRecovered said (Err (BreaksFarm kind id)) = said ≡ Err (BreaksFarm kind id)
 IsRecovered said (Err NoMemory) = Unit {0}
 
 -- a row was taken, so that what the rows after it say is what they say with it, or it is at fault, unless memory ran out
-abbrev pub IsTaken : Told → Row → Told → Result (Unit {0}) RecoverFault → Type 0
-IsTaken old r new (Ok done) = (rest : List Row) → recovered_from old (r ∷ rest) ≡ recovered_from new rest
-IsTaken old r new (Err (BadBytes kind id)) = (rest : List Row) → recovered_from old (r ∷ rest) ≡ Err (BadBytes kind id)
-IsTaken old r new (Err (BreaksFarm kind id)) = (rest : List Row) → recovered_from old (r ∷ rest) ≡ Err (BreaksFarm kind id)
-IsTaken old r new (Err NoMemory) = Unit {0}
+abbrev pub IsAccepted : Told → Row → Told → Result (Unit {0}) RecoverFault → Type 0
+IsAccepted old r new (Ok done) = (rest : List Row) → recovered_from old (r ∷ rest) ≡ recovered_from new rest
+IsAccepted old r new (Err (BadBytes kind id)) = (rest : List Row) → recovered_from old (r ∷ rest) ≡ Err (BadBytes kind id)
+IsAccepted old r new (Err (BreaksFarm kind id)) = (rest : List Row) → recovered_from old (r ∷ rest) ≡ Err (BreaksFarm kind id)
+IsAccepted old r new (Err NoMemory) = Unit {0}
 
 -- the row that the bytes are, or there is none, unless memory ran out
 abbrev pub IsRead : Row → Result FarmRow RecoverFault → Type 0
-IsRead r (Ok x) = row_from r.kind r.id r.bytes ≡ Some x
-IsRead r (Err (BadBytes kind id)) = (row_from r.kind r.id r.bytes ≡ None) × (kind ≡ r.kind) × (id ≡ r.id)
+IsRead r (Ok x) = row_given r ≡ Some x
+IsRead r (Err (BadBytes kind id)) = (row_given r ≡ None) × (kind ≡ r.kind) × (id ≡ r.id)
 IsRead r (Err (BreaksFarm kind id)) = ⊥
 IsRead r (Err NoMemory) = Unit {0}
 
 -- the row was added, or breaks the farm, unless memory ran out
 abbrev pub IsJoined : Told → FarmRow → Told → Result (Unit {0}) RecoverFault → Type 0
-IsJoined old r new (Ok done) = Takes true old r new
-IsJoined old r new (Err (BreaksFarm kind id)) = Takes false old r new × ((kind, id) ≡ key_of r)
+IsJoined old r new (Ok done) = Accepts true old r new
+IsJoined old r new (Err (BreaksFarm kind id)) = Accepts false old r new × ((kind, id) ≡ key_of r)
 IsJoined old r new (Err (BadBytes kind id)) = ⊥
 IsJoined old r new (Err NoMemory) = Unit {0}
 

@@ -3,7 +3,7 @@
 ghost use Rattle.std.specs.Prelude.{◌≡◌, [], None, true, IfOk};
 ghost use Rattle.farm_rows.specs.Recovery.{end_fault};
 ghost use Rattle.recovery.specs.Drafts.{IsAdded, IsFinished, IsReached, IsSaid, LeadsOn, LeadsTo};
-ghost use Rattle.stored_rows.specs.Told.{Takes, none_told};
+ghost use Rattle.stored_rows.specs.Told.{Accepts, none_told};
 
 use crate::fault::DraftFault;
 use farm_core::Farm;
@@ -101,7 +101,7 @@ impl FarmDraft {
 
     // Adds a row where it comes after the last one and fits, and says whether it does.
     fn take(&mut self, alloc: Global, row: FarmRow) -> Result<bool, AllocError>
-        ensures { IfOk result (λ taken. Takes taken self.old row self.new) }
+        ensures { IfOk result (λ taken. Accepts taken self.old row self.new) }
     {
         let intact = self.intact;
         self.intact = false;

@@ -3,8 +3,10 @@
 ghost use Rattle.std.specs.Prelude.{◌≡◌, [], List, Ok, map};
 ghost use Rattle.std.specs.List.{AllByRecursion};
 ghost use Rattle.farm_keeper.specs.declared.row.Row.{Row};
+ghost use Rattle.farm_types.specs.declared.entry.Entry.{Entry};
 ghost use Rattle.farm_types.specs.Farm.{Farm, empty_farm};
 ghost use Rattle.farm_types.specs.Kept.{IsKeptFarm};
+ghost use Rattle.farm_types.specs.Run.{IsLegal, run_of};
 ghost use Rattle.farm_rows.specs.Rows.{rows_of};
 ghost use Rattle.row_codec.specs.RowLaws.{Fits};
 ghost use Rattle.recovery.specs.Recovered.{recovered, spelled_row};
@@ -24,6 +26,17 @@ pub fn farms_are_recovered()
 {
     recovery_law::rows_say_their_farm();
     row_codec::rows_are_read_back();
+}
+
+/// Each farm of a legal run is what its rows, as they are spelled, are: of a run from the empty farm, and of one from a farm that rows are.
+pub fn farms_of_runs_are_recovered()
+    ensures empty { (es : List Entry) → IsLegal empty_farm es → recovered (map spelled_row (rows_of (run_of empty_farm es))) ≡ Ok (run_of empty_farm es) }
+    ensures later { (rows : List Row) (f : Farm) (es : List Entry) → recovered rows ≡ Ok f → IsLegal f es → recovered (map spelled_row (rows_of (run_of f es))) ≡ Ok (run_of f es) }
+{
+    depend_law::legal_runs_keep_farms();
+    store_law::rows_fit();
+    farms_are_recovered();
+    rows_recovered_are_the_farms();
 }
 
 /// No rows at all are the farm that no entry has made yet.

@@ -8,5 +8,8 @@ mod recovering;
 
 pub use draft::FarmDraft;
 pub use fault::{DraftFault, RecoverFault};
-pub use laws::{farms_are_recovered, no_rows_are_the_empty_farm, rows_recovered_are_the_farms};
+pub use laws::{
+    farms_are_recovered, farms_of_runs_are_recovered, no_rows_are_the_empty_farm,
+    rows_recovered_are_the_farms,
+};
 pub use recovering::recover;

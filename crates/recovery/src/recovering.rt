@@ -1,7 +1,7 @@
 //! The farm of a store's rows.
 
-ghost use Rattle.std.specs.Prelude.{◌≡◌, [], true};
-ghost use Rattle.recovery.specs.Recovered.{IsJoined, IsRead, IsRecovered, IsTaken, given_key, may_follow, recovered, recovered_from};
+ghost use Rattle.std.specs.Prelude.{◌≡◌, [], Some, true};
+ghost use Rattle.recovery.specs.Recovered.{IsJoined, IsRead, IsRecovered, IsAccepted, given_key, may_follow, read_id, recovered, recovered_from, row_given};
 
 use crate::draft::FarmDraft;
 use crate::fault::{DraftFault, RecoverFault};
@@ -13,7 +13,7 @@ use std::alloc::Global;
 
 /// The farm of these rows, which are taken as they are given, or the first row at fault. Of each in turn: one that doesn't come after the one before it by
 /// its kind, then its id, or that is the first one and isn't the farm's own, breaks the farm; then one whose bytes are no row is bad; then one that doesn't
-/// fit those before it breaks the farm. After the last row one may break the farm that all are there of. No rows at all are the empty farm.
+/// fit those before it, or is of the farm's own kind and another id, breaks the farm. After the last row one may break the farm that all are there of. No rows at all are the empty farm.
 pub fn recover(alloc: Global, rows: &[Row]) -> Result<Farm, RecoverFault>
     ensures { IsRecovered (recovered rows.now) result }
 {
@@ -28,7 +28,7 @@ pub fn recover(alloc: Global, rows: &[Row]) -> Result<Farm, RecoverFault>
 
 // Takes the next row.
 fn take(alloc: Global, draft: &mut FarmDraft, row: &Row) -> Result<(), RecoverFault>
-    ensures { IsTaken draft.old row.now draft.new result }
+    ensures { IsAccepted draft.old row.now draft.new result }
 {
     let kind = row.kind;
     let id = row.id;
@@ -41,13 +41,32 @@ fn take(alloc: Global, draft: &mut FarmDraft, row: &Row) -> Result<(), RecoverFa
 // Takes a row that is in order.
 fn take_next(alloc: Global, draft: &mut FarmDraft, row: &Row) -> Result<(), RecoverFault>
     requires { may_follow draft.old.last (given_key row.now) ≡ true }
-    ensures { IsTaken draft.old row.now draft.new result }
+    ensures { IsAccepted draft.old row.now draft.new result }
 {
-    row_codec::rows_are_read_as_spelled();
     match read(alloc, row) {
-        Ok(row) => add(alloc, draft, row),
+        Ok(found) => take_found(alloc, draft, row, found),
         Err(fault) => Err(fault),
     }
+}
+
+// Takes the row that the bytes are, where it is of the id that was given.
+fn take_found(
+    alloc: Global,
+    draft: &mut FarmDraft,
+    row: &Row,
+    found: FarmRow,
+) -> Result<(), RecoverFault>
+    requires next { may_follow draft.old.last (given_key row.now) ≡ true }
+    requires found { row_given row.now ≡ Some found }
+    ensures { IsAccepted draft.old row.now draft.new result }
+{
+    row_codec::rows_are_read_as_spelled();
+    let kind = row.kind;
+    let id = row.id;
+    if found.id() == id {
+        return add(alloc, draft, found);
+    }
+    Err(RecoverFault::BreaksFarm { kind, id })
 }
 
 // Whether the row is the farm's own, where it is the first, or comes after the last one.
@@ -64,11 +83,20 @@ fn may_follow(last: Option<(u8, u64)>, key: (u8, u64)) -> bool
 fn read(alloc: Global, row: &Row) -> Result<FarmRow, RecoverFault>
     ensures { IsRead row.now result }
 {
-    match decode(alloc, row.kind, row.id, row.bytes.as_slice()) {
+    let kind = row.kind;
+    let id = row.id;
+    match decode(alloc, kind, read_id(kind, id), row.bytes.as_slice()) {
         Ok(row) => Ok(row),
-        Err(RowFault::BadBytes { kind, id }) => Err(RecoverFault::BadBytes { kind, id }),
+        Err(RowFault::BadBytes { .. }) => Err(RecoverFault::BadBytes { kind, id }),
         Err(RowFault::NoMemory) => Err(RecoverFault::NoMemory),
     }
+}
+
+// By which id the row is read: one of the farm's own kind as the farm's own.
+fn read_id(kind: u8, id: u64) -> u64
+    ensures { result ≡ read_id kind id }
+{
+    if kind == 1 { 0 } else { id }
 }
 
 // Adds a row to the draft.

@@ -18,7 +18,7 @@ use Rattle.farm_law.proofs.KeptLists.{list_all-more}
 use Rattle.farm_rows.specs.declared.farm_row.FarmRow.{FarmRow}
 use Rattle.farm_rows.specs.declared.farm_row.FarmRow.TheVariants as row
 use Rattle.farm_rows.specs.declared.head_row.HeadRow.{HeadRow}
-use Rattle.farm_rows.specs.Recovery.{RowKey, is_before, key_of, met_fits, row_fits, slot_row, with_slot, with_stored}
+use Rattle.farm_rows.specs.Recovery.{StoredKey, is_before, key_of, met_fits, row_fits, slot_row, with_slot, with_stored}
 use Rattle.farm_rows.specs.Rows.{numbered}
 use Rattle.recovery_law.proofs.DraftDepends.{DraftDepends, depend_kept, depends_beside, met_kept, no_depends_yet}
 use Rattle.recovery_law.proofs.DraftRows.{DraftJobs, DraftLayers, alloc_kept, host_kept, job_kept, layer_kept, no_jobs_yet, no_layers_yet, show_kept}
@@ -47,7 +47,7 @@ pub record Draft (f : Farm) : Type 0 where
   pub met : list_all (met_fits f) f.met ≡ true
 
 -- the rows so far are the farm's, one after the other, and it keeps that
-abbrev pub IsDraft : Option RowKey → Farm → List FarmRow → Type 0
+abbrev pub IsDraft : Option StoredKey → Farm → List FarmRow → Type 0
 IsDraft None f done = (f ≡ empty_farm) × (done ≡ [])
 IsDraft (Some key) f done = Said key f done × Follow (0, 0) done key × Draft f
 
@@ -75,7 +75,7 @@ none_long (x ∷ xs) h = absurd (omega (arith, h))
 no_hosts_yet : (allocs moment : ℕ) → KeepsHosts [] allocs moment
 no_hosts_yet allocs moment = record { count = omega arith; differ = names_none; formed = refl; allocated = refl; heard = refl }
 
-module _ (key : RowKey) (f : Farm) (done : List FarmRow) (k : Said key f done) where
+module _ (key : StoredKey) (f : Farm) (done : List FarmRow) (k : Said key f done) where
   subs_none : key.0 ≤ 3 → f.subs ≡ []
   subs_none h = none_mapped row.Sub f.subs (none_first (map row.Sub f.subs) (from_hosts f) (no_subs key f done k h))
 

@@ -12,7 +12,7 @@ use Rattle.farm_types.specs.DependActs.{has_number, or_else}
 use Rattle.farm_types.specs.Depends.{groups_of, layer_shape, or_first, slots_placed}
 use Rattle.farm_types.specs.declared.depend.DependEnd.{DependEnd}
 use Rattle.farm_types.specs.declared.depend.DependRow.{DependRow}
-use Rattle.farm_types.specs.declared.limits.TheConstants.{LAST_VERSION, MOST_ALLOCS, MOST_LAYERS, SUB_NUMBERS}
+use Rattle.farm_types.specs.declared.limits.TheConstants.{LAST_VERSION, MOST_ALLOCS, MOST_LAYERS, SLOT_LIMIT, SUB_NUMBERS}
 use Rattle.farm_types.specs.declared.rows.JobRow.{JobRow}
 use Rattle.farm_types.specs.declared.rows.LayerRow.{LayerRow}
 use Rattle.farm_types.specs.declared.slot_row.Frame.{Frame}
@@ -31,7 +31,7 @@ use Rattle.farm_types.proofs.Passes.{for_some-there}
 use Rattle.farm_law.proofs.KeptJobsRows.{frame_kept}
 use Rattle.depend_law.proofs.Among.{In, kept_from, rising_once}
 use Rattle.farm_rows.specs.declared.farm_row.FarmRow.TheVariants as row
-use Rattle.farm_rows.specs.Recovery.{RowKey, end_fault, end_is_there, first_depend, first_job, first_layer, first_slot, groups_so_far, head_ends, is_frame_in, is_part_in, is_wrongly_marked, lacks_frames, lacks_number, lacks_slots, layer_so_far, slots_so_far, stand_in}
+use Rattle.farm_rows.specs.Recovery.{StoredKey, end_fault, end_is_there, first_depend, first_job, first_layer, first_slot, groups_so_far, head_ends, is_frame_in, is_part_in, is_wrongly_marked, lacks_frames, lacks_number, lacks_slots, layer_so_far, slot_or, slots_so_far}
 use Rattle.recovery_law.proofs.DraftDepends.{HasAllGroups}
 use Rattle.recovery_law.proofs.Drafts.{Draft}
 use Rattle.recovery_law.proofs.Ordered.{InOrder, rises}
@@ -111,16 +111,16 @@ there f fine n l at position below =
     subst (λ (p : ℕ). is_some (slot_from 0 (is_placed l.job l.place p) f.slots) ≡ true) (omega arith) (each_numbered f l 0 (range_numbers l.range) (fine.slots n l at) position below)
 
 -- so groups so far are all groups
-stands_in : (job layer position : ℕ) (o : Option ℕ) → is_some o ≡ true → stand_in job layer position o ≡ or_first o
-stands_in job layer position None h = absurd (false≢true h)
-stands_in job layer position (Some slot) h = refl
+stands_in : (none : ℕ) (o : Option ℕ) → is_some o ≡ true → slot_or none o ≡ or_first o
+stands_in none None h = absurd (false≢true h)
+stands_in none (Some slot) h = refl
 
-slots_same : (slots : List SlotRow) (l : LayerRow) (position : ℕ) (ns : List ℤ) → ((k : ℕ) → k < length ns → is_some (slot_from 0 (is_placed l.job l.place (position + k)) slots) ≡ true) → slots_so_far slots l position ns ≡ slots_placed slots l.job l.place position ns
-slots_same slots l position [] each = refl
-slots_same slots l position (n ∷ ns) each =
+slots_same : (none : ℕ) (slots : List SlotRow) (l : LayerRow) (position : ℕ) (ns : List ℤ) → ((k : ℕ) → k < length ns → is_some (slot_from 0 (is_placed l.job l.place (position + k)) slots) ≡ true) → slots_so_far none slots l position ns ≡ slots_placed slots l.job l.place position ns
+slots_same none slots l position [] each = refl
+slots_same none slots l position (n ∷ ns) each =
     let first : is_some (slot_from 0 (is_placed l.job l.place position) slots) ≡ true = subst (λ (p : ℕ). is_some (slot_from 0 (is_placed l.job l.place p) slots) ≡ true) (omega arith) (each 0 (omega arith)) in
-    let here = stands_in l.job l.place position (slot_from 0 (is_placed l.job l.place position) slots) first in
-    let rest = slots_same slots l (position + 1) ns (λ k below. subst (λ (p : ℕ). is_some (slot_from 0 (is_placed l.job l.place p) slots) ≡ true) (omega arith) (each (suc k) (omega (arith, below)))) in
+    let here = stands_in none (slot_from 0 (is_placed l.job l.place position) slots) first in
+    let rest = slots_same none slots l (position + 1) ns (λ k below. subst (λ (p : ℕ). is_some (slot_from 0 (is_placed l.job l.place p) slots) ≡ true) (omega arith) (each (suc k) (omega (arith, below)))) in
     λ j. here j ∷ rest j
 
 map_alike : {X Y : Type 0} (first second : X → Y) (xs : List X) → ((n : ℕ) (x : X) → slice_get xs n ≡ Some x → first x ≡ second x) → map first xs ≡ map second xs
@@ -130,21 +130,21 @@ map_alike first second (x ∷ xs) same =
     let rest = map_alike first second xs (λ n y at. same (suc n) y at) in
     λ j. here j ∷ rest j
 
-layer_alike : (f : Farm) (l : LayerRow) → lacks_slots f l ≡ false → layer_so_far f.slots l ≡ layer_shape f.slots l
-layer_alike f l none =
+layer_alike : (past : ℕ) (f : Farm) (l : LayerRow) → lacks_slots f l ≡ false → layer_so_far past f.slots l ≡ layer_shape f.slots l
+layer_alike past f l none =
     ap (λ (slots : List ℕ). record { name = l.name; numbers = range_numbers l.range; slots = slots })
-    (slots_same f.slots l 0 (range_numbers l.range) (λ k below. each_numbered f l 0 (range_numbers l.range) none k below))
+    (slots_same past f.slots l 0 (range_numbers l.range) (λ k below. each_numbered f l 0 (range_numbers l.range) none k below))
 
-layers_alike : (f : Farm) → NoFault f → (job : ℕ) → map (layer_so_far f.slots) (layers_of f.layers job) ≡ map (layer_shape f.slots) (layers_of f.layers job)
-layers_alike f fine job =
-    map_alike (layer_so_far f.slots) (layer_shape f.slots) (layers_of f.layers job)
-    (λ n l at. let own = kept_from (λ (k : LayerRow). eqb k.job job) f.layers n l at in layer_alike f l (fine.slots own.0.0 l own.0.1))
+layers_alike : (f : Farm) → NoFault f → (past job : ℕ) → map (layer_so_far past f.slots) (layers_of f.layers job) ≡ map (layer_shape f.slots) (layers_of f.layers job)
+layers_alike f fine past job =
+    map_alike (layer_so_far past f.slots) (layer_shape f.slots) (layers_of f.layers job)
+    (λ n l at. let own = kept_from (λ (k : LayerRow). eqb k.job job) f.layers n l at in layer_alike past f l (fine.slots own.0.0 l own.0.1))
 
 pub all_groups : (f : Farm) → NoFault f → HasAllGroups f
 unfolding groups_of groups_so_far
 all_groups f fine d =
-    let waiters = layers_alike f fine d.waiter.job in
-    let targets = layers_alike f fine d.target.job in
+    let waiters = layers_alike f fine SLOT_LIMIT d.waiter.job in
+    let targets = layers_alike f fine (SLOT_LIMIT + 1) d.target.job in
     λ j. groups_by d.kind d.any (part_at d.waiter) (part_at d.target) (record { layers = waiters j }) (record { layers = targets j })
 
 -- ---- ends of depends
@@ -269,7 +269,7 @@ module _ (f : Farm) (d : Draft f) (o : InOrder f) where
     said_by true n j pending is none = eqb-true _ j.frames is
     said_by false n j pending is none = absurd (false≢true (sym (rw (pending, is) at none)))
 
-    head_by : (b : Bool) → leb (f.next_finish + length (filter is_pending_job f.jobs)) f.next_job ≡ b → ◌≡◌ {A = Option RowKey} (cond b None (Some (1, 0))) None → f.next_finish + length (filter is_pending_job f.jobs) ≤ f.next_job
+    head_by : (b : Bool) → leb (f.next_finish + length (filter is_pending_job f.jobs)) f.next_job ≡ b → ◌≡◌ {A = Option StoredKey} (cond b None (Some (1, 0))) None → f.next_finish + length (filter is_pending_job f.jobs) ≤ f.next_job
     head_by true is e = leb-true _ f.next_job is
     head_by false is e = absurd (none-some (1, 0) (sym e))
 

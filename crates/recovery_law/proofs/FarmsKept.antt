@@ -6,14 +6,14 @@ use Rattle.farm_types.specs.Farm.{Farm, empty_farm}
 use Rattle.farm_types.specs.Kept.{IsKeptFarm}
 use Rattle.depend_law.proofs.KeptFirst.{first_empty}
 use Rattle.farm_rows.specs.declared.farm_row.FarmRow.{FarmRow}
-use Rattle.farm_rows.specs.Recovery.{RowKey, end_fault, farm_said}
+use Rattle.farm_rows.specs.Recovery.{StoredKey, end_fault, farm_said}
 use Rattle.recovery_law.proofs.Drafts.{IsDraft, draft_step}
 use Rattle.recovery_law.proofs.Ended.{keeps_rows, keeps_work, no_fault}
 use Rattle.recovery_law.proofs.MetSaid.{keeps_depends}
 use Rattle.recovery_law.proofs.Ordered.{Follow, in_order}
 use Rattle.recovery_law.proofs.Steps.{all_rows}
 
-kept_end : (end : Option RowKey) (f : Farm) (rows : List FarmRow) → IsDraft end f rows → end_fault f ≡ None → IsKeptFarm f
+kept_end : (end : Option StoredKey) (f : Farm) (rows : List FarmRow) → IsDraft end f rows → end_fault f ≡ None → IsKeptFarm f
 kept_end None f rows k none = subst IsKeptFarm (sym k.0) first_empty
 kept_end (Some key) f rows k none =
     let fine = no_fault f none in

@@ -13,7 +13,7 @@ use Rattle.farm_types.specs.declared.depend.DependRow.{DependRow}
 use Rattle.farm_types.specs.declared.rows.LayerRow.{LayerRow}
 use Rattle.farm_types.specs.declared.slot_row.Frame.{Frame}
 use Rattle.farm_types.specs.declared.slot_row.SlotRow.{SlotRow}
-use Rattle.farm_types.specs.declared.limits.TheConstants.{LAST_VERSION, MOST_LAYERS}
+use Rattle.farm_types.specs.declared.limits.TheConstants.{LAST_VERSION, MOST_LAYERS, SLOT_LIMIT}
 use Rattle.farm_types.specs.DependActs.{has_number}
 use Rattle.farm_types.specs.Depends.{groups_of, layer_shape, or_first, slots_placed}
 use Rattle.farm_types.specs.Farm.{Farm, for_some, is_placed, layers_of, slot_from}
@@ -26,7 +26,7 @@ use Rattle.farm_types.proofs.Passes.{for_some-there}
 use Rattle.farm_law.proofs.Filtered.{at_kept}
 use Rattle.farm_law.proofs.KeptJobsCounts.{StandsAt, stands_at}
 use Rattle.depend_law.proofs.Among.{rising_above}
-use Rattle.farm_rows.specs.Recovery.{end_is_there, groups_so_far, is_frame_in, is_part_in, layer_so_far, slots_so_far, stand_in}
+use Rattle.farm_rows.specs.Recovery.{end_is_there, groups_so_far, is_frame_in, is_part_in, layer_so_far, slot_or, slots_so_far}
 use Rattle.recovery_law.proofs.Parts.{upto_depends}
 use Rattle.recovery_law.proofs.SlotBack.{Stands, stands}
 
@@ -78,16 +78,16 @@ at_from test place (t ∷ ts) h = at_by test place (for_some t.frame test) t ts 
 
 -- ---- groups
 
-stand_by : (job layer position : ℕ) (o : Option ℕ) → is_some o ≡ true → stand_in job layer position o ≡ or_first o
-stand_by job layer position None there = absurd (false≢true there)
-stand_by job layer position (Some slot) there = refl
+stand_by : (none : ℕ) (o : Option ℕ) → is_some o ≡ true → slot_or none o ≡ or_first o
+stand_by none None there = absurd (false≢true there)
+stand_by none (Some slot) there = refl
 
-so_far : (slots : List SlotRow) (l : LayerRow) (position : ℕ) (ns : List ℤ) → ((p : ℕ) → position ≤ p → p < position + length ns → is_some (slot_from 0 (is_placed l.job l.place p) slots) ≡ true)
-    → slots_so_far slots l position ns ≡ slots_placed slots l.job l.place position ns
-so_far slots l position [] there = refl
-so_far slots l position (n ∷ ns) there =
-    let first = stand_by l.job l.place position (slot_from 0 (is_placed l.job l.place position) slots) (there position (omega arith) (omega arith)) in
-    let rest = so_far slots l (position + 1) ns (λ p low high. there p (omega (arith, low)) (omega (arith, high))) in
+so_far : (none : ℕ) (slots : List SlotRow) (l : LayerRow) (position : ℕ) (ns : List ℤ) → ((p : ℕ) → position ≤ p → p < position + length ns → is_some (slot_from 0 (is_placed l.job l.place p) slots) ≡ true)
+    → slots_so_far none slots l position ns ≡ slots_placed slots l.job l.place position ns
+so_far none slots l position [] there = refl
+so_far none slots l position (n ∷ ns) there =
+    let first = stand_by none (slot_from 0 (is_placed l.job l.place position) slots) (there position (omega arith) (omega arith)) in
+    let rest = so_far none slots l (position + 1) ns (λ p low high. there p (omega (arith, low)) (omega (arith, high))) in
     λ i. first i ∷ rest i
 
 map_alike : {X Y : Type 0} (g h : X → Y) (xs : List X) → ((n : ℕ) (x : X) → slice_get xs n ≡ Some x → g x ≡ h x) → map g xs ≡ map h xs
@@ -165,18 +165,18 @@ module _ (f : Farm) (k : KeepsRows f) where
         let both = and_both (is_of_pending f.jobs e.job) (has_part (layers_of f.layers e.job) e.layer e.frame) there in
         both_true both.0 (part_there e.job e.layer e.frame both.1)
 
-    layers_alike : (job : ℕ) → map (layer_so_far f.slots) (layers_of f.layers job) ≡ map (layer_shape f.slots) (layers_of f.layers job)
-    layers_alike job =
-        map_alike (layer_so_far f.slots) (layer_shape f.slots) (layers_of f.layers job)
+    layers_alike : (none job : ℕ) → map (layer_so_far none f.slots) (layers_of f.layers job) ≡ map (layer_shape f.slots) (layers_of f.layers job)
+    layers_alike none job =
+        map_alike (layer_so_far none f.slots) (layer_shape f.slots) (layers_of f.layers job)
         (λ n l at.
         let there = at_kept (λ (l : LayerRow). eqb l.job job) f.layers n l at in
         ap (λ (slots : List ℕ). record { name = l.name; numbers = range_numbers l.range; slots = slots })
-        (so_far f.slots l 0 (range_numbers l.range) (λ p low high. k.jobs.frames_there there.0 l there.1 p (omega (arith, high)))))
+        (so_far none f.slots l 0 (range_numbers l.range) (λ p low high. k.jobs.frames_there there.0 l there.1 p (omega (arith, high)))))
 
     -- the groups are those of the rows so far
     pub groups_alike : (d : DependRow) → groups_so_far (upto_depends f done) d ≡ groups_of f d
     unfolding groups_so_far groups_of
     groups_alike d =
-        let waiters = layers_alike d.waiter.job in
-        let targets = layers_alike d.target.job in
+        let waiters = layers_alike SLOT_LIMIT d.waiter.job in
+        let targets = layers_alike (SLOT_LIMIT + 1) d.target.job in
         λ i. groups_by d.kind d.any (part_at d.waiter) (part_at d.target) (record { layers = waiters i }) (record { layers = targets i })

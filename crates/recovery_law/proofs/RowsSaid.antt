@@ -23,7 +23,7 @@ use Rattle.farm_rows.specs.declared.frame_row.StoredFrame.{StoredFrame}
 use Rattle.farm_rows.specs.declared.frame_row.StoredState.{StoredState}
 use Rattle.farm_rows.specs.declared.frame_row.StoredState.TheVariants as stored
 use Rattle.farm_rows.specs.declared.head_row.HeadRow.{HeadRow}
-use Rattle.farm_rows.specs.Recovery.{RowKey, is_before, attempt_at, attempt_fits, farm_said, key_of, row_fits, slot_fits, slot_row, state_of, taken_fits, with_slot, with_stored}
+use Rattle.farm_rows.specs.Recovery.{StoredKey, is_before, attempt_at, attempt_fits, farm_said, key_of, row_fits, slot_fits, slot_row, state_of, taken_fits, with_slot, with_stored}
 use Rattle.farm_rows.specs.Rows.{head_row, frame_row, is_unused, numbered, recorded_rows, row_kind, rows_of, slot_rows, stored_state}
 use Rattle.recovery_law.proofs.Fits.{attempt_parts, frame_parts, slot_parts}
 use Rattle.recovery_law.proofs.RowKinds.{IsUpTo, allocs_are, depends_are, ends_with, from_allocs, from_depends, from_hosts, from_jobs, from_layers, from_shows, from_slots, from_subs, hosts_are, in_front, jobs_are, layers_are, met_are, none_between, numbered_next, slot_added, slots_are, slots_long, subs_are, up_to_more}
@@ -56,29 +56,29 @@ taken_used f slot version (Some x) h = refl
 -- ---- each row
 
 -- how many slots rows up to that key say at most
-abbrev pub reach : RowKey → ℕ
+abbrev pub reach : StoredKey → ℕ
 reach key = cond (eqb key.0 8) (key.1 + 1) 0
 
 -- The farm that rows up to that key say: they are its rows, and its slots end with the last of them.
-pub record Said (key : RowKey) (f : Farm) (done : List FarmRow) : Type 0 where
+pub record Said (key : StoredKey) (f : Farm) (done : List FarmRow) : Type 0 where
   pub recorded : f.recorded ≡ true
   pub rows : recorded_rows f ≡ done
   pub kinds : IsUpTo key.0 done
   pub slots : key.0 < 9 → length f.slots ≤ reach key
 
 -- before the first row it is the empty one
-abbrev pub IsSaid : Option RowKey → Farm → List FarmRow → Type 0
+abbrev pub IsSaid : Option StoredKey → Farm → List FarmRow → Type 0
 IsSaid None f done = (f ≡ empty_farm) × (done ≡ [])
 IsSaid (Some key) f done = Said key f done
 
-pub kind_before : (x y : RowKey) → is_before x y ≡ true → x.0 ≤ y.0
+pub kind_before : (x y : StoredKey) → is_before x y ≡ true → x.0 ≤ y.0
 kind_before x y h = elim (before_parts x y h) [ inl less ↦ omega (arith, less) | inr same ↦ omega (arith, same.0) ]
 
-reach_none : (key : RowKey) → key.0 < 8 → reach key ≡ 0
+reach_none : (key : StoredKey) → key.0 < 8 → reach key ≡ 0
 reach_none key below = ap (λ (b : Bool). cond b (key.1 + 1) 0) (ne_eqb key.0 8 (λ e. absurd (omega (arith, below, e))))
 
 -- one row more at the end
-said_more : (key : RowKey) (f g : Farm) (done : List FarmRow) (r : FarmRow) → Said key f done → is_before key (key_of r) ≡ true → g.recorded ≡ true → recorded_rows g ≡ recorded_rows f ++ r ∷ []
+said_more : (key : StoredKey) (f g : Farm) (done : List FarmRow) (r : FarmRow) → Said key f done → is_before key (key_of r) ≡ true → g.recorded ≡ true → recorded_rows g ≡ recorded_rows f ++ r ∷ []
     → (row_kind r < 9 → length g.slots ≤ reach (key_of r)) → Said (key_of r) g (done ++ r ∷ [])
 said_more key f g done r k after recorded rows slots =
     record {
@@ -91,7 +91,7 @@ said_more key f g done r k after recorded rows slots =
 up_later : (most : ℕ) (xs ys : List FarmRow) → IsUpTo most (xs ++ ys) → IsUpTo most ys
 up_later most xs ys h = (and_both (list_all (λ (r : FarmRow). leb (row_kind r) most) xs) _ (sym (list_all-append (λ (r : FarmRow). leb (row_kind r) most) xs ys) ∙ h)).1
 
-module _ (key : RowKey) (f : Farm) (done : List FarmRow) (k : Said key f done) where
+module _ (key : StoredKey) (f : Farm) (done : List FarmRow) (k : Said key f done) where
   all_up : (most : ℕ) → key.0 ≤ most → IsUpTo most (from_shows f)
   all_up most h = (and_both (leb 1 most) _ (up_to_more key.0 most (recorded_rows f) h (subst (IsUpTo key.0) (sym k.rows) k.kinds))).1
 
@@ -306,7 +306,7 @@ pub said_step : IsStep IsSaid
 said_step None f done r k after fits = subst (λ (olds : List FarmRow). Said (key_of r) (with_stored f r) (olds ++ r ∷ [])) (sym k.1) (first_said f r k.0 fits)
 said_step (Some key) f done r k after fits = next_said key f done k r after fits
 
-said_rows : (end : Option RowKey) (f : Farm) (rows : List FarmRow) → IsSaid end f rows → rows_of f ≡ rows
+said_rows : (end : Option StoredKey) (f : Farm) (rows : List FarmRow) → IsSaid end f rows → rows_of f ≡ rows
 said_rows None f rows k = ap rows_of k.0 ∙ sym k.1
 said_rows (Some key) f rows k = rw k.recorded k.rows
 

@@ -24,7 +24,7 @@ use Rattle.depend_law.proofs.GroupSlots.{group_key}
 use Rattle.depend_law.proofs.Waiters.{depend_holds}
 use Rattle.farm_rows.specs.declared.farm_row.FarmRow.TheVariants as row
 use Rattle.farm_rows.specs.declared.ids.TheConstants.{GROUP_IDS}
-use Rattle.farm_rows.specs.Recovery.{RowKey, ended, farm_with, groups_so_far, has_group, met_fits}
+use Rattle.farm_rows.specs.Recovery.{StoredKey, ended, farm_with, groups_so_far, has_group, met_fits}
 use Rattle.recovery_law.proofs.Firsts.{by_keys, numbered_map}
 use Rattle.recovery_law.proofs.FramesThere.{find_itself, groups_alike}
 use Rattle.recovery_law.proofs.Parts.{upto_depends, upto_met}
@@ -131,7 +131,7 @@ module _ (f : Farm) (k : IsKeptFarm f) where
   whole : f.recorded ≡ true → upto_met f f.met ≡ f
   whole is = ap (λ (b : Bool). record f { recorded = b }) (sym is)
 
-  pub met_said : f.recorded ≡ true → (last : Option RowKey) → IsPast last 9 → farm_with last (upto_met f []) (map row.Met f.met) ≡ Ok f
+  pub met_said : f.recorded ≡ true → (last : Option StoredKey) → IsPast last 9 → farm_with last (upto_met f []) (map row.Met f.met) ≡ Ok f
   met_said is last past =
       ap (farm_with last (upto_met f [])) (sym (append-nil (map row.Met f.met)) ∙ ap (λ rows. rows ++ []) (sym (numbered_map row.Met 0 f.met)))
       ∙ all_staged (met_kind f) f.met met_stage [] (Ok f) (λ key later. ap (λ (g : Farm). farm_with key g []) (whole is) ∙ ap (ended f) (none_at_fault f k)) last (GROUP_IDS * 1) 9 (omega arith)

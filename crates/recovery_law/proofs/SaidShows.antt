@@ -13,7 +13,7 @@ use Rattle.farm_types.specs.Kept.{AllDiffer, KeepsRows, alloc_label, host_label,
 use Rattle.farm_types.specs.Rising.{sub_key}
 use Rattle.farm_rows.specs.declared.farm_row.FarmRow.{FarmRow}
 use Rattle.farm_rows.specs.declared.farm_row.FarmRow.TheVariants as row
-use Rattle.farm_rows.specs.Recovery.{RowKey, alloc_fits, farm_with, host_fits, show_fits}
+use Rattle.farm_rows.specs.Recovery.{StoredKey, alloc_fits, farm_with, host_fits, show_fits}
 use Rattle.farm_rows.specs.Rows.{numbered}
 use Rattle.recovery_law.proofs.Firsts.{by_keys, first_fewer, new_label, next_passes, numbered_map}
 use Rattle.recovery_law.proofs.Parts.{upto_allocs, upto_hosts, upto_shows, upto_subs}
@@ -86,20 +86,20 @@ module _ (f : Farm) (k : KeepsRows f) where
   hosts_stage = record { keys = λ n x. refl; adds = λ done x. refl; fits = host_fit }
 
   -- what they say with the rows after them
-  pub shows_said : (more : List FarmRow) (said : Result Farm RowKey) → ((last : Option RowKey) → IsPast last 2 → farm_with last (upto_shows f f.shows) more ≡ said)
-      → (last : Option RowKey) → IsPast last 1 → farm_with last (upto_shows f []) (numbered row.Show 0 f.shows ++ more) ≡ said
+  pub shows_said : (more : List FarmRow) (said : Result Farm StoredKey) → ((last : Option StoredKey) → IsPast last 2 → farm_with last (upto_shows f f.shows) more ≡ said)
+      → (last : Option StoredKey) → IsPast last 1 → farm_with last (upto_shows f []) (numbered row.Show 0 f.shows ++ more) ≡ said
   shows_said more said next last past = all_staged (show_rows f) f.shows shows_stage more said next last 0 1 (omega arith) (by_places 0 f.shows) past
 
-  pub allocs_said : (more : List FarmRow) (said : Result Farm RowKey) → ((last : Option RowKey) → IsPast last 3 → farm_with last (upto_allocs f f.allocs) more ≡ said)
-      → (last : Option RowKey) → IsPast last 2 → farm_with last (upto_allocs f []) (numbered row.Alloc 0 f.allocs ++ more) ≡ said
+  pub allocs_said : (more : List FarmRow) (said : Result Farm StoredKey) → ((last : Option StoredKey) → IsPast last 3 → farm_with last (upto_allocs f f.allocs) more ≡ said)
+      → (last : Option StoredKey) → IsPast last 2 → farm_with last (upto_allocs f []) (numbered row.Alloc 0 f.allocs ++ more) ≡ said
   allocs_said more said next last past = all_staged (alloc_rows f) f.allocs allocs_stage more said next last 0 2 (omega arith) (by_places 0 f.allocs) past
 
-  pub subs_said : (more : List FarmRow) (said : Result Farm RowKey) → ((last : Option RowKey) → IsPast last 4 → farm_with last (upto_subs f f.subs) more ≡ said)
-      → (last : Option RowKey) → IsPast last 3 → farm_with last (upto_subs f []) (map row.Sub f.subs ++ more) ≡ said
+  pub subs_said : (more : List FarmRow) (said : Result Farm StoredKey) → ((last : Option StoredKey) → IsPast last 4 → farm_with last (upto_subs f f.subs) more ≡ said)
+      → (last : Option StoredKey) → IsPast last 3 → farm_with last (upto_subs f []) (map row.Sub f.subs ++ more) ≡ said
   subs_said more said next last past =
       ap (λ (rows : List FarmRow). farm_with last (upto_subs f []) (rows ++ more)) (sym (numbered_map row.Sub 0 f.subs))
       ∙ all_staged (sub_rows f) f.subs subs_stage more said next last 0 3 (omega arith) (by_keys sub_key 0 0 f.subs SUB_NUMBERS k.subs.rise) past
 
-  pub hosts_said : (more : List FarmRow) (said : Result Farm RowKey) → ((last : Option RowKey) → IsPast last 5 → farm_with last (upto_hosts f f.hosts) more ≡ said)
-      → (last : Option RowKey) → IsPast last 4 → farm_with last (upto_hosts f []) (numbered row.Host 0 f.hosts ++ more) ≡ said
+  pub hosts_said : (more : List FarmRow) (said : Result Farm StoredKey) → ((last : Option StoredKey) → IsPast last 5 → farm_with last (upto_hosts f f.hosts) more ≡ said)
+      → (last : Option StoredKey) → IsPast last 4 → farm_with last (upto_hosts f []) (numbered row.Host 0 f.hosts ++ more) ≡ said
   hosts_said more said next last past = all_staged (host_rows f) f.hosts hosts_stage more said next last 0 4 (omega arith) (by_places 0 f.hosts) past

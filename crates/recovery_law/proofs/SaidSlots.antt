@@ -11,7 +11,7 @@ use Rattle.farm_types.specs.Kept.{EndsUsed, KeepsRows, is_used}
 use Rattle.farm_types.specs.Run.{HasItsAttempt}
 use Rattle.farm_rows.specs.declared.farm_row.FarmRow.{FarmRow}
 use Rattle.farm_rows.specs.declared.farm_row.FarmRow.TheVariants as row
-use Rattle.farm_rows.specs.Recovery.{RowKey, farm_with, unused_slot, with_slot}
+use Rattle.farm_rows.specs.Recovery.{StoredKey, farm_with, unused_slot, with_slot}
 use Rattle.farm_rows.specs.Rows.{frame_row, is_unused, slot_rows}
 use Rattle.recovery_law.proofs.Parts.{upto_slots}
 use Rattle.recovery_law.proofs.SlotBack.{fit_back}
@@ -37,7 +37,7 @@ unused_is place version None None own unused = ap (λ (n : ℕ). record { versio
 unused_is place version None (Some p) own unused = absurd own
 unused_is place version (Some x) proc own unused = absurd (true≢false (sym unused))
 
-module _ (f : Farm) (k : KeepsRows f) (more : List FarmRow) (said : Result Farm RowKey) (next : (last : Option RowKey) → IsPast last 8 → farm_with last (upto_slots f f.slots) more ≡ said) where
+module _ (f : Farm) (k : KeepsRows f) (more : List FarmRow) (said : Result Farm StoredKey) (next : (last : Option StoredKey) → IsPast last 8 → farm_with last (upto_slots f f.slots) more ≡ said) where
   at_end : (had : List SlotRow) (gap : ℕ) → had ++ (replicate gap unused_slot ++ []) ≡ f.slots → had ≡ f.slots
   at_end had zero is = sym (append-nil had) ∙ is
   at_end had (suc gap) is =
@@ -50,10 +50,10 @@ module _ (f : Farm) (k : KeepsRows f) (more : List FarmRow) (said : Result Farm 
   -- the slots from one on are said, whatever stands before them and leads to them
   abbrev AreSaid : List SlotRow → Type 0
   AreSaid rest =
-      (had : List SlotRow) (gap place : ℕ) (last : Option RowKey) → had ++ (replicate gap unused_slot ++ rest) ≡ f.slots → place ≡ length had + gap → IsPast last 8 → IsFrom last 8 place
+      (had : List SlotRow) (gap place : ℕ) (last : Option StoredKey) → had ++ (replicate gap unused_slot ++ rest) ≡ f.slots → place ≡ length had + gap → IsPast last 8 → IsFrom last 8 place
       → farm_with last (upto_slots f had) (slot_rows place rest ++ more) ≡ said
 
-  module _ (s : SlotRow) (ss : List SlotRow) (later : AreSaid ss) (had : List SlotRow) (gap place : ℕ) (last : Option RowKey) (is : had ++ (replicate gap unused_slot ++ s ∷ ss) ≡ f.slots) (place_is : place ≡ length had + gap) (past : IsPast last 8) (from : IsFrom last 8 place) where
+  module _ (s : SlotRow) (ss : List SlotRow) (later : AreSaid ss) (had : List SlotRow) (gap place : ℕ) (last : Option StoredKey) (is : had ++ (replicate gap unused_slot ++ s ∷ ss) ≡ f.slots) (place_is : place ≡ length had + gap) (past : IsPast last 8) (from : IsFrom last 8 place) where
     long : length (replicate gap unused_slot) ≡ gap
     long = length-replicate {A = SlotRow} gap unused_slot
 
@@ -93,5 +93,5 @@ module _ (f : Farm) (k : KeepsRows f) (more : List FarmRow) (said : Result Farm 
   slots_from [] had gap place last is place_is past from = ap (λ (ss : List SlotRow). farm_with last (upto_slots f ss) more) (at_end had gap is) ∙ next last past
   slots_from (s ∷ ss) had gap place last is place_is past from = either s ss (slots_from ss) had gap place last is place_is past from (is_unused s) refl
 
-  pub slots_said : (last : Option RowKey) → IsPast last 7 → farm_with last (upto_slots f []) (slot_rows 0 f.slots ++ more) ≡ said
+  pub slots_said : (last : Option StoredKey) → IsPast last 7 → farm_with last (upto_slots f []) (slot_rows 0 f.slots ++ more) ≡ said
   slots_said last past = slots_from f.slots [] 0 0 last refl refl (λ kind n later. past kind n (omega (arith, later))) (λ n from. past 8 n (omega arith))

@@ -6,40 +6,40 @@ use Rattle.std.proofs.lemmas.List.{append_assoc}
 use Rattle.farm_types.specs.Farm.{Farm}
 use Rattle.farm_types.proofs.Lists.{and_both}
 use Rattle.farm_rows.specs.declared.farm_row.FarmRow.{FarmRow}
-use Rattle.farm_rows.specs.Recovery.{RowKey, comes_after, end_fault, ended, farm_with, is_before, key_of, row_fits, with_stored}
+use Rattle.farm_rows.specs.Recovery.{StoredKey, comes_after, end_fault, ended, farm_with, is_before, key_of, row_fits, with_stored}
 
 -- ---- keys
 
-before_by : (a b c : Bool) (x y : RowKey) → ltb x.0 y.0 ≡ a → eqb x.0 y.0 ≡ b → ltb x.1 y.1 ≡ c → (a || (b && c)) ≡ true → (x.0 < y.0) ⊎ ((x.0 ≡ y.0) × (x.1 < y.1))
+before_by : (a b c : Bool) (x y : StoredKey) → ltb x.0 y.0 ≡ a → eqb x.0 y.0 ≡ b → ltb x.1 y.1 ≡ c → (a || (b && c)) ≡ true → (x.0 < y.0) ⊎ ((x.0 ≡ y.0) × (x.1 < y.1))
 before_by true b c x y kind same id h = inl (ltb-true x.0 y.0 kind)
 before_by false true true x y kind same id h = inr (eqb-true x.0 y.0 same, ltb-true x.1 y.1 id)
 before_by false true false x y kind same id h = absurd (false≢true h)
 before_by false false c x y kind same id h = absurd (false≢true h)
 
 -- a key before another has an earlier kind, or an earlier id of its kind
-pub before_parts : (x y : RowKey) → is_before x y ≡ true → (x.0 < y.0) ⊎ ((x.0 ≡ y.0) × (x.1 < y.1))
+pub before_parts : (x y : StoredKey) → is_before x y ≡ true → (x.0 < y.0) ⊎ ((x.0 ≡ y.0) × (x.1 < y.1))
 before_parts x y h = before_by (ltb x.0 y.0) (eqb x.0 y.0) (ltb x.1 y.1) x y refl refl refl h
 
 -- ---- all rows
 
-err_ok : {X : Type 0} (key : RowKey) (x : X) → ◌≡◌ {A = Result X RowKey} (Err key) (Ok x) → ⊥
+err_ok : {X : Type 0} (key : StoredKey) (x : X) → ◌≡◌ {A = Result X StoredKey} (Err key) (Ok x) → ⊥
 err_ok key x e = cc
 
-ended_by : (o : Option RowKey) (f g : Farm) → end_fault f ≡ o → ended f o ≡ Ok g → (f ≡ g) × (end_fault f ≡ None)
+ended_by : (o : Option StoredKey) (f g : Farm) → end_fault f ≡ o → ended f o ≡ Ok g → (f ≡ g) × (end_fault f ≡ None)
 ended_by None f g is e = (cc, is)
 ended_by (Some key) f g is e = absurd (err_ok key g e)
 
-taken_by : (b : Bool) (key : RowKey) (rest : Result Farm RowKey) (g : Farm) → cond b rest (Err key) ≡ Ok g → (b ≡ true) × (rest ≡ Ok g)
+taken_by : (b : Bool) (key : StoredKey) (rest : Result Farm StoredKey) (g : Farm) → cond b rest (Err key) ≡ Ok g → (b ≡ true) × (rest ≡ Ok g)
 taken_by true key rest g e = (refl, e)
 taken_by false key rest g e = absurd (err_ok key g e)
 
-module _ (P : Option RowKey → Farm → List FarmRow → Type 0) where
+module _ (P : Option StoredKey → Farm → List FarmRow → Type 0) where
   -- what a row keeps that comes after the last one and fits
   abbrev pub IsStep : Type 0
-  IsStep = (last : Option RowKey) (f : Farm) (done : List FarmRow) (r : FarmRow) → P last f done → comes_after last (key_of r) ≡ true → row_fits f r ≡ true → P (Some (key_of r)) (with_stored f r) (done ++ r ∷ [])
+  IsStep = (last : Option StoredKey) (f : Farm) (done : List FarmRow) (r : FarmRow) → P last f done → comes_after last (key_of r) ≡ true → row_fits f r ≡ true → P (Some (key_of r)) (with_stored f r) (done ++ r ∷ [])
 
   -- holds of the farm that rows say, in which nothing is at fault
-  pub all_rows : IsStep → (last : Option RowKey) (f : Farm) (done rows : List FarmRow) (g : Farm) → P last f done → farm_with last f rows ≡ Ok g → (end : Option RowKey) × P end g (done ++ rows) × (end_fault g ≡ None)
+  pub all_rows : IsStep → (last : Option StoredKey) (f : Farm) (done rows : List FarmRow) (g : Farm) → P last f done → farm_with last f rows ≡ Ok g → (end : Option StoredKey) × P end g (done ++ rows) × (end_fault g ≡ None)
   all_rows step last f done [] g p e =
       let at_end = ended_by (end_fault f) f g refl e in
       let whole : P last f (done ++ []) = subst (P last f) (sym (append-nil done)) p in

@@ -8,8 +8,8 @@ use Rattle.serde_json.specs.Find.{get_member}
 use Rattle.cue_json.specs.Fields.{◌>>=◌}
 use Rattle.farm_types.specs.declared.depend.DependRow.{DependRow}
 use Rattle.farm_types.specs.Formed.{names_layer, names_frame, names_target_layer, names_target_frame}
-use Rattle.farm_words.specs.Words.{kind_of, kind_word}
-use Rattle.farm_words.proofs.WordsBack.{kind_back}
+use Rattle.state_names.specs.Words.{kind_of, kind_word}
+use Rattle.state_names.proofs.WordsBack.{kind_back}
 use Rattle.row_codec.specs.RowFields.{depend_fields, field_if, signed, whole}
 use Rattle.row_codec.specs.RowLaws.{DependFits, EndFits, FrameNamed}
 use Rattle.row_codec.specs.RowReading.{depend_at, frame_if, layer_if, target_at, waiter_at}

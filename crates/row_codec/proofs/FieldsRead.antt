@@ -7,7 +7,7 @@ use Rattle.serde_json.specs.View.{items_of}
 use Rattle.cue_json.specs.Fields.{◌>>=◌, as_signed, as_whole, flag_at, of_kind, of_member, text_at, whole_at, whole_in}
 use Rattle.row_codec.specs.RowFields.{signed, texts, whole}
 use Rattle.row_codec.specs.RowLaws.{IsSigned}
-use Rattle.farm_words.specs.Words.{word_at}
+use Rattle.state_names.specs.Words.{word_at}
 use Rattle.row_codec.specs.RowReading.{i32_at, texts_at, texts_in, u16_at, u32_at, u64_at}
 
 within : (n most : ℕ) → n ≤ most → whole_in 0 most n ≡ Some n

@@ -16,8 +16,8 @@ use Rattle.farm_rows.specs.declared.farm_row.FarmRow.TheVariants as row
 use Rattle.farm_rows.specs.declared.frame_row.StoredFrame.{StoredFrame}
 use Rattle.farm_rows.specs.declared.frame_row.StoredState.{StoredState}
 use Rattle.farm_rows.specs.declared.frame_row.StoredState.TheVariants as stored
-use Rattle.farm_words.specs.Words.{kind_word}
-use Rattle.farm_words.proofs.WordsBack.{host_utf8, job_utf8, kind_utf8, lock_utf8}
+use Rattle.state_names.specs.Words.{kind_word}
+use Rattle.state_names.proofs.WordsBack.{host_utf8, job_utf8, kind_utf8, lock_utf8}
 use Rattle.row_codec.specs.RowFields.{alloc_fields, depend_fields, field_if, fields_in_state, frame_word, free_fields, head_fields, host_fields, job_fields, layer_fields, met_fields, resting_fields, row_fields, running_fields, show_fields, signed, slot_fields, sub_fields, whole}
 use Rattle.row_codec.specs.RowLaws.{DependFits, Fits, FrameNamed, HostFits, IsSigned, IsText, JobFits, LayerFits, LayerNamed, SlotFits, StateFits, StoredFits}
 use Rattle.row_codec.proofs.Objects.{are_keys, FieldsFit, ItemsFit, ValueFits}

@@ -8,8 +8,8 @@ use Rattle.farm_types.specs.declared.rows.LayerRow.{LayerRow}
 use Rattle.farm_types.specs.declared.rows.ShowRow.{ShowRow}
 use Rattle.farm_types.specs.declared.rows.SubRow.{SubRow}
 use Rattle.farm_rows.specs.declared.head_row.HeadRow.{HeadRow}
-use Rattle.farm_words.specs.Words.{host_state_of, host_word, job_state_of, job_word, lock_of, lock_word}
-use Rattle.farm_words.proofs.WordsBack.{host_back, job_back, lock_back}
+use Rattle.state_names.specs.Words.{host_state_of, host_word, job_state_of, job_word, lock_of, lock_word}
+use Rattle.state_names.proofs.WordsBack.{host_back, job_back, lock_back}
 use Rattle.row_codec.specs.RowFields.{alloc_fields, head_fields, host_fields, job_fields, layer_fields, show_fields, sub_fields}
 use Rattle.row_codec.specs.RowLaws.{HeadFits, HostFits, JobFits, LayerFits, SubFits}
 use Rattle.row_codec.specs.RowReading.{alloc_at, head_at, host_at, job_at, layer_at, show_at, sub_at}

@@ -11,7 +11,7 @@ use Rattle.farm_types.specs.declared.rows.JobRow.{JobRow}
 use Rattle.farm_types.specs.declared.rows.LayerRow.{LayerRow}
 use Rattle.farm_types.specs.declared.rows.ShowRow.{ShowRow}
 use Rattle.farm_types.specs.declared.rows.SubRow.{SubRow}
-use Rattle.farm_words.specs.Words.{host_word, job_word, kind_word, lock_word}
+use Rattle.state_names.specs.Words.{host_word, job_word, kind_word, lock_word, state_word}
 use Rattle.farm_rows.specs.declared.farm_row.FarmRow.{FarmRow}
 use Rattle.farm_rows.specs.declared.farm_row.FarmRow.TheVariants as row
 use Rattle.farm_rows.specs.declared.frame_row.FrameRow.{FrameRow}
@@ -19,6 +19,7 @@ use Rattle.farm_rows.specs.declared.frame_row.StoredFrame.{StoredFrame}
 use Rattle.farm_rows.specs.declared.frame_row.StoredState.{StoredState}
 use Rattle.farm_rows.specs.declared.frame_row.StoredState.TheVariants as stored
 use Rattle.farm_rows.specs.declared.head_row.HeadRow.{HeadRow}
+use Rattle.farm_rows.specs.Recovery.{state_of}
 
 -- ---- values
 
@@ -35,13 +36,7 @@ texts ts = array (items_of (map string ts))
 -- ---- words
 
 abbrev pub frame_word : StoredState → List ℕ
-frame_word stored.Waiting = codes "WAITING"
-frame_word stored.Setup = codes "SETUP"
-frame_word (stored.Running boot host since) = codes "RUNNING"
-frame_word stored.Succeeded = codes "SUCCEEDED"
-frame_word stored.Depend = codes "DEPEND"
-frame_word stored.Dead = codes "DEAD"
-frame_word stored.Eaten = codes "EATEN"
+frame_word state = state_word (state_of state)
 
 -- ---- fields
 

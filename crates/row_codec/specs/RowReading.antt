@@ -13,8 +13,10 @@ use Rattle.farm_types.specs.declared.rows.JobRow.{JobRow}
 use Rattle.farm_types.specs.declared.rows.LayerRow.{LayerRow}
 use Rattle.farm_types.specs.declared.rows.ShowRow.{ShowRow}
 use Rattle.farm_types.specs.declared.rows.SubRow.{SubRow}
+use Rattle.farm_types.specs.declared.states.FrameState.{FrameState}
+use Rattle.farm_types.specs.declared.states.FrameState.TheVariants as frame_state
 use Rattle.farm_types.specs.Formed.{names_layer, names_frame, names_target_layer, names_target_frame}
-use Rattle.farm_words.specs.Words.{host_state_of, job_state_of, kind_of, lock_of, word_at}
+use Rattle.state_names.specs.Words.{host_state_of, job_state_of, kind_of, lock_of, state_of, word_at}
 use Rattle.farm_rows.specs.declared.farm_row.FarmRow.{FarmRow}
 use Rattle.farm_rows.specs.declared.farm_row.FarmRow.TheVariants as row
 use Rattle.farm_rows.specs.declared.frame_row.FrameRow.{FrameRow}
@@ -51,16 +53,18 @@ texts_at field ms = list_at field ms >>= texts_in field
 
 -- ---- words
 
--- the state of a frame without an attempt
+-- the state as it is stored of a frame without an attempt
+abbrev pub without_attempt : FrameState → Option StoredState
+without_attempt frame_state.Waiting = Some stored.Waiting
+without_attempt frame_state.Setup = Some stored.Setup
+without_attempt frame_state.Running = None
+without_attempt frame_state.Succeeded = Some stored.Succeeded
+without_attempt frame_state.Depend = Some stored.Depend
+without_attempt frame_state.Dead = Some stored.Dead
+without_attempt frame_state.Eaten = Some stored.Eaten
+
 abbrev pub resting_of : List ℕ → Option StoredState
-resting_of word =
-    if bytes_eq word (codes "WAITING") then Some stored.Waiting
-    else (if bytes_eq word (codes "SETUP") then Some stored.Setup
-    else (if bytes_eq word (codes "SUCCEEDED") then Some stored.Succeeded
-    else (if bytes_eq word (codes "DEPEND") then Some stored.Depend
-    else (if bytes_eq word (codes "DEAD") then Some stored.Dead
-    else (if bytes_eq word (codes "EATEN") then Some stored.Eaten
-    else None)))))
+resting_of word = option_and_then without_attempt (state_of word)
 
 -- ---- rows, by what their fields say; keys beside these are found out by the spelling
 

@@ -11,10 +11,10 @@ use crate::members::{write_signed_if, write_text_if};
 use crate::read_fields::{read_i32, read_text, read_u32};
 use cue_json::{FieldFault, Map};
 use farm_types::{DependEnd, DependKind, DependNo, DependRow, JobNo, Text};
-use farm_words::{
+use object_writer::ObjectWriter;
+use state_names::{
     kind_word, names_frame, names_layer, names_target_frame, names_target_layer, read_word,
 };
-use object_writer::ObjectWriter;
 use std::alloc::{AllocError, Global};
 
 /// A depend, as an object: the fields that its ends have.

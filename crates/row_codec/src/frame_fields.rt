@@ -1,18 +1,19 @@
 //! The fields of frame slots.
 
-ghost use Rattle.std.specs.Prelude.{◌≡◌, codes, OnOk};
+ghost use Rattle.std.specs.Prelude.{◌≡◌, OnOk};
 ghost use Rattle.serde_json.specs.View.{members_view};
-ghost use Rattle.cue_json.specs.Fields.{Gives, of_kind};
-ghost use Rattle.row_codec.specs.RowFields.{fields_in_state, frame_fields, frame_word, free_fields, resting_fields, running_fields};
-ghost use Rattle.row_codec.specs.RowReading.{frame_at, resting_of, running_at, state_at, stored_at, stored_if};
+ghost use Rattle.cue_json.specs.Fields.{Gives};
+ghost use Rattle.row_codec.specs.RowFields.{fields_in_state, frame_fields, free_fields, resting_fields, running_fields};
+ghost use Rattle.row_codec.specs.RowReading.{frame_at, resting_of, running_at, state_at, stored_at, stored_if, without_attempt};
 ghost use Rattle.object_writer.specs.Tokens.{added, object_tokens};
 
 use crate::members::write_signed;
 use crate::read_fields::{read_i32, read_u16, read_u32, read_u64};
 use cue_json::{FieldFault, Map};
 use farm_rows::{FrameRow, StoredFrame, StoredState};
-use farm_types::{HostNo, JobNo, Slot, Version};
+use farm_types::{FrameState, HostNo, JobNo, Slot, Version};
 use object_writer::ObjectWriter;
+use state_names::{Word, named, state_word};
 use std::alloc::{AllocError, Global};
 
 /// A slot, as an object.
@@ -66,7 +67,7 @@ fn write_resting(
     out.number("layer", frame.layer)?;
     write_signed(out, "number", frame.number)?;
     out.number("retries", frame.retries)?;
-    out.text("state", state_word(frame.state))?;
+    out.text("state", state_word(frame.state.state()))?;
     out.version("version", version)?;
     out.end_object()
 }
@@ -152,7 +153,7 @@ fn read_state(alloc: Global, object: &Map, word: &str) -> Result<StoredState, Fi
     if word == "RUNNING" {
         read_running(alloc, object)
     } else {
-        known_state(alloc, word)
+        named(alloc, "state", resting_of(word))
     }
 }
 
@@ -172,31 +173,27 @@ fn read_running(alloc: Global, object: &Map) -> Result<StoredState, FieldFault>
 
 // ---- words
 
-fn state_word(state: StoredState) -> &'static str
-    ensures { result.now ≡ frame_word state }
+// The state that the word names, of a frame without an attempt.
+fn resting_of(word: &str) -> Option<StoredState>
+    ensures { result ≡ resting_of word.now }
 {
-    match state {
-        StoredState::Waiting => "WAITING",
-        StoredState::Setup => "SETUP",
-        StoredState::Running { .. } => "RUNNING",
-        StoredState::Succeeded => "SUCCEEDED",
-        StoredState::Depend => "DEPEND",
-        StoredState::Dead => "DEAD",
-        StoredState::Eaten => "EATEN",
+    match FrameState::of_word(word) {
+        None => None,
+        Some(state) => without_attempt(state),
     }
 }
 
-// The state that the word names, of a frame without an attempt.
-fn known_state(alloc: Global, word: &str) -> Result<StoredState, FieldFault>
-    ensures { Gives (λ state. state) result (of_kind (codes "state") (resting_of word.now)) }
+// The state as it is stored of a frame without an attempt.
+fn without_attempt(state: FrameState) -> Option<StoredState>
+    ensures { result ≡ without_attempt state }
 {
-    match word {
-        "WAITING" => Ok(StoredState::Waiting),
-        "SETUP" => Ok(StoredState::Setup),
-        "SUCCEEDED" => Ok(StoredState::Succeeded),
-        "DEPEND" => Ok(StoredState::Depend),
-        "DEAD" => Ok(StoredState::Dead),
-        "EATEN" => Ok(StoredState::Eaten),
-        _ => Err(FieldFault::wrong_kind(alloc, "state")),
+    match state {
+        FrameState::Waiting => Some(StoredState::Waiting),
+        FrameState::Setup => Some(StoredState::Setup),
+        FrameState::Running => None,
+        FrameState::Succeeded => Some(StoredState::Succeeded),
+        FrameState::Depend => Some(StoredState::Depend),
+        FrameState::Dead => Some(StoredState::Dead),
+        FrameState::Eaten => Some(StoredState::Eaten),
     }
 }

@@ -11,8 +11,8 @@ use crate::members::write_texts;
 use crate::read_fields::{read_text, read_texts, read_u16, read_u32, read_u64};
 use cue_json::{FieldFault, Map};
 use farm_types::{AllocNo, Cores, HostRow, Kb};
-use farm_words::{host_word, lock_word, read_word};
 use object_writer::ObjectWriter;
+use state_names::{host_word, lock_word, read_word};
 use std::alloc::{AllocError, Global};
 
 /// A host, as an object.

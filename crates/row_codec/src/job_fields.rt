@@ -10,8 +10,8 @@ ghost use Rattle.object_writer.specs.Tokens.{added, object_tokens};
 use crate::read_fields::{read_text, read_u16, read_u32, read_u64};
 use cue_json::{FieldFault, Map};
 use farm_types::{JobNo, JobRow, ShowNo};
-use farm_words::{job_word, read_word};
 use object_writer::ObjectWriter;
+use state_names::{job_word, read_word};
 use std::alloc::{AllocError, Global};
 
 /// A job, as an object.

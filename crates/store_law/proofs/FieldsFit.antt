@@ -1,6 +1,6 @@
 -- Fields that the tests of a kept farm let through: texts are UTF-8, and numbers are those of their types.
 use Rattle.std.proofs.Common.{◌≡◌, ◌<◌, ◌≤◌, ◌^◌, ◌+◌, ℕ, ◌&&◌, Bool, true, false, cond, eqb, leb, ltb, List, [], ◌∷◌, length, Option, Some, None, refl, ap, sym, ◌∙◌, arith, inl, inr}
-use Rattle.std.specs.Prelude.{ℤ, pos, negsuc, int_le, is_some}
+use Rattle.std.specs.Prelude.{ℤ, is_some}
 use Rattle.std.specs.List.{AllByRecursion, list_all}
 use Rattle.std.proofs.lemmas.Bool.{eqb-true, false≢true, leb-true, ltb-true, or_cases}
 use Rattle.farm_types.specs.declared.attempt.ProcRow.{ProcRow}
@@ -11,15 +11,14 @@ use Rattle.farm_types.specs.declared.rows.JobRow.{JobRow}
 use Rattle.farm_types.specs.declared.rows.LayerRow.{LayerRow}
 use Rattle.farm_types.specs.declared.states.FrameState.{FrameState}
 use Rattle.farm_types.specs.declared.states.FrameState.TheVariants as frame_state
-use Rattle.farm_types.specs.Formed.{is_frame_named, is_layer_name}
-use Rattle.farm_types.specs.Forms.{is_between, is_command_text, is_frame_number, is_name_or_empty, is_name_text, is_tag_text}
-use Rattle.farm_types.specs.Kept.{are_tags, for_any, is_formed_end, is_formed_host, is_formed_job, is_formed_layer, is_given}
+use Rattle.farm_types.specs.Formed.{is_layer_name}
+use Rattle.farm_types.specs.Forms.{is_between, is_command_text, is_name_or_empty, is_name_text, is_tag_text}
+use Rattle.farm_types.specs.Kept.{are_tags, for_any, is_formed_end, is_formed_host, is_formed_job, is_formed_layer, is_given, is_number_named}
 use Rattle.farm_types.specs.Ranges.{is_range_text}
 use Rattle.farm_types.proofs.Lists.{and_both}
 use Rattle.farm_types.proofs.Utf8.{ascii_utf8, name_utf8, tag_utf8}
 use Rattle.farm_rows.specs.Rows.{running_state, stored_state}
-use Rattle.row_codec.specs.RowLaws.{EndFits, FrameNamed, IsSigned, IsText, LayerNamed, StateFits}
-use Rattle.store_law.proofs.RangesFit.{signed_within}
+use Rattle.row_codec.specs.RowLaws.{EndFits, FrameNamed, IsText, LayerNamed, StateFits}
 
 -- ---- numbers and texts
 
@@ -161,20 +160,16 @@ layer_fits : (o : Option (List ℕ)) → is_layer_name o ≡ true → LayerNamed
 layer_fits None h = tt
 layer_fits (Some name) h = name_utf8 name h
 
-number_fits : (z : ℤ) → is_frame_number z ≡ true → IsSigned z
-number_fits (pos n) h = let both = and_both (int_le (negsuc 9999998) (pos n)) (leb n 9999999) h in signed_within (pos n) (omega (arith, leb-true n 9999999 both.1))
-number_fits (negsuc n) h = let both = and_both (leb n 9999998) (int_le (negsuc n) (pos 9999999)) h in signed_within (negsuc n) (omega (arith, leb-true n 9999998 both.0))
-
-frame_fits : (o : Option ℤ) → is_frame_named o ≡ true → FrameNamed o
+frame_fits : (o : Option ℤ) → is_number_named o ≡ true → FrameNamed o
 frame_fits None h = tt
-frame_fits (Some number) h = number_fits number h
+frame_fits (Some number) h = h
 
 pub end_fits : (layered framed : Bool) (e : DependEnd) → is_formed_end layered framed e ≡ true → EndFits layered framed e
 end_fits layered framed e h =
     let job = and_both (is_between 1 LAST_JOB e.job) _ h in
     let has_layer = and_both (is_given layered e.layer) _ job.1 in
     let layer = and_both (is_layer_name e.layer) _ has_layer.1 in
-    let frame = and_both (is_given framed e.frame) (is_frame_named e.frame) layer.1 in
+    let frame = and_both (is_given framed e.frame) (is_number_named e.frame) layer.1 in
     record {
       job = omega (arith, within_most 1 LAST_JOB e.job job.0);
       has_layer = named_layer layered e.layer has_layer.0;

@@ -8,7 +8,7 @@ use Rattle.farm_types.specs.Farm.{Farm, empty_farm}
 use Rattle.farm_types.specs.Kept.{IsKeptFarm}
 use Rattle.farm_types.proofs.Lists.{and_both}
 use Rattle.farm_rows.specs.declared.farm_row.FarmRow.{FarmRow}
-use Rattle.farm_rows.specs.Recovery.{RowKey, comes_after, farm_with, is_before, row_fits, with_stored}
+use Rattle.farm_rows.specs.Recovery.{StoredKey, comes_after, farm_with, is_before, row_fits, with_stored}
 use Rattle.farm_rows.specs.Rows.{rows_of}
 use Rattle.farm_keeper.specs.Rows.{Key, key_cmp, key_of}
 use Rattle.farm_keeper.proofs.RowLaws.{key_total}
@@ -31,15 +31,15 @@ pairs rows = map key_of (map stored_row rows)
 
 -- ---- rows that say a farm
 
-err_ok : {X : Type 0} (key : RowKey) (x : X) → ◌≡◌ {A = Result X RowKey} (Err key) (Ok x) → ⊥
+err_ok : {X : Type 0} (key : StoredKey) (x : X) → ◌≡◌ {A = Result X StoredKey} (Err key) (Ok x) → ⊥
 err_ok key x e = cc
 
-taken_by : (b : Bool) (key : RowKey) (rest : Result Farm RowKey) (g : Farm) → cond b rest (Err key) ≡ Ok g → (b ≡ true) × (rest ≡ Ok g)
+taken_by : (b : Bool) (key : StoredKey) (rest : Result Farm StoredKey) (g : Farm) → cond b rest (Err key) ≡ Ok g → (b ≡ true) × (rest ≡ Ok g)
 taken_by true key rest g e = (refl, e)
 taken_by false key rest g e = absurd (err_ok key g e)
 
 -- a row is taken where it comes after the last one, and those behind it are taken after it
-taken : (last : Option RowKey) (f : Farm) (r : FarmRow) (rs : List FarmRow) (g : Farm) → farm_with last f (r ∷ rs) ≡ Ok g
+taken : (last : Option StoredKey) (f : Farm) (r : FarmRow) (rs : List FarmRow) (g : Farm) → farm_with last f (r ∷ rs) ≡ Ok g
     → (comes_after last (pair_of r) ≡ true) × (farm_with (Some (pair_of r)) (with_stored f r) rs ≡ Ok g)
 taken last f r rs g e =
     let both = taken_by (comes_after last (pair_of r) && row_fits f r) (pair_of r) (farm_with (Some (pair_of r)) (with_stored f r) rs) g e in
@@ -56,7 +56,7 @@ after_last last f (r ∷ rs) g e =
     let less = less_before last (pair_of r) step.0 in
     (less, later_all last (pair_of r) (pairs rs) less (after_last (pair_of r) (with_stored f r) rs g step.1))
 
-rise_with : (last : Option RowKey) (f : Farm) (rows : List FarmRow) (g : Farm) → farm_with last f rows ≡ Ok g → IsStrictlySortedBy key_cmp (pairs rows)
+rise_with : (last : Option StoredKey) (f : Farm) (rows : List FarmRow) (g : Farm) → farm_with last f rows ≡ Ok g → IsStrictlySortedBy key_cmp (pairs rows)
 unfolding IsStrictlySortedBy
 rise_with last f [] g e = tt
 rise_with last f (r ∷ rs) g e =

@@ -15,21 +15,21 @@ use Rattle.farm_law.proofs.KeptLists.{list_all-more}
 use Rattle.farm_rows.specs.declared.farm_row.FarmRow.{FarmRow}
 use Rattle.farm_rows.specs.declared.farm_row.FarmRow.TheVariants as row
 use Rattle.farm_rows.specs.declared.ids.TheConstants.{GROUP_IDS}
-use Rattle.farm_rows.specs.Recovery.{RowKey, comes_after, key_of, row_fits, with_stored}
+use Rattle.farm_rows.specs.Recovery.{StoredKey, comes_after, key_of, row_fits, with_stored}
 use Rattle.farm_rows.specs.Rows.{row_kind}
-use Rattle.stored_rows.specs.SoFar.{IsWithin}
-use Rattle.stored_rows.specs.Told.{Takes, Told, is_next}
+use Rattle.stored_rows.specs.SoFar.{HasFewNumbers}
+use Rattle.stored_rows.specs.Told.{Accepts, Told, is_next}
 use Rattle.stored_farm.specs.Kept.{KeepsDepends, groups_kept, has_own_id, met_id, with_depends}
 use Rattle.stored_farm.proofs.JudgedSame.{kept_beside, left_of, mark_below, room_for}
 use Rattle.stored_farm.proofs.InOrder.{grows_more, grows_same, late, past}
 
-module _ (rows : Told) (last : Option RowKey) (ds : List DependRow) (gs : List (List Group)) (ms : List MetRow) (left : ℕ) (h : KeepsDepends rows last ds gs ms left) where
+module _ (rows : Told) (last : Option StoredKey) (ds : List DependRow) (gs : List (List Group)) (ms : List MetRow) (left : ℕ) (h : KeepsDepends rows last ds gs ms left) where
   -- how many groups there are
-  pub left_said : IsWithin rows.farm → left ≡ groups_left (with_depends rows.farm ds ms)
-  left_said k = h.left_is ∙ (ap (sum_by (λ (xs : List Group). length xs)) h.groups_are ∙ left_of rows.farm k ds ms)
+  pub left_said : left ≡ groups_left (with_depends rows.farm ds ms)
+  left_said = h.left_is ∙ (ap (sum_by (λ (xs : List Group). length xs)) h.groups_are ∙ left_of rows.farm ds ms)
 
   -- a depend more
-  pub depend_more : (r : DependRow) → IsWithin rows.farm → comes_after last (9, r.depend) ≡ true → row_fits (with_depends rows.farm ds ms) (row.Depend r) ≡ true
+  pub depend_more : (r : DependRow) → HasFewNumbers rows.farm → comes_after last (9, r.depend) ≡ true → row_fits (with_depends rows.farm ds ms) (row.Depend r) ≡ true
       → KeepsDepends rows (Some (9, r.depend)) (ds ++ r ∷ []) (gs ++ groups_kept rows.farm r ∷ []) ms (left + length (groups_kept rows.farm r))
   depend_more r k after fits =
       let own = groups_kept rows.farm r in
@@ -41,11 +41,11 @@ module _ (rows : Told) (last : Option RowKey) (ds : List DependRow) (gs : List (
         met_own = h.met_own;
         groups_are = ap (λ (xs : List (List Group)). xs ++ own ∷ []) h.groups_are ∙ sym (map-append (groups_kept rows.farm) ds (r ∷ []));
         left_is = omega (arith, h.left_is, sum_by-append long gs (own ∷ []), sum_by-cons long own []);
-        few = room_for rows.farm k ds ms left (left_said k) r h.few fits;
+        few = room_for rows.farm k ds ms left left_said r h.few fits;
       }
 
   -- a mark more
-  pub mark_more : (m : MetRow) → IsWithin rows.farm → comes_after last (10, met_id m) ≡ true → row_fits (with_depends rows.farm ds ms) (row.Met m) ≡ true
+  pub mark_more : (m : MetRow) → HasFewNumbers rows.farm → comes_after last (10, met_id m) ≡ true → row_fits (with_depends rows.farm ds ms) (row.Met m) ≡ true
       → KeepsDepends rows (Some (10, met_id m)) ds gs (ms ++ m ∷ []) left
   mark_more m k after fits =
       record {
@@ -63,11 +63,11 @@ module _ (rows : Told) (last : Option RowKey) (ds : List DependRow) (gs : List (
   same_groups f none = h.groups_are ∙ (ap (map (groups_kept rows.farm)) none ∙ sym (ap (map (groups_kept f)) none))
 
   -- a row of another kind
-  pub early_more : (other : Told) (key : RowKey) → key.0 ≤ 8 → comes_after last key ≡ true → other.last ≡ Some key → KeepsDepends other (Some key) ds gs ms left
+  pub early_more : (other : Told) (key : StoredKey) → key.0 ≤ 8 → comes_after last key ≡ true → other.last ≡ Some key → KeepsDepends other (Some key) ds gs ms left
   early_more other key low after is =
       let before = h.early key low after in
       record {
-        early = λ next below follows. (subst (λ (o : Option RowKey). comes_after o next ≡ true) (sym is) follows, before.1);
+        early = λ next below follows. (subst (λ (o : Option StoredKey). comes_after o next ≡ true) (sym is) follows, before.1);
         depends_grow = grows_same depend_key 9 last ds h.depends_grow key after;
         met_grow = grows_same met_id 10 last ms h.met_grow key after;
         met_own = h.met_own;
@@ -77,7 +77,7 @@ module _ (rows : Told) (last : Option RowKey) (ds : List DependRow) (gs : List (
       }
 
   -- where memory ran out at one: nothing comes after
-  pub early_lost : (other : Told) (key : RowKey) → key.0 ≤ 8 → comes_after last key ≡ true → KeepsDepends other (Some (11, 0)) ds gs ms left
+  pub early_lost : (other : Told) (key : StoredKey) → key.0 ≤ 8 → comes_after last key ≡ true → KeepsDepends other (Some (11, 0)) ds gs ms left
   early_lost other key low after =
       let before = h.early key low after in
       record {
@@ -129,27 +129,27 @@ both_same true b true d p q e = e
 both_same false b c d p q e = absurd (false≢true p)
 both_same true b false d p q e = absurd (false≢true q)
 
-module _ (rows : Told) (last : Option RowKey) (ds : List DependRow) (ms : List MetRow) (r : FarmRow) (low : row_kind r ≤ 8) (after : comes_after last (key_of r) ≡ true) (before : comes_after rows.last (key_of r) ≡ true) where
+module _ (rows : Told) (last : Option StoredKey) (ds : List DependRow) (ms : List MetRow) (r : FarmRow) (low : row_kind r ≤ 8) (after : comes_after last (key_of r) ≡ true) (before : comes_after rows.last (key_of r) ≡ true) where
   abbrev whole : Told → Told
   whole t = record { last = last; farm = with_depends t.farm ds ms }
 
   same_next : is_next (whole rows) r ≡ is_next rows r
   same_next = both_same (comes_after last (key_of r)) (row_fits (with_depends rows.farm ds ms) r) (comes_after rows.last (key_of r)) (row_fits rows.farm r) after before (fits_beside rows.farm ds ms r low)
 
-  pub taken_whole : (other : Told) → Takes true rows r other → Takes true (whole rows) r (record { last = Some (key_of r); farm = with_depends other.farm ds ms })
+  pub taken_whole : (other : Told) → Accepts true rows r other → Accepts true (whole rows) r (record { last = Some (key_of r); farm = with_depends other.farm ds ms })
   taken_whole other took =
       let farm = ap (λ (t : Told). with_depends t.farm ds ms) took.1 ∙ sym (stored_beside rows.farm ds ms r low) in
       (same_next ∙ took.0, λ i. record { last = Some (key_of r); farm = farm i })
 
-  pub left_whole : (other : Told) → Takes false rows r other → Takes false (whole rows) r (whole other)
+  pub left_whole : (other : Told) → Accepts false rows r other → Accepts false (whole rows) r (whole other)
   left_whole other took = (same_next ∙ took.0, ap whole took.1)
 
 -- ---- what a row of a depend, or a mark, leaves
 
-abbrev TellsOf : Told → Option RowKey → List DependRow → List MetRow → Told → Type 0
+abbrev TellsOf : Told → Option StoredKey → List DependRow → List MetRow → Told → Type 0
 TellsOf rows last ds ms t = ◌≡◌ {A = Told} (record { last = last; farm = with_depends rows.farm ds ms }) t
 
-module _ (rows : Told) (last : Option RowKey) (ds : List DependRow) (gs : List (List Group)) (ms : List MetRow) (left : ℕ) (h : KeepsDepends rows last ds gs ms left) (t : Told) (is : TellsOf rows last ds ms t) (k : IsWithin rows.farm) where
+module _ (rows : Told) (last : Option StoredKey) (ds : List DependRow) (gs : List (List Group)) (ms : List MetRow) (left : ℕ) (h : KeepsDepends rows last ds gs ms left) (t : Told) (is : TellsOf rows last ds ms t) (k : HasFewNumbers rows.farm) where
   module _ (r : DependRow) (groups : List Group) (after : comes_after t.last (9, r.depend) ≡ true) (own : groups ≡ groups_kept t.farm r) (fits : row_fits t.farm (row.Depend r) ≡ true) where
     own_groups : groups ≡ groups_kept rows.farm r
     own_groups = own ∙ (ap (λ (u : Told). groups_kept u.farm r) (sym is) ∙ kept_beside rows.farm ds ms r)
@@ -159,7 +159,7 @@ module _ (rows : Told) (last : Option RowKey) (ds : List DependRow) (gs : List (
 
     pub depend_room : left + length groups ≤ MOST_GROUPS
     depend_room =
-        let room = room_for rows.farm k ds ms left (left_said rows last ds gs ms left h k) r h.few own_fits in
+        let room = room_for rows.farm k ds ms left (left_said rows last ds gs ms left h) r h.few own_fits in
         omega (arith, room, ap (λ (xs : List Group). length xs) own_groups)
 
     pub depend_kept : (n : ℕ) (news : List DependRow) (lists : List (List Group)) (m : ℕ) → n ≡ r.depend → news ≡ ds ++ r ∷ [] → lists ≡ gs ++ groups ∷ [] → m ≡ left + length groups → KeepsDepends rows (Some (9, n)) news lists ms m

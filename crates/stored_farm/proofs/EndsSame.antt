@@ -21,11 +21,10 @@ use Rattle.farm_types.specs.Ranges.{range_numbers}
 use Rattle.farm_types.specs.Settle.{is_blocked, opens}
 use Rattle.farm_law.proofs.Filtered.{at_kept}
 use Rattle.farm_rows.specs.declared.ids.TheConstants.{LAYER_IDS}
-use Rattle.farm_rows.specs.Recovery.{RowKey, end_fault, first_depend, first_job, first_layer, first_slot, head_ends, is_wrongly_marked, lacks_frames, lacks_number, lacks_slots}
-use Rattle.stored_rows.specs.SoFar.{layer_from, slots_from, stand_from}
+use Rattle.farm_rows.specs.Recovery.{StoredKey, end_fault, first_depend, first_job, first_layer, first_slot, groups_so_far, head_ends, is_wrongly_marked, lacks_frames, lacks_number, lacks_slots, layer_so_far, slot_or, slots_so_far}
 use Rattle.stored_rows.specs.Told.{early_fault}
 use Rattle.stored_farm.specs.Ends.{first_flagged, first_stuck, first_wrong, goes_on, hangs, is_marked_in, is_marked_wrongly, is_set, lacks_mark, waits_unmarked, waits_unmet}
-use Rattle.stored_farm.specs.Kept.{base_of, groups_kept, groups_known, with_depends}
+use Rattle.stored_farm.specs.Kept.{groups_kept, with_depends}
 use Rattle.stored_farm.proofs.JudgedSame.{of_beside}
 
 -- ---- one after the other
@@ -50,7 +49,7 @@ or_assoc : {X : Type 0} (a b c : Option X) → or_else (or_else a b) c ≡ or_el
 or_assoc None b c = refl
 or_assoc (Some x) b c = refl
 
-abbrev pub late_fault : Farm → Option RowKey
+abbrev pub late_fault : Farm → Option StoredKey
 late_fault f = or_else (first_depend (is_wrongly_marked f) f.depends) (or_else (first_slot (runs_unmet f) 0 f.slots) (first_slot (opens f) 0 f.slots))
 
 -- the faults of depends come last
@@ -82,17 +81,17 @@ or_parts : (a b : Bool) → (a || b) ≡ false → (a ≡ false) × (b ≡ false
 or_parts false b h = (refl, h)
 or_parts true b h = absurd (false≢true (sym h))
 
-stands : (base layer position : ℕ) (o : Option ℕ) → not (is_some o) ≡ false → stand_from base layer position o ≡ or_first o
-stands base layer position None h = absurd (false≢true (sym h))
-stands base layer position (Some slot) h = refl
+stands : (none : ℕ) (o : Option ℕ) → not (is_some o) ≡ false → slot_or none o ≡ or_first o
+stands none None h = absurd (false≢true (sym h))
+stands none (Some slot) h = refl
 
-slots_all : (f : Farm) (base : ℕ) (l : LayerRow) (position : ℕ) (ns : List ℤ) → lacks_number f l position ns ≡ false → slots_from base f.slots l position ns ≡ slots_placed f.slots l.job l.place position ns
-slots_all f base l position [] all = refl
-slots_all f base l position (n ∷ ns) all =
+slots_all : (f : Farm) (none : ℕ) (l : LayerRow) (position : ℕ) (ns : List ℤ) → lacks_number f l position ns ≡ false → slots_so_far none f.slots l position ns ≡ slots_placed f.slots l.job l.place position ns
+slots_all f none l position [] all = refl
+slots_all f none l position (n ∷ ns) all =
     let o = slot_from 0 (is_placed l.job l.place position) f.slots in
     let parts = or_parts (not (is_some o)) (lacks_number f l (position + 1) ns) all in
-    let here = stands base l.place position o parts.0 in
-    let rest = slots_all f base l (position + 1) ns parts.1 in
+    let here = stands none o parts.0 in
+    let rest = slots_all f none l (position + 1) ns parts.1 in
     λ i. here i ∷ rest i
 
 map_alike : {X Y : Type 0} (g h : X → Y) (xs : List X) → ((n : ℕ) (x : X) → slice_get xs n ≡ Some x → g x ≡ h x) → map g xs ≡ map h xs
@@ -103,18 +102,18 @@ map_alike g h (x ∷ xs) alike =
     λ i. first i ∷ rest i
 
 module _ (f : Farm) (all : (n : ℕ) (l : LayerRow) → slice_get f.layers n ≡ Some l → lacks_slots f l ≡ false) where
-  layers_all : (base job : ℕ) → map (layer_from base f.slots) (layers_of f.layers job) ≡ map (layer_shape f.slots) (layers_of f.layers job)
-  layers_all base job =
-      map_alike (layer_from base f.slots) (layer_shape f.slots) (layers_of f.layers job)
+  layers_all : (none job : ℕ) → map (layer_so_far none f.slots) (layers_of f.layers job) ≡ map (layer_shape f.slots) (layers_of f.layers job)
+  layers_all none job =
+      map_alike (layer_so_far none f.slots) (layer_shape f.slots) (layers_of f.layers job)
       (λ n l at.
       let own = at_kept (λ (m : LayerRow). eqb m.job job) f.layers n l at in
-      ap (λ (slots : List ℕ). record { name = l.name; numbers = range_numbers l.range; slots = slots }) (slots_all f base l 0 (range_numbers l.range) (all own.0 l own.1)))
+      ap (λ (slots : List ℕ). record { name = l.name; numbers = range_numbers l.range; slots = slots }) (slots_all f none l 0 (range_numbers l.range) (all own.0 l own.1)))
 
-  known_all : (d : DependRow) → groups_known f d ≡ groups_of f d
-  unfolding groups_known groups_of
-  known_all d =
+  groups_all : (d : DependRow) → groups_so_far f d ≡ groups_of f d
+  unfolding groups_so_far groups_of
+  groups_all d =
       let waiters = layers_all SLOT_LIMIT d.waiter.job in
-      let targets = layers_all (base_of d) d.target.job in
+      let targets = layers_all (SLOT_LIMIT + 1) d.target.job in
       λ i. groups_by d.kind d.any (part_at d.waiter) (part_at d.target) (record { layers = waiters i }) (record { layers = targets i })
 
 all_there : (f : Farm) → early_fault f ≡ None → (n : ℕ) (l : LayerRow) → slice_get f.layers n ≡ Some l → lacks_slots f l ≡ false
@@ -152,13 +151,13 @@ not_not true = refl
 not_not false = refl
 
 module _ (f : Farm) (ds : List DependRow) (ms : List MetRow) (fine : early_fault f ≡ None) where
-  same_groups : (d : DependRow) → groups_of (with_depends f ds ms) d ≡ groups_known f d
-  same_groups d = of_beside f ds ms d ∙ sym (known_all f (all_there f fine) d)
+  same_groups : (d : DependRow) → groups_of (with_depends f ds ms) d ≡ groups_so_far f d
+  same_groups d = of_beside f ds ms d ∙ sym (groups_all f (all_there f fine) d)
 
   wrong_by : (d : DependRow) (b : Bool)
       → (not b && (list_all (λ (g : Group). b || is_marked (with_depends f ds ms) d g) (groups_of (with_depends f ds ms) d)
       || list_any (λ (g : Group). not (b || is_marked (with_depends f ds ms) d g) && ((b || is_marked (with_depends f ds ms) d g) || are_done (is_done f.slots) g)) (groups_of (with_depends f ds ms) d)))
-      ≡ (not b && (list_all (is_marked_in ms d.depend) (cond b [] (groups_known f d)) || list_any (lacks_mark ms f.slots d.depend) (cond b [] (groups_known f d))))
+      ≡ (not b && (list_all (is_marked_in ms d.depend) (cond b [] (groups_so_far f d)) || list_any (lacks_mark ms f.slots d.depend) (cond b [] (groups_so_far f d))))
   wrong_by d true = refl
   wrong_by d false =
       λ i. list_all (is_marked_in ms d.depend) (same_groups d i) || list_any (λ (g : Group). lacks_by (is_marked_in ms d.depend g) (are_done (is_done f.slots) g) i) (same_groups d i)
@@ -166,7 +165,7 @@ module _ (f : Farm) (ds : List DependRow) (ms : List MetRow) (fine : early_fault
   wrong_is : (d : DependRow) → is_wrongly_marked (with_depends f ds ms) d ≡ is_marked_wrongly ms f.slots d (groups_kept f d)
   wrong_is d = wrong_by d d.met_all
 
-  wrong_step : (b : Bool) (d : DependRow) (o : Option DependRow) (later : Option RowKey) → option_map (λ (e : DependRow). (9, e.depend)) o ≡ later
+  wrong_step : (b : Bool) (d : DependRow) (o : Option DependRow) (later : Option StoredKey) → option_map (λ (e : DependRow). (9, e.depend)) o ≡ later
       → option_map (λ (e : DependRow). (9, e.depend)) (cond b (Some d) o) ≡ cond b (Some (9, d.depend)) later
   wrong_step true d o later e = refl
   wrong_step false d o later e = e
@@ -181,11 +180,11 @@ module _ (f : Farm) (ds : List DependRow) (ms : List MetRow) (fine : early_fault
   -- ---- frames
 
   open_by : (slot : ℕ) (d : DependRow) (b : Bool) → list_all (λ (g : Group). (b || is_marked (with_depends f ds ms) d g) || not (waits_in slot g)) (groups_of (with_depends f ds ms) d)
-      ≡ not (waits_unmarked ms d.depend (cond b [] (groups_known f d)) slot)
+      ≡ not (waits_unmarked ms d.depend (cond b [] (groups_so_far f d)) slot)
   open_by slot d true = all_true (groups_of (with_depends f ds ms) d)
   open_by slot d false =
       ap (λ (gs : List Group). list_all (λ (g : Group). is_marked_in ms d.depend g || not (waits_in slot g)) gs) (same_groups d)
-      ∙ none_waits (is_marked_in ms d.depend) (waits_in slot) (groups_known f d)
+      ∙ none_waits (is_marked_in ms d.depend) (waits_in slot) (groups_so_far f d)
 
   open_same : (slot : ℕ) (xs : List DependRow)
       → list_all (λ (d : DependRow). list_all (λ (g : Group). (d.met_all || is_marked (with_depends f ds ms) d g) || not (waits_in slot g)) (groups_of (with_depends f ds ms) d)) xs ≡ not (waits_unmet ms xs (map (groups_kept f) xs) slot)
@@ -196,7 +195,7 @@ module _ (f : Farm) (ds : List DependRow) (ms : List MetRow) (fine : early_fault
   open_is : (slot : ℕ) → is_open (with_depends f ds ms) slot ≡ not (waits_unmet ms ds (map (groups_kept f) ds) slot)
   open_is slot = open_same slot ds
 
-  slot_step : (b c : Bool) (place : ℕ) (first later : Option RowKey) → b ≡ c → first ≡ later → cond b (Some (8, place)) first ≡ cond c (Some (8, place)) later
+  slot_step : (b c : Bool) (place : ℕ) (first later : Option StoredKey) → b ≡ c → first ≡ later → cond b (Some (8, place)) first ≡ cond c (Some (8, place)) later
   slot_step b c place first later e rest = λ i. cond (e i) (Some (8, place)) (rest i)
 
   slots_same : (old : ℕ → SlotRow → Bool) (test : Bool → SlotRow → Bool) (flags : List Bool) (place : ℕ) (ss : List SlotRow) → ((p : ℕ) (s : SlotRow) → p < place + length ss → old p s ≡ test (is_set flags p) s)
@@ -223,15 +222,15 @@ module _ (f : Farm) (ds : List DependRow) (ms : List MetRow) (fine : early_fault
 
     pub stuck_is : is_some (first_wrong ms f.slots ds (map (groups_kept f) ds)) ≡ false → end_fault (with_depends f ds ms) ≡ first_stuck flags f.slots
     stuck_is none =
-        all_faults (with_depends f ds ms) ∙ (ap (λ (o : Option RowKey). or_else o (late_fault (with_depends f ds ms))) fine
+        all_faults (with_depends f ds ms) ∙ (ap (λ (o : Option StoredKey). or_else o (late_fault (with_depends f ds ms))) fine
         ∙ (late_same ∙ or_none (first_wrong ms f.slots ds (map (groups_kept f) ds)) (first_stuck flags f.slots) none))
 
   pub wrong_first : is_some (first_wrong ms f.slots ds (map (groups_kept f) ds)) ≡ true → first_wrong ms f.slots ds (map (groups_kept f) ds) ≡ end_fault (with_depends f ds ms)
   wrong_first some =
       let first = first_wrong ms f.slots ds (map (groups_kept f) ds) in
       let rest = or_else (first_slot (runs_unmet (with_depends f ds ms)) 0 f.slots) (first_slot (opens (with_depends f ds ms)) 0 f.slots) in
-      or_some first rest some ∙ (ap (λ (o : Option RowKey). or_else o rest) (sym (wrong_same ds))
-      ∙ sym (all_faults (with_depends f ds ms) ∙ ap (λ (o : Option RowKey). or_else o (late_fault (with_depends f ds ms))) fine))
+      or_some first rest some ∙ (ap (λ (o : Option StoredKey). or_else o rest) (sym (wrong_same ds))
+      ∙ sym (all_faults (with_depends f ds ms) ∙ ap (λ (o : Option StoredKey). or_else o (late_fault (with_depends f ds ms))) fine))
 
 -- an early fault is the first
 pub early_first : (f : Farm) (ds : List DependRow) (ms : List MetRow) → is_some (early_fault f) ≡ true → early_fault f ≡ end_fault (with_depends f ds ms)

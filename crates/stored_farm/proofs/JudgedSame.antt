@@ -20,25 +20,21 @@ use Rattle.farm_types.proofs.Lists.{and_both, for_some_true}
 use Rattle.farm_rows.specs.declared.farm_row.FarmRow.TheVariants as row
 use Rattle.farm_rows.specs.declared.ids.TheConstants.{GROUP_IDS}
 use Rattle.farm_rows.specs.Recovery.{end_is_there, groups_fit, groups_so_far, row_fits}
-use Rattle.stored_rows.specs.SoFar.{IsWithin}
+use Rattle.stored_rows.specs.SoFar.{HasFewNumbers}
 use Rattle.stored_farm.specs.Judged.{groups_pass, has_its_forms, has_position, is_mark_among, passes, passes_unmet}
-use Rattle.stored_farm.specs.Kept.{groups_kept, groups_known, with_depends}
+use Rattle.stored_farm.specs.Kept.{groups_kept, with_depends}
 use Rattle.stored_farm.specs.Marks.{EachRises, position_key}
-use Rattle.stored_farm.proofs.Ids.{length_of, length_so_far, positions_so_far, waits_known}
-use Rattle.stored_farm.proofs.Positions.{known_rise, position_below}
+use Rattle.stored_farm.proofs.Long.{length_of}
+use Rattle.stored_farm.proofs.Positions.{position_below, so_far_rise}
 
 -- ---- groups are told by layers and slots
-
-pub known_beside : (f : Farm) (ds : List DependRow) (ms : List MetRow) (d : DependRow) → groups_known (with_depends f ds ms) d ≡ groups_known f d
-unfolding groups_known
-known_beside f ds ms d = refl
-
-pub kept_beside : (f : Farm) (ds : List DependRow) (ms : List MetRow) (d : DependRow) → groups_kept (with_depends f ds ms) d ≡ groups_kept f d
-kept_beside f ds ms d = ap (λ (gs : List Group). cond d.met_all [] gs) (known_beside f ds ms d)
 
 so_far_beside : (f : Farm) (ds : List DependRow) (ms : List MetRow) (d : DependRow) → groups_so_far (with_depends f ds ms) d ≡ groups_so_far f d
 unfolding groups_so_far
 so_far_beside f ds ms d = refl
+
+pub kept_beside : (f : Farm) (ds : List DependRow) (ms : List MetRow) (d : DependRow) → groups_kept (with_depends f ds ms) d ≡ groups_kept f d
+kept_beside f ds ms d = ap (λ (gs : List Group). cond d.met_all [] gs) (so_far_beside f ds ms d)
 
 pub of_beside : (f : Farm) (ds : List DependRow) (ms : List MetRow) (d : DependRow) → groups_of (with_depends f ds ms) d ≡ groups_of f d
 unfolding groups_of
@@ -46,22 +42,22 @@ of_beside f ds ms d = refl
 
 -- ---- how many groups there are
 
-weight_by : (f : Farm) → IsWithin f → (ds : List DependRow) (ms : List MetRow) (d : DependRow) (b : Bool) → length (cond b [] (groups_known f d)) ≡ cond b 0 (length (groups_of (with_depends f ds ms) d))
-weight_by f k ds ms d true = refl
-weight_by f k ds ms d false = length_of f k d ∙ ap length (sym (of_beside f ds ms d))
+weight_by : (f : Farm) (ds : List DependRow) (ms : List MetRow) (d : DependRow) (b : Bool) → length (cond b [] (groups_so_far f d)) ≡ cond b 0 (length (groups_of (with_depends f ds ms) d))
+weight_by f ds ms d true = refl
+weight_by f ds ms d false = length_of f d ∙ ap length (sym (of_beside f ds ms d))
 
-sums_of : (f : Farm) → IsWithin f → (ds : List DependRow) (ms : List MetRow) (xs : List DependRow)
+sums_of : (f : Farm) (ds : List DependRow) (ms : List MetRow) (xs : List DependRow)
     → sum_by (λ (gs : List Group). length gs) (map (groups_kept f) xs) ≡ sum_by (λ (d : DependRow). cond d.met_all 0 (length (groups_of (with_depends f ds ms) d))) xs
-sums_of f k ds ms [] = refl
-sums_of f k ds ms (d ∷ xs) =
+sums_of f ds ms [] = refl
+sums_of f ds ms (d ∷ xs) =
     let weight : DependRow → ℕ = λ (e : DependRow). cond e.met_all 0 (length (groups_of (with_depends f ds ms) e)) in
     let long : List Group → ℕ = λ (gs : List Group). length gs in
-    let here : length (groups_kept f d) ≡ weight d = weight_by f k ds ms d d.met_all in
+    let here : length (groups_kept f d) ≡ weight d = weight_by f ds ms d d.met_all in
     sum_by-cons long (groups_kept f d) (map (groups_kept f) xs)
-    ∙ ((λ i. here i + sums_of f k ds ms xs i) ∙ sym (sum_by-cons weight d xs))
+    ∙ ((λ i. here i + sums_of f ds ms xs i) ∙ sym (sum_by-cons weight d xs))
 
-pub left_of : (f : Farm) → IsWithin f → (ds : List DependRow) (ms : List MetRow) → sum_by (λ (gs : List Group). length gs) (map (groups_kept f) ds) ≡ groups_left (with_depends f ds ms)
-left_of f k ds ms = sums_of f k ds ms ds
+pub left_of : (f : Farm) (ds : List DependRow) (ms : List MetRow) → sum_by (λ (gs : List Group). length gs) (map (groups_kept f) ds) ≡ groups_left (with_depends f ds ms)
+left_of f ds ms = sums_of f ds ms ds
 
 -- ---- a depend
 
@@ -72,18 +68,14 @@ chain true true false d e = refl
 chain true false c d e = refl
 chain false b c d e = refl
 
-module _ (f : Farm) (k : IsWithin f) (ds : List DependRow) (ms : List MetRow) where
+module _ (f : Farm) (k : HasFewNumbers f) (ds : List DependRow) (ms : List MetRow) where
   module _ (left : ℕ) (is : left ≡ groups_left (with_depends f ds ms)) (r : DependRow) where
-    waits_is : is_some (waits_for_itself (groups_known f r)) ≡ is_some (waits_for_itself (groups_so_far (with_depends f ds ms) r))
-    waits_is = waits_known f k r ∙ ap (λ (gs : List Group). is_some (waits_for_itself gs)) (sym (so_far_beside f ds ms r))
+    pass_is : groups_pass left (groups_so_far f r) ≡ groups_fit (with_depends f ds ms) r (groups_so_far (with_depends f ds ms) r)
+    pass_is =
+        let same : groups_so_far f r ≡ groups_so_far (with_depends f ds ms) r = sym (so_far_beside f ds ms r) in
+        λ i. not (is_some (waits_for_itself (same i))) && (ltb 0 (length (same i)) && leb (is i + length (same i)) MOST_GROUPS)
 
-    long_is : length (groups_known f r) ≡ length (groups_so_far (with_depends f ds ms) r)
-    long_is = length_so_far f k r ∙ ap length (sym (so_far_beside f ds ms r))
-
-    pass_is : groups_pass left (groups_known f r) ≡ groups_fit (with_depends f ds ms) r (groups_so_far (with_depends f ds ms) r)
-    pass_is = λ i. not (waits_is i) && (ltb 0 (long_is i) && leb (is i + long_is i) MOST_GROUPS)
-
-    unmet_by : (b : Bool) → (b || (end_is_there f r.target && groups_pass left (cond b [] (groups_known f r))))
+    unmet_by : (b : Bool) → (b || (end_is_there f r.target && groups_pass left (cond b [] (groups_so_far f r))))
         ≡ (b || (end_is_there f r.target && groups_fit (with_depends f ds ms) r (groups_so_far (with_depends f ds ms) r)))
     unmet_by true = refl
     unmet_by false = ap (λ (b : Bool). end_is_there f r.target && b) pass_is
@@ -98,13 +90,13 @@ module _ (f : Farm) (k : IsWithin f) (ds : List DependRow) (ms : List MetRow) wh
         (chain numbered counted formed there (passes_unmet f left r (groups_kept f r)) ∙ ap (λ (b : Bool). numbered && (counted && (formed && (there && b)))) (unmet_by r.met_all))
 
     -- there is room for its groups
-    room_by : (b : Bool) → left ≤ MOST_GROUPS → (b || (end_is_there f r.target && groups_pass left (cond b [] (groups_known f r)))) ≡ true → left + length (cond b [] (groups_known f r)) ≤ MOST_GROUPS
+    room_by : (b : Bool) → left ≤ MOST_GROUPS → (b || (end_is_there f r.target && groups_pass left (cond b [] (groups_so_far f r)))) ≡ true → left + length (cond b [] (groups_so_far f r)) ≤ MOST_GROUPS
     room_by true few h = omega (arith, few)
     room_by false few h =
         let there = and_both (end_is_there f r.target) _ h in
-        let alone = and_both (not (is_some (waits_for_itself (groups_known f r)))) _ there.1 in
-        let some = and_both (ltb 0 (length (groups_known f r))) _ alone.1 in
-        leb-true (left + length (groups_known f r)) MOST_GROUPS some.1
+        let alone = and_both (not (is_some (waits_for_itself (groups_so_far f r)))) _ there.1 in
+        let some = and_both (ltb 0 (length (groups_so_far f r))) _ alone.1 in
+        leb-true (left + length (groups_so_far f r)) MOST_GROUPS some.1
 
     pub room_for : left ≤ MOST_GROUPS → row_fits (with_depends f ds ms) (row.Depend r) ≡ true → left + length (groups_kept f r) ≤ MOST_GROUPS
     room_for few fits =
@@ -123,9 +115,9 @@ module _ (f : Farm) (k : IsWithin f) (ds : List DependRow) (ms : List MetRow) wh
   some_mapped test None = refl
   some_mapped test (Some d) = refl
 
-  has_by : (p : ℕ) (d : DependRow) (b : Bool) → has_position p (cond b [] (groups_known f d)) ≡ (not b && list_any (λ (g : Group). eqb g.position p) (groups_so_far (with_depends f ds ms) d))
+  has_by : (p : ℕ) (d : DependRow) (b : Bool) → has_position p (cond b [] (groups_so_far f d)) ≡ (not b && list_any (λ (g : Group). eqb g.position p) (groups_so_far (with_depends f ds ms) d))
   has_by p d true = refl
-  has_by p d false = positions_so_far f k d p ∙ ap (λ (gs : List Group). list_any (λ (g : Group). eqb g.position p) gs) (sym (so_far_beside f ds ms d))
+  has_by p d false = ap (λ (gs : List Group). list_any (λ (g : Group). eqb g.position p) gs) (sym (so_far_beside f ds ms d))
 
   pub mark_judged : (m : MetRow) → (f.recorded && is_mark_among ds (map (groups_kept f) ds) m) ≡ row_fits (with_depends f ds ms) (row.Met m)
   mark_judged m =
@@ -136,9 +128,9 @@ module _ (f : Farm) (k : IsWithin f) (ds : List DependRow) (ms : List MetRow) wh
       ∙ (ap (λ (o : Option DependRow). for_some o (λ (d : DependRow). has_position m.position (groups_kept f d))) (sym (find_at wanted ds))
       ∙ ap (λ (test : DependRow → Bool). for_some (find wanted ds) test) (λ i d. has_by m.position d d.met_all i))))
 
-  rise_by : (d : DependRow) (b : Bool) → IsRising position_key 0 (cond b [] (groups_known f d)) MOST_FRAMES
+  rise_by : (d : DependRow) (b : Bool) → IsRising position_key 0 (cond b [] (groups_so_far f d)) MOST_FRAMES
   rise_by d true = omega arith
-  rise_by d false = known_rise f k d
+  rise_by d false = so_far_rise f k d
 
   each_by : (o : Option DependRow) (gs : List Group) → option_map (groups_kept f) o ≡ Some gs → IsRising position_key 0 gs MOST_FRAMES
   each_by None gs e = absurd (none-some gs e)

@@ -1,10 +1,10 @@
 pub mod Changes
 pub mod EndsSame
-pub mod Ids
-pub mod JudgedSame
-pub mod Lookups
-pub mod Natural
 pub mod InOrder
+pub mod JudgedSame
+pub mod Long
+pub mod Lookups
+pub mod NumberForms
 pub mod PairsLeft
 pub mod Positions
 pub mod Walks

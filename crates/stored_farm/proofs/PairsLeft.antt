@@ -4,16 +4,16 @@ use Rattle.farm_types.specs.declared.depend.DependRow.{DependRow}
 use Rattle.farm_types.specs.declared.depend.Group.{Group}
 use Rattle.farm_types.specs.declared.depend.MetRow.{MetRow}
 use Rattle.farm_types.specs.declared.slot_row.SlotRow.{SlotRow}
-use Rattle.farm_rows.specs.Recovery.{RowKey}
+use Rattle.farm_rows.specs.Recovery.{StoredKey}
 use Rattle.stored_farm.specs.Ends.{first_wrong, waits_unmet}
 
-wrong_past : (met : List MetRow) (slots : List SlotRow) (ds : List DependRow) → ◌≡◌ {A = Option RowKey} (first_wrong met slots ds []) None
+wrong_past : (met : List MetRow) (slots : List SlotRow) (ds : List DependRow) → ◌≡◌ {A = Option StoredKey} (first_wrong met slots ds []) None
 wrong_past met slots [] = refl
 wrong_past met slots (d ∷ ds) = refl
 
-pub wrong_end : (met : List MetRow) (slots : List SlotRow) (ds : List DependRow) (gs : List (List Group)) → (ds ≡ []) ⊎ (gs ≡ []) → ◌≡◌ {A = Option RowKey} (first_wrong met slots ds gs) None
-wrong_end met slots ds gs (inl none) = subst (λ (xs : List DependRow). ◌≡◌ {A = Option RowKey} (first_wrong met slots xs gs) None) (sym none) refl
-wrong_end met slots ds gs (inr none) = subst (λ (xs : List (List Group)). ◌≡◌ {A = Option RowKey} (first_wrong met slots ds xs) None) (sym none) (wrong_past met slots ds)
+pub wrong_end : (met : List MetRow) (slots : List SlotRow) (ds : List DependRow) (gs : List (List Group)) → (ds ≡ []) ⊎ (gs ≡ []) → ◌≡◌ {A = Option StoredKey} (first_wrong met slots ds gs) None
+wrong_end met slots ds gs (inl none) = subst (λ (xs : List DependRow). ◌≡◌ {A = Option StoredKey} (first_wrong met slots xs gs) None) (sym none) refl
+wrong_end met slots ds gs (inr none) = subst (λ (xs : List (List Group)). ◌≡◌ {A = Option StoredKey} (first_wrong met slots ds xs) None) (sym none) (wrong_past met slots ds)
 
 unmet_past : (met : List MetRow) (ds : List DependRow) (slot : ℕ) → waits_unmet met ds [] slot ≡ false
 unmet_past met [] slot = refl

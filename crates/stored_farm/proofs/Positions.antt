@@ -18,9 +18,10 @@ use Rattle.farm_types.specs.Ranges.{range_numbers}
 use Rattle.farm_types.specs.Rising.{IsRising}
 use Rattle.farm_types.proofs.Lists.{list_all-at}
 use Rattle.farm_law.proofs.Filtered.{at_kept}
-use Rattle.stored_rows.specs.SoFar.{IsWithin, layer_from, shape_from, slots_from}
-use Rattle.stored_farm.specs.Kept.{base_of, groups_known}
+use Rattle.farm_rows.specs.Recovery.{groups_so_far, layer_so_far, shape_so_far}
+use Rattle.stored_rows.specs.SoFar.{HasFewNumbers}
 use Rattle.stored_farm.specs.Marks.{position_key}
+use Rattle.stored_farm.proofs.Long.{so_far_long}
 
 rising_from : (low other : ℕ) (gs : List Group) (high : ℕ) → low ≤ other → IsRising position_key other gs high → IsRising position_key low gs high
 rising_from low other [] high below rise = omega (arith, below, rise)
@@ -63,33 +64,29 @@ module _ (high : ℕ) (any : Bool) (P Q : Part) (S R : Shape) (some : 1 ≤ high
 
 -- ---- a layer's frames are few
 
-slots_long : (base : ℕ) (slots : List SlotRow) (l : LayerRow) (position : ℕ) (ns : List ℤ) → length (slots_from base slots l position ns) ≡ length ns
-slots_long base slots l position [] = refl
-slots_long base slots l position (n ∷ ns) = ap suc (slots_long base slots l (position + 1) ns)
-
 called_step : (b : Bool) (l : LayerShape) (o : Option LayerShape) → length l.slots ≤ MOST_FRAMES → length (or_no_layer o).slots ≤ MOST_FRAMES → length (or_no_layer (cond b (Some l) o)).slots ≤ MOST_FRAMES
 called_step true l o first later = first
 called_step false l o first later = later
 
-called_few : (base : ℕ) (slots : List SlotRow) (name : List ℕ) (ls : List LayerRow) → ((n : ℕ) (l : LayerRow) → slice_get ls n ≡ Some l → length (range_numbers l.range) ≤ MOST_FRAMES)
-    → length (or_no_layer (find (λ (l : LayerShape). bytes_eq l.name name) (map (layer_from base slots) ls))).slots ≤ MOST_FRAMES
-called_few base slots name [] each = omega arith
-called_few base slots name (l ∷ ls) each =
-    called_step (bytes_eq l.name name) (layer_from base slots l) (find (λ (k : LayerShape). bytes_eq k.name name) (map (layer_from base slots) ls))
-    (omega (arith, slots_long base slots l 0 (range_numbers l.range), each 0 l refl)) (called_few base slots name ls (λ n k at. each (suc n) k at))
+called_few : (none : ℕ) (slots : List SlotRow) (name : List ℕ) (ls : List LayerRow) → ((n : ℕ) (l : LayerRow) → slice_get ls n ≡ Some l → length (range_numbers l.range) ≤ MOST_FRAMES)
+    → length (or_no_layer (find (λ (l : LayerShape). bytes_eq l.name name) (map (layer_so_far none slots) ls))).slots ≤ MOST_FRAMES
+called_few none slots name [] each = omega arith
+called_few none slots name (l ∷ ls) each =
+    called_step (bytes_eq l.name name) (layer_so_far none slots l) (find (λ (k : LayerShape). bytes_eq k.name name) (map (layer_so_far none slots) ls))
+    (omega (arith, so_far_long none slots l 0 (range_numbers l.range), each 0 l refl)) (called_few none slots name ls (λ n k at. each (suc n) k at))
 
-part_few : (f : Farm) → IsWithin f → (base job : ℕ) (name : Option (List ℕ)) → length (layer_of_part (shape_from base f job).layers name).slots ≤ MOST_FRAMES
-part_few f k base job None = omega arith
-part_few f k base job (Some name) =
-    called_few base f.slots name (layers_of f.layers job)
+part_few : (f : Farm) → HasFewNumbers f → (none job : ℕ) (name : Option (List ℕ)) → length (layer_of_part (shape_so_far none f job).layers name).slots ≤ MOST_FRAMES
+part_few f k none job None = omega arith
+part_few f k none job (Some name) =
+    called_few none f.slots name (layers_of f.layers job)
     (λ n l at.
     let own = at_kept (λ (m : LayerRow). eqb m.job job) f.layers n l at in
-    leb-true (length (range_numbers l.range)) MOST_FRAMES (list_all-at (λ (m : LayerRow). leb (length (range_numbers m.range)) MOST_FRAMES) f.layers own.0 l k.numbers own.1))
+    leb-true (length (range_numbers l.range)) MOST_FRAMES (list_all-at (λ (m : LayerRow). leb (length (range_numbers m.range)) MOST_FRAMES) f.layers own.0 l k own.1))
 
-pub known_rise : (f : Farm) → IsWithin f → (d : DependRow) → IsRising position_key 0 (groups_known f d) MOST_FRAMES
-unfolding groups_known
-known_rise f k d =
-    positions_rise MOST_FRAMES d.any (part_at d.waiter) (part_at d.target) (shape_from SLOT_LIMIT f d.waiter.job) (shape_from (base_of d) f d.target.job) (omega arith)
+pub so_far_rise : (f : Farm) → HasFewNumbers f → (d : DependRow) → IsRising position_key 0 (groups_so_far f d) MOST_FRAMES
+unfolding groups_so_far
+so_far_rise f k d =
+    positions_rise MOST_FRAMES d.any (part_at d.waiter) (part_at d.target) (shape_so_far SLOT_LIMIT f d.waiter.job) (shape_so_far (SLOT_LIMIT + 1) f d.target.job) (omega arith)
     (part_few f k SLOT_LIMIT d.waiter.job d.waiter.layer) d.kind
 
 -- ---- a position among those that rise

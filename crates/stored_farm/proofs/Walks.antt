@@ -1,15 +1,18 @@
 -- Walks along groups and flags.
-use Rattle.std.proofs.Common.{◌≡◌, ◌∙◌, ◌<◌, ◌≤◌, ℕ, suc, zero, ◌+◌, Bool, true, false, ◌||◌, leb, List, [], ◌∷◌, length, get_or, drop, replicate, refl, sym, ap, arith, ◌⊎◌, inl, inr}
+use Rattle.std.proofs.Common.{◌≡◌, ◌∙◌, ◌<◌, ◌≤◌, ℕ, suc, zero, ◌+◌, Bool, true, false, ◌||◌, leb, List, [], ◌∷◌, length, get_or, drop, replicate, Option, Some, None, refl, sym, ap, arith, ◌⊎◌, inl, inr}
 use Rattle.std.specs.Prelude.{is_some}
 use Rattle.std.specs.List.{find, list_any}
 use Rattle.std.proofs.lemmas.Bool.Decides.{leb_tells}
 use Rattle.std.proofs.lemmas.List.{drop_more, length-replicate}
 use Rattle.farm_types.specs.declared.depend.Group.{Group}
-use Rattle.farm_types.specs.DependActs.{waits_for_itself}
+use Rattle.farm_types.specs.DependActs.{or_else, waits_for_itself}
 use Rattle.stored_farm.specs.Ends.{is_set}
 use Rattle.stored_farm.specs.SelfWaits.{is_among}
 use Rattle.stored_farm.proofs.Lookups.{some_found}
-use Rattle.stored_farm.proofs.Natural.{either_some}
+
+either_some : {X : Type 0} (first second : Option X) → is_some (or_else first second) ≡ (is_some first || is_some second)
+either_some None second = refl
+either_some (Some x) second = refl
 
 module _ (groups : List Group) (i : ℕ) (g : Group) (within : i < length groups) (is : g ≡ get_or groups i g) (so_far : is_some (waits_for_itself (drop i groups)) ≡ is_some (waits_for_itself groups)) where
   rest : Bool

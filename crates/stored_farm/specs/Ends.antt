@@ -10,7 +10,7 @@ use Rattle.farm_types.specs.DependActs.{is_running, or_else}
 use Rattle.farm_types.specs.Depends.{are_done, is_done, waits_in}
 use Rattle.farm_types.specs.Farm.{for_some}
 use Rattle.farm_types.specs.Settle.{is_blocked}
-use Rattle.farm_rows.specs.Recovery.{RowKey}
+use Rattle.farm_rows.specs.Recovery.{StoredKey}
 
 -- ---- marks
 
@@ -31,7 +31,7 @@ is_marked_wrongly met slots d groups =
     not d.met_all && (list_all (is_marked_in met d.depend) groups || list_any (lacks_mark met slots d.depend) groups)
 
 -- the first depend that is marked wrongly
-abbrev pub first_wrong : List MetRow → List SlotRow → List DependRow → List (List Group) → Option RowKey
+abbrev pub first_wrong : List MetRow → List SlotRow → List DependRow → List (List Group) → Option StoredKey
 first_wrong met slots [] groups = None
 first_wrong met slots (d ∷ ds) [] = None
 first_wrong met slots (d ∷ ds) (gs ∷ groups) = if is_marked_wrongly met slots d gs then Some (9, d.depend) else first_wrong met slots ds groups
@@ -61,10 +61,10 @@ abbrev pub hangs : Bool → SlotRow → Bool
 hangs waits s = for_some s.frame (λ x. is_blocked x.state) && not waits
 
 -- the first slot that passes with its flag, counted from a place
-abbrev pub first_flagged : (Bool → SlotRow → Bool) → List Bool → ℕ → List SlotRow → Option RowKey
+abbrev pub first_flagged : (Bool → SlotRow → Bool) → List Bool → ℕ → List SlotRow → Option StoredKey
 first_flagged test flags place [] = None
 first_flagged test flags place (s ∷ ss) = if test (is_set flags place) s then Some (8, place) else first_flagged test flags (place + 1) ss
 
 -- the first frame that goes on, then the first that hangs
-abbrev pub first_stuck : List Bool → List SlotRow → Option RowKey
+abbrev pub first_stuck : List Bool → List SlotRow → Option StoredKey
 first_stuck flags slots = or_else (first_flagged goes_on flags 0 slots) (first_flagged hangs flags 0 slots)

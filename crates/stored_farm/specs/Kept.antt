@@ -4,35 +4,24 @@ use Rattle.std.specs.List.{list_all}
 use Rattle.farm_types.specs.declared.depend.DependRow.{DependRow}
 use Rattle.farm_types.specs.declared.depend.Group.{Group}
 use Rattle.farm_types.specs.declared.depend.MetRow.{MetRow}
-use Rattle.farm_types.specs.declared.limits.TheConstants.{MOST_FRAMES, MOST_GROUPS, MOST_LAYERS, SLOT_LIMIT}
+use Rattle.farm_types.specs.declared.limits.TheConstants.{MOST_GROUPS}
 use Rattle.farm_types.specs.Farm.{Farm}
-use Rattle.farm_types.specs.Groups.{groups_by, part_at}
 use Rattle.farm_types.specs.Rising.{IsRising, depend_key}
-use Rattle.farm_rows.specs.Recovery.{RowKey, comes_after}
+use Rattle.farm_rows.specs.Recovery.{StoredKey, comes_after, groups_so_far}
 use Rattle.farm_rows.specs.declared.ids.TheConstants.{GROUP_IDS}
-use Rattle.stored_rows.specs.SoFar.{shape_from}
 use Rattle.farm_rows.specs.declared.book_lists.BookLists.{BookLists}
 use Rattle.stored_rows.specs.Told.{Told, farm_of}
 
 -- ---- the groups of a depend
 
--- numbers for the frames without slots of the other end: those of the waiting end, where both are of one job
-abbrev pub base_of : DependRow → ℕ
-base_of d = if d.target.job == d.waiter.job then SLOT_LIMIT else SLOT_LIMIT + MOST_LAYERS * MOST_FRAMES
-
--- the groups, in which each frame without a slot has a number of its own
-unfoldable pub groups_known : Farm → DependRow → List Group
-groups_known f d =
-    groups_by d.kind d.any (part_at d.waiter) (part_at d.target) (shape_from SLOT_LIMIT f d.waiter.job) (shape_from (base_of d) f d.target.job)
-
 -- those of a depend that isn't satisfied
 abbrev pub groups_kept : Farm → DependRow → List Group
-groups_kept f d = if d.met_all then [] else groups_known f d
+groups_kept f d = if d.met_all then [] else groups_so_far f d
 
 -- ---- rows that come in order
 
 -- the rows of a kind rise, and so they do with any that may come
-pub record Grows {X : Type 0} (key : X → ℕ) (kind : ℕ) (last : Option RowKey) (xs : List X) : Type 0 where
+pub record Grows {X : Type 0} (key : X → ℕ) (kind : ℕ) (last : Option StoredKey) (xs : List X) : Type 0 where
   pub next : (id : ℕ) → comes_after last (kind, id) ≡ true → IsRising key 0 xs id
   pub high : ℕ
   pub rise : IsRising key 0 xs high
@@ -52,8 +41,8 @@ with_depends f depends met = record f { depends = depends; met = met }
 
 -- A row of another kind comes before all depends, and where it may come, it may come after the last one of these kinds. Beside each depend that isn't
 -- satisfied are its groups, and how many there are together.
-pub record KeepsDepends (rows : Told) (last : Option RowKey) (depends : List DependRow) (groups : List (List Group)) (met : List MetRow) (left : ℕ) : Type 0 where
-  pub early : (key : RowKey) → key.0 ≤ 8 → comes_after last key ≡ true → (comes_after rows.last key ≡ true) × (depends ≡ [])
+pub record KeepsDepends (rows : Told) (last : Option StoredKey) (depends : List DependRow) (groups : List (List Group)) (met : List MetRow) (left : ℕ) : Type 0 where
+  pub early : (key : StoredKey) → key.0 ≤ 8 → comes_after last key ≡ true → (comes_after rows.last key ≡ true) × (depends ≡ [])
   pub depends_grow : Grows depend_key 9 last depends
   pub met_grow : Grows met_id 10 last met
   pub met_own : list_all has_own_id met ≡ true

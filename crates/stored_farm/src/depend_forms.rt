@@ -1,11 +1,11 @@
 //! The forms of a depend's row.
 
-ghost use Rattle.std.specs.Prelude.{◌≡◌};
-ghost use Rattle.farm_types.specs.Formed.{is_frame_named, is_layer_name};
-ghost use Rattle.farm_types.specs.Kept.{is_formed_depend, is_formed_end, is_given};
+ghost use Rattle.std.specs.Prelude.{◌≡◌, ◌&&◌, true, int_le, negsuc, pos};
+ghost use Rattle.farm_types.specs.Formed.{is_layer_name};
+ghost use Rattle.farm_types.specs.Kept.{is_formed_depend, is_formed_end, is_given, is_number_named};
 
 use farm_types::{DependEnd, DependRow, Text, is_name};
-use farm_words::{names_frame, names_layer, names_target_frame, names_target_layer};
+use state_names::{names_frame, names_layer, names_target_frame, names_target_layer};
 
 /// Whether each end has a job's number, and a layer and a frame where the depend's kind names them, each of its form.
 pub(crate) fn is_formed(depend: &DependRow) -> bool
@@ -26,8 +26,7 @@ fn is_formed_end(end: &DependEnd, layered: bool, framed: bool) -> bool
 {
     1 <= end.job.0
         && (is_layer_given(layered, &end.layer)
-            && (is_layer_name(&end.layer)
-                && (is_frame_given(framed, end.frame) && is_frame_named(end.frame))))
+            && (is_layer_name(&end.layer) && is_frame_given(framed, end.frame)))
 }
 
 // There is a layer exactly where the flag says so.
@@ -41,16 +40,23 @@ fn is_layer_given(layered: bool, layer: &Option<Text>) -> bool
     }
 }
 
-// There is a frame exactly where the flag says so.
+// There is a frame exactly where the flag says so. Its number may be any of its type.
 fn is_frame_given(framed: bool, frame: Option<i32>) -> bool
-    ensures { result ≡ is_given framed frame }
+    ensures { result ≡ (is_given framed frame && is_number_named frame) }
 {
-    if framed {
-        frame.is_some()
-    } else {
-        frame.is_none()
+    match frame {
+        None => !framed,
+        Some(number) => {
+            fits(number);
+            framed
+        }
     }
 }
+
+// A number of the type is one of 32 bits with a sign. It does nothing.
+fn fits(number: i32)
+    ensures { (int_le (negsuc 2147483647) number && int_le number (pos 2147483647)) ≡ true }
+{}
 
 // A name of a layer, where there is one.
 fn is_layer_name(layer: &Option<Text>) -> bool
@@ -59,15 +65,5 @@ fn is_layer_name(layer: &Option<Text>) -> bool
     match layer {
         None => true,
         Some(name) => is_name(name.as_str()),
-    }
-}
-
-// A number of a frame, where there is one.
-fn is_frame_named(frame: Option<i32>) -> bool
-    ensures { result ≡ is_frame_named frame }
-{
-    match frame {
-        None => true,
-        Some(number) => -9_999_999 <= number && number <= 9_999_999,
     }
 }

@@ -125,7 +125,7 @@ fn is_done(slots: &[SlotRow], slot: Slot) -> bool
     let Some(frame) = &row.frame else {
         return false;
     };
-    matches!(frame.state, FrameState::Succeeded | FrameState::Eaten)
+    frame.state.is_done()
 }
 
 // ---- frames

@@ -2,16 +2,15 @@
 
 ghost use Rattle.std.specs.Prelude.{◌≡◌, IfOk};
 ghost use Rattle.farm_types.specs.Groups.{part_at, part_of};
-ghost use Rattle.stored_farm.specs.Kept.{base_of, groups_kept, groups_known};
+ghost use Rattle.farm_rows.specs.Recovery.{groups_so_far};
+ghost use Rattle.stored_farm.specs.Kept.{groups_kept};
 
-use farm_types::{
-    DependEnd, DependRow, DependSpec, Group, Items, MOST_FRAMES, MOST_LAYERS, Place, SLOT_LIMIT,
-    Text,
-};
+use farm_types::{DependEnd, DependRow, DependSpec, Group, Items, Place, SLOT_LIMIT, Text};
 use std::alloc::{AllocError, Global};
 use stored_rows::StoredRows;
 
-/// The groups of a depend that isn't satisfied. A frame without a slot has a number of its own, past those of all slots.
+/// The groups of a depend that isn't satisfied. Waiting frames without a slot stand at the number past all slots, and targets without one at
+/// the number after it.
 pub(crate) fn groups_kept(
     alloc: Global,
     rows: &StoredRows,
@@ -22,33 +21,22 @@ pub(crate) fn groups_kept(
     if depend.met_all {
         return Ok(Items::new(alloc));
     }
-    groups_known(alloc, rows, depend)
+    groups_so_far(alloc, rows, depend)
 }
 
 // The groups of a depend.
-#[tactic(auto, unfolding(crate::specs::Kept::groups_known))]
-fn groups_known(
+#[tactic(auto, unfolding(farm_rows::specs::Recovery::groups_so_far))]
+fn groups_so_far(
     alloc: Global,
     rows: &StoredRows,
     depend: &DependRow,
 ) -> Result<Items<Group>, AllocError>
-    ensures { IfOk result (λ groups. groups ≡ groups_known rows.now.farm depend.now) }
+    ensures { IfOk result (λ groups. groups ≡ groups_so_far rows.now.farm depend.now) }
 {
     let waiter = rows.shape(alloc, depend.waiter.job, SLOT_LIMIT)?;
-    let target = rows.shape(alloc, depend.target.job, base_of(depend))?;
+    let target = rows.shape(alloc, depend.target.job, SLOT_LIMIT + 1)?;
     let spec = spec_of(alloc, depend)?;
     depend_kinds::groups(alloc, &spec, &waiter, &target)
-}
-
-// From which number on the other end's frames without slots are counted.
-fn base_of(depend: &DependRow) -> u32
-    ensures { result ≡ base_of depend.now }
-{
-    if depend.target.job == depend.waiter.job {
-        SLOT_LIMIT
-    } else {
-        SLOT_LIMIT + MOST_LAYERS * MOST_FRAMES
-    }
 }
 
 // A depend with the kind and the parts of this one. Its ends name no job.

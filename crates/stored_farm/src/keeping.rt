@@ -15,7 +15,7 @@ use farm_types::{DependRow, Group, Items, MetRow};
 use std::alloc::{AllocError, Global};
 
 impl StoredFarm {
-    // The groups of a depend that isn't satisfied. A frame without a slot has a number of its own.
+    // The groups of a depend that isn't satisfied.
     pub(crate) fn groups_of(
         &self,
         alloc: Global,

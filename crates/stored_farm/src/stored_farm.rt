@@ -5,7 +5,7 @@ ghost use Rattle.farm_rows.specs.Recovery.{comes_after, end_fault, key_of};
 ghost use Rattle.farm_rows.specs.Rows.{row_kind};
 ghost use Rattle.farm_rows.specs.declared.farm_row.FarmRow.TheVariants as row;
 ghost use Rattle.stored_farm.specs.Kept.{whole_of};
-ghost use Rattle.stored_rows.specs.Told.{Takes, none_told};
+ghost use Rattle.stored_rows.specs.Told.{Accepts, none_told};
 
 use crate::order::comes_after;
 use farm_rows::{BookLists, FarmRow};
@@ -54,7 +54,7 @@ impl StoredFarm {
 
     /// Takes a row, where it comes after the last one and fits the farm so far, and says whether it does. At an `Err` nothing is known of the farm any more.
     pub fn add(&mut self, alloc: Global, row: FarmRow) -> Result<bool, AllocError>
-        ensures { IfOk result (λ taken. Takes taken self.old row self.new) }
+        ensures { IfOk result (λ taken. Accepts taken self.old row self.new) }
     {
         if !self.is_next(&row) {
             return Ok(false);
@@ -106,7 +106,7 @@ impl StoredFarm {
     // Takes a row that comes after the last one, where it fits the farm so far.
     fn add_next(&mut self, alloc: Global, row: FarmRow) -> Result<bool, AllocError>
         requires { comes_after self.old.last (key_of row) ≡ true }
-        ensures { IfOk result (λ taken. Takes taken self.old row self.new) }
+        ensures { IfOk result (λ taken. Accepts taken self.old row self.new) }
     {
         match row {
             FarmRow::Depend(depend) => self.add_depend(alloc, depend),
@@ -119,7 +119,7 @@ impl StoredFarm {
     fn add_early(&mut self, alloc: Global, row: FarmRow) -> Result<bool, AllocError>
         requires early { row_kind row ≤ 8 }
         requires next { comes_after self.old.last (key_of row) ≡ true }
-        ensures { IfOk result (λ taken. Takes taken self.old row self.new) }
+        ensures { IfOk result (λ taken. Accepts taken self.old row self.new) }
     {
         let key = (row.kind(), row.id());
         let last = self.last;
@@ -133,7 +133,7 @@ impl StoredFarm {
     // Takes a depend.
     fn add_depend(&mut self, alloc: Global, depend: DependRow) -> Result<bool, AllocError>
         requires { comes_after self.old.last (9, depend.depend) ≡ true }
-        ensures { IfOk result (λ taken. Takes taken self.old (row.Depend depend) self.new) }
+        ensures { IfOk result (λ taken. Accepts taken self.old (row.Depend depend) self.new) }
     {
         let groups = self.groups_of(alloc, &depend)?;
         let fits = self.depend_fits(alloc, &depend, groups.as_slice())?;
@@ -146,7 +146,7 @@ impl StoredFarm {
     // Takes the mark of a met group.
     fn add_mark(&mut self, mark: MetRow) -> Result<bool, AllocError>
         requires { comes_after self.old.last (key_of (row.Met mark)) ≡ true }
-        ensures { IfOk result (λ taken. Takes taken self.old (row.Met mark) self.new) }
+        ensures { IfOk result (λ taken. Accepts taken self.old (row.Met mark) self.new) }
     {
         let fits = self.mark_fits(&mark);
         if fits {

@@ -20,7 +20,7 @@ use Rattle.farm_types.specs.Forms.{is_between}
 use Rattle.farm_types.specs.Rising.{job_key, layer_key}
 use Rattle.farm_rows.specs.declared.head_row.HeadRow.{HeadRow}
 use Rattle.farm_rows.specs.declared.farm_row.FarmRow.TheVariants as row
-use Rattle.farm_rows.specs.Recovery.{RowKey, comes_after, end_fits, host_fits, is_new, job_fits}
+use Rattle.farm_rows.specs.Recovery.{StoredKey, comes_after, end_fits, host_fits, is_new, job_fits}
 use Rattle.stored_rows.specs.Known.{HostsKnown, JobsKnown, KnowsHosts, KnowsSlots, KnowsTold, LayerKnown, has_left, known_with}
 use Rattle.stored_rows.specs.Told.{Told, told_with}
 use Rattle.stored_rows.proofs.Until.{rises_kept, rises_more, rises_none, until_kept, until_none}
@@ -71,12 +71,12 @@ finished_step r false ks js is = is ∙ ap (map finish_of) (sym (append-nil js))
 
 -- ---- slots
 
-pub slots_kept : (slots : List SlotRow) (layers : List LayerRow) (last : Option RowKey) (key : RowKey) → comes_after last key ≡ true → KnowsSlots slots layers last → KnowsSlots slots layers (Some key)
+pub slots_kept : (slots : List SlotRow) (layers : List LayerRow) (last : Option StoredKey) (key : StoredKey) → comes_after last key ≡ true → KnowsSlots slots layers last → KnowsSlots slots layers (Some key)
 slots_kept slots layers last key after k = record { few = k.few; until = until_kept last key 8 (length slots) after k.until; stand = k.stand }
 
 module _ (t : Told) (h : HostsKnown) (j : JobsKnown) (l : List LayerKnown) (k : KnowsTold t h j l) where
   -- after a row that leaves hosts, jobs, layers and slots as they are
-  pub told_kept : (key : RowKey) (f : Farm) → comes_after t.last key ≡ true → f.hosts ≡ t.farm.hosts → f.jobs ≡ t.farm.jobs → f.layers ≡ t.farm.layers → f.slots ≡ t.farm.slots → f.next_finish ≡ t.farm.next_finish
+  pub told_kept : (key : StoredKey) (f : Farm) → comes_after t.last key ≡ true → f.hosts ≡ t.farm.hosts → f.jobs ≡ t.farm.jobs → f.layers ≡ t.farm.layers → f.slots ≡ t.farm.slots → f.next_finish ≡ t.farm.next_finish
       → KnowsTold (record { last = Some key; farm = f }) h j l
   told_kept key f after hosts jobs layers slots next =
       record {
@@ -126,7 +126,7 @@ module _ (t : Told) (h : HostsKnown) (j : JobsKnown) (l : List LayerKnown) (k : 
       }
 
   -- no slots before a row of an earlier kind
-  pub slots_none : (key : RowKey) → key.0 < 8 → comes_after t.last key ≡ true → t.farm.slots ≡ []
+  pub slots_none : (key : StoredKey) → key.0 < 8 → comes_after t.last key ≡ true → t.farm.slots ≡ []
   slots_none key early after = none_long t.farm.slots (until_none t.last key 8 (length t.farm.slots) early after k.of_slots.until)
 
   -- after a job of a new name

@@ -11,7 +11,7 @@ use Rattle.farm_types.specs.Farm.{Farm, is_placed, slot_from}
 use Rattle.farm_types.specs.Finish.{finishes}
 use Rattle.farm_types.specs.Ranges.{range_numbers}
 use Rattle.farm_types.specs.Rising.{layer_key}
-use Rattle.farm_rows.specs.Recovery.{RowKey, first_job, first_layer, lacks_number, lacks_slots}
+use Rattle.farm_rows.specs.Recovery.{StoredKey, first_job, first_layer, lacks_number, lacks_slots}
 use Rattle.stored_rows.specs.Known.{LayerKnown, first_ending, found_from, has_left, lacks_any, layer_known}
 
 lacks_from : (f : Farm) (l : LayerRow) (position : ℕ) (ns : List ℤ) → list_any (λ slot. not (is_some slot)) (found_from f.slots l position ns) ≡ lacks_number f l position ns
@@ -37,7 +37,7 @@ lacking_layer f ks at known is =
     let place = is ∙ ap (position_or_len lacks_any) known ∙ place_mapped (lacks_slots f) lacks_any (layer_known f.slots) (λ l. lacks_from f l 0 (range_numbers l.range)) f.layers in
     ap (slice_get f.layers) place ∙ sym (find_at (lacks_slots f) f.layers)
 
-abbrev pub at_job : ℕ → RowKey
+abbrev pub at_job : ℕ → StoredKey
 at_job n = (6, n)
 
 ending_step : (b : Bool) (j : JobRow) (first : Option ℕ) (found : Option JobRow) → option_map at_job first ≡ option_map (λ (k : JobRow). at_job k.job) found
@@ -50,7 +50,7 @@ pub ending_known : (slots : List SlotRow) (js : List JobRow) → option_map at_j
 ending_known slots [] = refl
 ending_known slots (j ∷ js) = ending_step (is_pending j.state && not (has_left slots j)) j (first_ending js (map (has_left slots) js)) (find (finishes slots) js) (ending_known slots js)
 
-abbrev pub at_layer : ℕ → RowKey
+abbrev pub at_layer : ℕ → StoredKey
 at_layer n = (7, n)
 
 key_named : (test : LayerRow → Bool) (layers : List LayerRow) (o : Option LayerRow) → o ≡ find test layers → option_map at_layer (option_map layer_key o) ≡ first_layer test layers

@@ -19,7 +19,7 @@ use Rattle.farm_types.specs.Ranges.{range_numbers}
 use Rattle.farm_types.specs.Rising.{IsRising, job_key, layer_key}
 use Rattle.farm_types.specs.Sums.{cores_on, memory_on, total_at, used_cores, used_memory}
 use Rattle.farm_types.specs.declared.limits.TheConstants.{MOST_FRAMES, MOST_LAYERS, SLOT_LIMIT}
-use Rattle.farm_rows.specs.Recovery.{RowKey, comes_after, numbers_in}
+use Rattle.farm_rows.specs.Recovery.{StoredKey, comes_after, numbers_in}
 use Rattle.stored_rows.specs.Told.{Told}
 
 -- ---- what is known
@@ -87,9 +87,6 @@ place_or count (Some position) = position
 abbrev pub lacks_any : LayerKnown → Bool
 lacks_any k = list_any (λ slot. not (is_some slot)) k.slots
 
-abbrev pub has_few_slots : LayerKnown → Bool
-has_few_slots k = nat_le (length k.slots) MOST_FRAMES
-
 -- ---- with one more slot
 
 abbrev pub found_with : ℕ → ℕ → LayerKnown → LayerKnown
@@ -128,11 +125,11 @@ first_ending (j ∷ js) (left ∷ lefts) = if is_pending j.state && not left the
 -- ---- that it is so
 
 -- each row of the kind that may still come has that id or a later one
-abbrev pub IsUntil : Option RowKey → ℕ → ℕ → Type 0
+abbrev pub IsUntil : Option StoredKey → ℕ → ℕ → Type 0
 IsUntil last kind high = (id : ℕ) → comes_after last (kind, id) ≡ true → high ≤ id
 
 -- the keys rise, up to those that may still come
-pub record Rises {X : Type 0} (key : X → ℕ) (xs : List X) (last : Option RowKey) (kind : ℕ) : Type 0 where
+pub record Rises {X : Type 0} (key : X → ℕ) (xs : List X) (last : Option StoredKey) (kind : ℕ) : Type 0 where
   pub high : ℕ
   pub rise : IsRising key 0 xs high
   pub until : IsUntil last kind high
@@ -174,7 +171,7 @@ stands_in layers x =
 abbrev pub slot_stands : List LayerRow → SlotRow → Bool
 slot_stands layers s = for_any s.frame (stands_in layers)
 
-pub record KnowsSlots (slots : List SlotRow) (layers : List LayerRow) (last : Option RowKey) : Type 0 where
+pub record KnowsSlots (slots : List SlotRow) (layers : List LayerRow) (last : Option StoredKey) : Type 0 where
   pub few : length slots ≤ SLOT_LIMIT
   pub until : IsUntil last 8 (length slots)
   pub stand : list_all (slot_stands layers) slots ≡ true

@@ -6,10 +6,10 @@ use Rattle.farm_types.specs.Finish.{finishes}
 use Rattle.farm_rows.specs.declared.book_lists.BookLists.{BookLists}
 use Rattle.farm_rows.specs.declared.farm_row.FarmRow.{FarmRow}
 use Rattle.farm_rows.specs.Lists.{farm_in}
-use Rattle.farm_rows.specs.Recovery.{RowKey, comes_after, first_job, first_layer, head_ends, key_of, lacks_frames, lacks_slots, row_fits, with_stored}
+use Rattle.farm_rows.specs.Recovery.{StoredKey, comes_after, first_job, first_layer, head_ends, key_of, lacks_frames, lacks_slots, row_fits, with_stored}
 
 pub record Told : Type 0 where
-  pub last : Option RowKey
+  pub last : Option StoredKey
   pub farm : Farm
 
 -- the farm of plain lists and the next number of a depend
@@ -28,11 +28,11 @@ abbrev pub told_with : Told → FarmRow → Told
 told_with t r = record { last = Some (key_of r); farm = with_stored t.farm r }
 
 -- a row was taken, or it wasn't next and nothing changed
-abbrev pub Takes : Bool → Told → FarmRow → Told → Type 0
-Takes true old r new = (is_next old r ≡ true) × (new ≡ told_with old r)
-Takes false old r new = (is_next old r ≡ false) × (new ≡ old)
+abbrev pub Accepts : Bool → Told → FarmRow → Told → Type 0
+Accepts true old r new = (is_next old r ≡ true) × (new ≡ told_with old r)
+Accepts false old r new = (is_next old r ≡ false) × (new ≡ old)
 
 -- the row at fault after the last one, as far as the rows of depends don't matter
-abbrev pub early_fault : Farm → Option RowKey
+abbrev pub early_fault : Farm → Option StoredKey
 early_fault f =
     or_else (head_ends f) (or_else (first_job (lacks_frames f) f.jobs) (or_else (first_layer (lacks_slots f) f.layers) (first_job (finishes f.slots) f.jobs)))

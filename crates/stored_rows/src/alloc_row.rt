@@ -5,7 +5,7 @@ ghost use Rattle.std.specs.List.{list_any};
 ghost use Rattle.farm_types.specs.Kept.{alloc_label};
 ghost use Rattle.farm_rows.specs.declared.farm_row.FarmRow.TheVariants as kind;
 ghost use Rattle.farm_rows.specs.Recovery.{alloc_fits, comes_after, key_of};
-ghost use Rattle.stored_rows.specs.Told.{Takes, told_with};
+ghost use Rattle.stored_rows.specs.Told.{Accepts, told_with};
 
 use crate::forms::is_formed_alloc;
 use crate::stored_rows::StoredRows;
@@ -21,7 +21,7 @@ impl StoredRows {
         row: AllocRow,
     ) -> Result<bool, AllocError>
         requires after { comes_after self.old.last (key_of (kind.Alloc number row)) ≡ true }
-        ensures { IfOk result (λ taken. Takes taken self.old (kind.Alloc number row) self.new) }
+        ensures { IfOk result (λ taken. Accepts taken self.old (kind.Alloc number row) self.new) }
     {
         if !self.lists.recorded {
             return Ok(false);

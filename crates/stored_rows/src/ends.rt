@@ -12,7 +12,7 @@ ghost use Rattle.stored_rows.specs.Told.{early_fault};
 use crate::known_layer::KnownLayer;
 use crate::lookups::layer_key;
 use crate::stored_rows::StoredRows;
-use farm_types::{JobRow, JobState, LayerRow};
+use farm_types::{JobRow, LayerRow};
 
 impl StoredRows {
     /// The kind and the id of the first row at fault after the last one, but for the faults of depends: the farm's own row, a job whose layers aren't
@@ -131,7 +131,7 @@ fn is_ending(job: &JobRow, left: bool) -> bool
 fn is_pending(job: &JobRow) -> bool
     ensures { result ≡ is_pending_job job.now }
 {
-    job.state == JobState::Pending
+    job.state.is_pending()
 }
 
 // How many jobs are pending.

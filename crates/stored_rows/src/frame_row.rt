@@ -11,9 +11,9 @@ ghost use Rattle.farm_types.specs.Farm.{changed_at, for_some, is_placed, job_at,
 ghost use Rattle.farm_types.specs.Rising.{IsRising, job_key, layer_key};
 ghost use Rattle.farm_types.specs.Sums.{total_at, used_cores, used_memory};
 ghost use Rattle.farm_rows.specs.declared.farm_row.FarmRow.TheVariants as kind;
-ghost use Rattle.farm_rows.specs.Recovery.{attempt_at, attempt_fits, comes_after, frame_fits, frame_of, host_takes, key_of, numbers_at, position_of, room_on, slot_fits, slot_row, state_of, taken_fits, with_slot};
+ghost use Rattle.farm_rows.specs.Recovery.{attempt_at, attempt_fits, comes_after, frame_fits, frame_of, host_takes, key_of, numbers_at, position_of, room_on, slot_fits, slot_row, taken_fits, with_slot};
 ghost use Rattle.stored_rows.specs.Known.{HasRoom, found_with, is_free, is_placed_below, layer_known, place_or, with_attempt, with_found, with_left};
-ghost use Rattle.stored_rows.specs.Told.{Takes, told_with};
+ghost use Rattle.stored_rows.specs.Told.{Accepts, told_with};
 
 use crate::known_hosts::KnownHosts;
 use crate::known_jobs::KnownJobs;
@@ -23,15 +23,15 @@ use crate::stored_rows::StoredRows;
 use crate::subs::{has_sub, sub_between, sub_of};
 use farm_rows::{FrameRow, StoredFrame, StoredState};
 use farm_types::{
-    Frame, FrameState, HostNo, HostRow, HostState, JobNo, JobRow, LAST_VERSION, LayerRow,
-    MOST_RETRIES, ProcRow, SLOT_LIMIT, Slot, SlotRow, Version,
+    Frame, FrameState, HostNo, HostRow, JobNo, JobRow, LAST_VERSION, LayerRow, MOST_RETRIES,
+    ProcRow, SLOT_LIMIT, Slot, SlotRow, Version,
 };
 
 impl StoredRows {
     /// Takes the row of a frame.
     pub(crate) fn add_frame(&mut self, row: &FrameRow) -> bool
         requires after { comes_after self.old.last (key_of (kind.Frame row.now)) ≡ true }
-        ensures { Takes result self.old (kind.Frame row.now) self.new }
+        ensures { Accepts result self.old (kind.Frame row.now) self.new }
     {
         if !(self.lists.recorded && self.slot_fits(row)) {
             return false;
@@ -203,7 +203,7 @@ impl StoredRows {
             position: self.position_of(frame) as u32,
             number: frame.number,
             retries: frame.retries,
-            state: state_of(&frame.state),
+            state: frame.state.state(),
         }
     }
 
@@ -294,7 +294,7 @@ fn id_of(row: &FrameRow) -> u64
 fn is_up_in(boot: u32, on: &HostRow) -> bool
     ensures { result ≡ (is_up on.now.state && on.now.boot == boot) }
 {
-    on.state == HostState::Up && on.boot == boot
+    on.state.is_up() && on.boot == boot
 }
 
 // Whether what is used and so much more are within a bound.
@@ -302,21 +302,6 @@ fn fits_beside(used: u64, more: u64, most: u64) -> bool
     ensures { result ≡ nat_le (used + more) most }
 {
     used <= most && more <= most - used
-}
-
-// The frame's state.
-fn state_of(state: &StoredState) -> FrameState
-    ensures { result ≡ state_of state.now }
-{
-    match state {
-        StoredState::Waiting => FrameState::Waiting,
-        StoredState::Setup => FrameState::Setup,
-        StoredState::Running { .. } => FrameState::Running,
-        StoredState::Succeeded => FrameState::Succeeded,
-        StoredState::Depend => FrameState::Depend,
-        StoredState::Dead => FrameState::Dead,
-        StoredState::Eaten => FrameState::Eaten,
-    }
 }
 
 // The slots up to one more; those between were never used.
@@ -375,10 +360,7 @@ fn note_left(known: &mut KnownJobs, jobs: &[JobRow], row: &SlotRow)
 fn is_left(state: &FrameState) -> bool
     ensures { result ≡ not (is_done_state state.now) }
 {
-    match state {
-        FrameState::Succeeded | FrameState::Eaten => false,
-        _ => true,
-    }
+    !state.is_done()
 }
 
 // The attempt uses its amounts on its host.

@@ -5,7 +5,7 @@ ghost use Rattle.farm_types.specs.Forms.{is_between};
 ghost use Rattle.farm_types.specs.declared.limits.TheConstants.{LAST_DEPEND, LAST_JOB};
 ghost use Rattle.farm_rows.specs.declared.farm_row.FarmRow.TheVariants as kind;
 ghost use Rattle.farm_rows.specs.Recovery.{comes_after, head_fits, key_of};
-ghost use Rattle.stored_rows.specs.Told.{Takes, told_with};
+ghost use Rattle.stored_rows.specs.Told.{Accepts, told_with};
 
 use crate::forms::is_long;
 use crate::stored_rows::StoredRows;
@@ -16,7 +16,7 @@ impl StoredRows {
     /// Takes the farm's own row.
     pub(crate) fn add_head(&mut self, row: &HeadRow) -> bool
         requires after { comes_after self.old.last (key_of (kind.Head row.now)) ≡ true }
-        ensures { Takes result self.old (kind.Head row.now) self.new }
+        ensures { Accepts result self.old (kind.Head row.now) self.new }
     {
         if !self.head_fits(row) {
             return false;

@@ -9,7 +9,7 @@ ghost use Rattle.farm_types.specs.Forms.{is_between};
 ghost use Rattle.farm_types.specs.Kept.{has_its_counts, has_its_finish, job_label};
 ghost use Rattle.farm_rows.specs.declared.farm_row.FarmRow.TheVariants as kind;
 ghost use Rattle.farm_rows.specs.Recovery.{comes_after, end_fits, job_fits, key_of};
-ghost use Rattle.stored_rows.specs.Told.{Takes, told_with};
+ghost use Rattle.stored_rows.specs.Told.{Accepts, told_with};
 
 use crate::forms::is_formed_job;
 use crate::stored_rows::StoredRows;
@@ -20,7 +20,7 @@ impl StoredRows {
     /// Takes the row of a job.
     pub(crate) fn add_job(&mut self, alloc: Global, row: JobRow) -> Result<bool, AllocError>
         requires after { comes_after self.old.last (key_of (kind.Job row)) ≡ true }
-        ensures { IfOk result (λ taken. Takes taken self.old (kind.Job row) self.new) }
+        ensures { IfOk result (λ taken. Accepts taken self.old (kind.Job row) self.new) }
     {
         if !(self.lists.recorded && self.job_fits(&row)) {
             return Ok(false);

@@ -8,7 +8,7 @@ ghost use Rattle.farm_rows.specs.declared.farm_row.FarmRow.TheVariants as kind;
 ghost use Rattle.farm_rows.specs.Recovery.{comes_after, frames_fit, key_of, layer_fits};
 ghost use Rattle.stored_rows.specs.Known.{layer_known};
 ghost use Rattle.stored_rows.specs.Ranges.{IsRangeOf};
-ghost use Rattle.stored_rows.specs.Told.{Takes, told_with};
+ghost use Rattle.stored_rows.specs.Told.{Accepts, told_with};
 
 use crate::forms::{are_cores, are_memory, are_tags, is_command, is_short_command};
 use crate::known_layer::KnownLayer;
@@ -23,7 +23,7 @@ impl StoredRows {
     /// Takes the row of a layer.
     pub(crate) fn add_layer(&mut self, alloc: Global, row: LayerRow) -> Result<bool, AllocError>
         requires after { comes_after self.old.last (key_of (kind.Layer row)) ≡ true }
-        ensures { IfOk result (λ taken. Takes taken self.old (kind.Layer row) self.new) }
+        ensures { IfOk result (λ taken. Accepts taken self.old (kind.Layer row) self.new) }
     {
         let Some(set) = range_of(alloc, &row.range)? else {
             return Ok(false);

@@ -22,4 +22,4 @@ mod sub_row;
 mod subs;
 mod within;
 
-pub use stored_rows::{MOST_BASE, StoredRows};
+pub use stored_rows::StoredRows;

@@ -1,19 +1,17 @@
 //! What the rows of depends are judged by.
 
-ghost use Rattle.std.specs.Prelude.{◌≡◌, ◌≤◌, ◌<◌, true, bytes_eq, find, length, option_copied, option_map, IfOk};
-ghost use Rattle.std.specs.List.{list_all, position_or_len};
-ghost use Rattle.farm_types.specs.declared.limits.TheConstants.{MOST_FRAMES, MOST_LAYERS};
+ghost use Rattle.std.specs.Prelude.{◌≡◌, bytes_eq, find, length, map, option_copied, option_map, IfOk};
+ghost use Rattle.std.specs.List.{position_or_len};
 ghost use Rattle.farm_types.specs.Farm.{layers_of};
 ghost use Rattle.farm_types.specs.Kept.{for_any};
-ghost use Rattle.farm_rows.specs.Recovery.{end_is_there, is_part_in};
-ghost use Rattle.stored_rows.specs.Known.{has_few_slots, is_found, is_placed_below, layer_known};
-ghost use Rattle.stored_rows.specs.SoFar.{IsWithin, shape_from, shape_with, shapes_with, stand_from, stands_from};
-ghost use Rattle.stored_rows.specs.declared.stored_rows.TheConstants.{MOST_BASE};
+ghost use Rattle.farm_rows.specs.Recovery.{end_is_there, is_part_in, shape_so_far, slot_or};
+ghost use Rattle.stored_rows.specs.Known.{is_found, layer_known};
+ghost use Rattle.stored_rows.specs.SoFar.{shape_with, shapes_with};
 
 use crate::known_layer::KnownLayer;
 use crate::lookups::row_at;
 use crate::stored_rows::StoredRows;
-use farm_types::{DependEnd, Items, JobNo, LayerRow, LayerShape, MOST_FRAMES, Shape, Slot, Text};
+use farm_types::{DependEnd, Items, JobNo, LayerRow, LayerShape, Shape, Slot, Text};
 use std::alloc::{AllocError, Global};
 
 impl StoredRows {
@@ -46,15 +44,12 @@ impl StoredRows {
         row_at(self.known_of(job), place)
     }
 
-    /// The layers of a job with their numbers and slots. A frame that has no slot yet has a number of its own from the base on: 10,000 for each layer
-    /// before its own, and its position. At an `Err` memory ran out.
-    pub fn shape(&self, alloc: Global, job: JobNo, base: u32) -> Result<Shape, AllocError>
-        requires low { base ≤ MOST_BASE }
-        ensures shape { IfOk result (λ shape. shape ≡ shape_from base self.now.farm job) }
-        ensures within { IsWithin self.now.farm }
+    /// The layers of a job with their numbers and slots. A frame that has no slot yet stands at the slot of that number. At an `Err` memory ran out.
+    pub fn shape(&self, alloc: Global, job: JobNo, none: u32) -> Result<Shape, AllocError>
+        ensures { IfOk result (λ shape. shape ≡ shape_so_far none self.now.farm job) }
     {
         let _rows = &self.lists;
-        let layers = shapes_of(alloc, self.layers_of(job), self.known_of(job), base)?;
+        let layers = shapes_of(alloc, self.layers_of(job), self.known_of(job), none)?;
         Ok(Shape { layers })
     }
 }
@@ -96,17 +91,14 @@ fn shapes_of(
     alloc: Global,
     layers: &[LayerRow],
     known: &[KnownLayer],
-    base: u32,
+    none: u32,
 ) -> Result<Items<LayerShape>, AllocError>
-    requires low { base ≤ MOST_BASE }
-    requires known { length known.now ≡ length layers.now }
-    requires places { list_all is_placed_below layers.now ≡ true }
-    requires few { list_all has_few_slots known.now ≡ true }
-    ensures { IfOk result (λ shapes. shapes ≡ shapes_with base layers.now known.now) }
+    requires { length known.now ≡ length layers.now }
+    ensures { IfOk result (λ shapes. shapes ≡ shapes_with none layers.now known.now) }
 {
     let mut shapes = Items::new(alloc);
     for (place, layer) in layers.iter().enumerate() {
-        shapes.push(shape_of(alloc, layer, &known[place], base)?)?;
+        shapes.push(shape_of(alloc, layer, &known[place], none)?)?;
     }
     Ok(shapes)
 }
@@ -116,16 +108,13 @@ fn shape_of(
     alloc: Global,
     layer: &LayerRow,
     known: &KnownLayer,
-    base: u32,
+    none: u32,
 ) -> Result<LayerShape, AllocError>
-    requires low { base ≤ MOST_BASE }
-    requires place { is_placed_below layer.now ≡ true }
-    requires few { has_few_slots known.now ≡ true }
-    ensures { IfOk result (λ shape. shape ≡ shape_with base layer.now known.now) }
+    ensures { IfOk result (λ shape. shape ≡ shape_with none layer.now known.now) }
 {
     let name = layer.name.copy(alloc)?;
     let numbers = Items::from_vec(Vec::from_slice(alloc, known.numbers())?);
-    let slots = stands(alloc, base, layer.place, known.slots())?;
+    let slots = slots_or(alloc, known.slots(), none)?;
     Ok(LayerShape {
         name,
         numbers,
@@ -133,34 +122,23 @@ fn shape_of(
     })
 }
 
-// The slots of a layer's numbers, and a number of its own for each that has none.
-fn stands(
-    alloc: Global,
-    base: u32,
-    layer: u32,
-    slots: &[Option<Slot>],
-) -> Result<Items<Slot>, AllocError>
-    requires low { base ≤ MOST_BASE }
-    requires layer { layer < MOST_LAYERS }
-    requires few { length slots.now ≤ MOST_FRAMES }
-    ensures { IfOk result (λ stands. stands ≡ stands_from base layer 0 slots.now) }
+// The slots of a layer's numbers, and that number for each that has none.
+fn slots_or(alloc: Global, slots: &[Option<Slot>], none: u32) -> Result<Items<Slot>, AllocError>
+    ensures { IfOk result (λ all. all ≡ map (slot_or none) slots.now) }
 {
-    let mut stands = Items::new(alloc);
-    for (position, slot) in slots.iter().enumerate() {
-        stands.push(stand(base, layer, position as u32, slot))?;
+    let mut all = Items::new(alloc);
+    for slot in slots {
+        all.push(slot_or(slot, none))?;
     }
-    Ok(stands)
+    Ok(all)
 }
 
-// The slot of the number at a position, or a number of its own.
-fn stand(base: u32, layer: u32, position: u32, slot: &Option<Slot>) -> Slot
-    requires low { base ≤ MOST_BASE }
-    requires layer { layer < MOST_LAYERS }
-    requires position { position < MOST_FRAMES }
-    ensures { result ≡ stand_from base layer position slot.now }
+// The slot, or that number where there is none.
+fn slot_or(slot: &Option<Slot>, none: u32) -> Slot
+    ensures { result ≡ slot_or none slot.now }
 {
     match slot {
-        None => Slot(base + (layer * MOST_FRAMES + position)),
+        None => Slot(none),
         Some(slot) => *slot,
     }
 }

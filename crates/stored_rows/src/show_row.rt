@@ -5,7 +5,7 @@ ghost use Rattle.std.specs.List.{list_any};
 ghost use Rattle.farm_types.specs.Kept.{show_label};
 ghost use Rattle.farm_rows.specs.declared.farm_row.FarmRow.TheVariants as kind;
 ghost use Rattle.farm_rows.specs.Recovery.{comes_after, key_of, row_fits, show_fits};
-ghost use Rattle.stored_rows.specs.Told.{Takes, told_with};
+ghost use Rattle.stored_rows.specs.Told.{Accepts, told_with};
 
 use crate::forms::is_formed_show;
 use crate::stored_rows::StoredRows;
@@ -16,7 +16,7 @@ impl StoredRows {
     /// Takes the row of a show.
     pub(crate) fn add_show(&mut self, show: ShowNo, row: ShowRow) -> Result<bool, AllocError>
         requires after { comes_after self.old.last (key_of (kind.Show show row)) ≡ true }
-        ensures { IfOk result (λ taken. Takes taken self.old (kind.Show show row) self.new) }
+        ensures { IfOk result (λ taken. Accepts taken self.old (kind.Show show row) self.new) }
     {
         if !(self.lists.recorded && self.show_fits(show, &row)) {
             return Ok(false);

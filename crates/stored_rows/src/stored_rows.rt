@@ -7,7 +7,7 @@ ghost use Rattle.farm_types.specs.declared.limits.TheConstants.{SLOT_LIMIT};
 ghost use Rattle.farm_rows.specs.Lists.{farm_in};
 ghost use Rattle.farm_rows.specs.Recovery.{comes_after, key_of};
 ghost use Rattle.farm_rows.specs.Rows.{row_kind};
-ghost use Rattle.stored_rows.specs.Told.{Takes, farm_of, none_told};
+ghost use Rattle.stored_rows.specs.Told.{Accepts, farm_of, none_told};
 
 use crate::known_hosts::KnownHosts;
 use crate::known_jobs::KnownJobs;
@@ -16,9 +16,6 @@ use farm_rows::{BookLists, FarmRow};
 use farm_types::SLOT_LIMIT;
 use std::alloc::{AllocError, Global};
 use std::marker::Model;
-
-/// The greatest base for the numbers of frames without slots.
-pub const MOST_BASE: u32 = 2_147_483_648;
 
 /// The farm that the rows so far say, and the key of the last one. Clauses see the farm as plain lists, without depends.
 #[derive(Drop)]
@@ -62,7 +59,7 @@ impl StoredRows {
     /// of the farm any more.
     pub fn add(&mut self, alloc: Global, row: FarmRow) -> Result<bool, AllocError>
         requires early { row_kind row ≤ 8 }
-        ensures { IfOk result (λ taken. Takes taken self.old row self.new) }
+        ensures { IfOk result (λ taken. Accepts taken self.old row self.new) }
     {
         if !self.comes_after(row.kind(), row.id()) {
             return Ok(false);
@@ -74,7 +71,7 @@ impl StoredRows {
     fn take(&mut self, alloc: Global, row: FarmRow) -> Result<bool, AllocError>
         requires early { row_kind row ≤ 8 }
         requires after { comes_after self.old.last (key_of row) ≡ true }
-        ensures { IfOk result (λ taken. Takes taken self.old row self.new) }
+        ensures { IfOk result (λ taken. Accepts taken self.old row self.new) }
     {
         match row {
             FarmRow::Head(head) => Ok(self.add_head(&head)),

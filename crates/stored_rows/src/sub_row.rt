@@ -4,7 +4,7 @@ ghost use Rattle.std.specs.Prelude.{◌≡◌, true, IfOk, OnOk, length};
 ghost use Rattle.farm_types.specs.Kept.{is_kept_sub};
 ghost use Rattle.farm_rows.specs.declared.farm_row.FarmRow.TheVariants as kind;
 ghost use Rattle.farm_rows.specs.Recovery.{comes_after, key_of};
-ghost use Rattle.stored_rows.specs.Told.{Takes, told_with};
+ghost use Rattle.stored_rows.specs.Told.{Accepts, told_with};
 
 use crate::stored_rows::StoredRows;
 use farm_types::{MOST_ALLOCS, MOST_BURST, SubRow};
@@ -14,7 +14,7 @@ impl StoredRows {
     /// Takes the row of a subscription.
     pub(crate) fn add_sub(&mut self, row: &SubRow) -> Result<bool, AllocError>
         requires after { comes_after self.old.last (key_of (kind.Sub row.now)) ≡ true }
-        ensures { IfOk result (λ taken. Takes taken self.old (kind.Sub row.now) self.new) }
+        ensures { IfOk result (λ taken. Accepts taken self.old (kind.Sub row.now) self.new) }
     {
         if !(self.lists.recorded && is_sub(self.lists.shows.len(), self.lists.allocs.len(), row)) {
             return Ok(false);

@@ -1,15 +1,14 @@
 //! What always holds of the farm so far.
 
 ghost use Rattle.std.specs.Prelude.{◌≡◌};
-ghost use Rattle.stored_rows.specs.SoFar.{IsWithin};
+ghost use Rattle.stored_rows.specs.SoFar.{HasFewNumbers};
 
 use crate::stored_rows::StoredRows;
 
 impl StoredRows {
-    /// What keeps the numbers of frames without slots apart from each other, and from slots: there are no more slots, and of each layer no more numbers and no later
-    /// place, than a farm may have. It does nothing.
+    /// No layer has more numbers than a job may have frames. It does nothing.
     pub fn kept(&self)
-        ensures { IsWithin self.now.farm }
+        ensures { HasFewNumbers self.now.farm }
     {
         let _lists = &self.lists;
     }

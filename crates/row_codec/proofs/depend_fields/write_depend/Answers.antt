@@ -3,7 +3,7 @@ use Rattle.std.proofs.Common.{ap, ◌∙◌}
 use Rattle.std.specs.Prelude.{codes, option_map}
 use Rattle.std.proofs.lemmas.Result.{on_ok_weaker}
 use Rattle.serde_json.specs.Data.{Members, boolean, member, no_members, string}
-use Rattle.farm_words.specs.Words.{kind_word}
+use Rattle.state_names.specs.Words.{kind_word}
 use Rattle.row_codec.specs.RowFields.{depend_fields, field_if, signed, whole}
 use Rattle.object_writer.specs.Tokens.{added, fields_tokens}
 use Rattle.object_writer.proofs.Members.{before_rest, text_before_rest}

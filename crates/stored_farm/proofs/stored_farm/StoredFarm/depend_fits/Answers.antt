@@ -21,5 +21,5 @@ returns c =
     c.in_ok-fits.ensures
     ∙ (ap (λ (n : ℕ). passes f n a.left d c.args.groups.now) (ap (λ (xs : List DependRow). length xs) c.as_slice-depends.ensures.value)
     ∙ (ap (λ (gs : List Group). passes f (length ds) a.left d gs) own
-    ∙ (depend_judged f c.kept.ensures ds ms a.left (left_said a.rows a.last ds a.groups.items ms a.left c.self.invariant c.kept.ensures) d
+    ∙ (depend_judged f c.kept.ensures ds ms a.left (left_said a.rows a.last ds a.groups.items ms a.left c.self.invariant) d
     ∙ ap (λ (t : Told). row_fits t.farm (row.Depend d)) c.self.view_is)))

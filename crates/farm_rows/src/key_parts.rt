@@ -1,0 +1,35 @@
+//! A key as numbers: its kind, and the numbers that it has.
+
+ghost use Rattle.std.specs.Prelude.{◌≡◌, not, IfOk, OnOk};
+ghost use Rattle.farm_rows.specs.Keys.{has_parts, key_parts, with_parts};
+
+use crate::row_key::RowKey;
+use indexmap::IndexSet;
+use std::alloc::AllocError;
+
+/// Notes the key, and says whether it is a new one.
+pub(crate) fn note(seen: &mut IndexSet<(u8, u32, u32)>, key: &RowKey) -> Result<bool, AllocError>
+    ensures new { IfOk result (λ new. new ≡ not (has_parts seen.old.keys (key_parts key.now))) }
+    ensures keys { OnOk result (seen.new.keys ≡ with_parts seen.old.keys (key_parts key.now)) }
+{
+    let new = seen.insert(key_parts(key))?;
+    Ok(new)
+}
+
+// The number of the key's kind, and those that it has.
+fn key_parts(key: &RowKey) -> (u8, u32, u32)
+    ensures { result ≡ key_parts key.now }
+{
+    match key {
+        RowKey::Head => (0, 0, 0),
+        RowKey::Show { show } => (1, u32::from(show.0), 0),
+        RowKey::Alloc { alloc } => (2, u32::from(alloc.0), 0),
+        RowKey::Sub { sub } => (3, u32::from(sub.0), 0),
+        RowKey::Host { host } => (4, u32::from(host.0), 0),
+        RowKey::Job { job } => (5, job.0, 0),
+        RowKey::Layer { job, place } => (6, job.0, *place),
+        RowKey::Frame { slot } => (7, slot.0, 0),
+        RowKey::Depend { depend } => (8, depend.0, 0),
+        RowKey::Met { depend, position } => (9, depend.0, *position),
+    }
+}
