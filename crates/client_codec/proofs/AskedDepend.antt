@@ -7,7 +7,7 @@ use Rattle.serde_json.specs.Find.{as_str, get_member}
 use Rattle.cue_json.specs.Fields.{first_other, flag_at, no_other, of_member}
 use Rattle.farm_types.specs.declared.depend.DependSpec.{DependSpec}
 use Rattle.farm_types.specs.Formed.{IsFormedDepend}
-use Rattle.farm_words.specs.Words.{kind_of, kind_word}
+use Rattle.state_names.specs.Words.{kind_of, kind_word}
 use Rattle.farm_lines.specs.declared.request.Request.TheVariants as request
 use Rattle.farm_lines.specs.DependLines.{depend_at, depend_keys}
 use Rattle.farm_lines.specs.Request.{after_op, asked}
@@ -19,7 +19,7 @@ use Rattle.client_codec.proofs.AskedOptions.{adds_fit, expected, optional_signed
 use Rattle.object_writer.proofs.DataBack.{Fits}
 use Rattle.client_codec.proofs.FieldsBack.{fields_in, flag_back, name_back, word_back}
 use Rattle.client_codec.proofs.TextsFit.{name_fits}
-use Rattle.farm_words.proofs.WordsBack.{kind_back, kind_utf8}
+use Rattle.state_names.proofs.WordsBack.{kind_back, kind_utf8}
 
 module _ (d : DependSpec) (h : IsFormedDepend d) where
   parts_read : (ms : Members) → get_member (codes "any") ms ≡ Some (boolean d.any) → get_member (codes "frame") ms ≡ option_map signed d.waiter.frame → get_member (codes "job") ms ≡ Some (string d.waiter.job)

@@ -9,12 +9,13 @@ use Rattle.serde_json.specs.Read.{max_depth}
 use Rattle.serde_json.specs.View.{items_of}
 use Rattle.serde_json.specs.Written.{compact_text}
 use Rattle.cue_json.specs.Fields.{Fault, ◌>>=◌, as_signed, has_key, of_kind, of_member, signed_at}
+use Rattle.cue_json.specs.Items.{item_at, items_at, list_of}
 use Rattle.farm_types.specs.Forms.{is_frame_number, is_tag_text}
 use Rattle.farm_types.specs.Limits.{IsBetween}
 use Rattle.farm_types.proofs.Lists.{and_both}
 use Rattle.farm_lines.specs.declared.limits.TheConstants.{LEAST_FRAME, MOST_FRAME}
 use Rattle.farm_lines.specs.declared.request.Request.{Request}
-use Rattle.farm_lines.specs.Fields.{item_at, items_at, list_of, or_default}
+use Rattle.farm_lines.specs.Fields.{or_default}
 use Rattle.farm_lines.specs.Request.{request_at, request_of}
 use Rattle.farm_lines.specs.RequestText.{texts_data}
 use Rattle.farm_lines.specs.Spec.{number_at, tags_at, tags_in, within}

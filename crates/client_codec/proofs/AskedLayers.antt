@@ -8,6 +8,7 @@ use Rattle.std.proofs.lemmas.Str.{IsUtf8-from_is_utf8}
 use Rattle.serde_json.specs.Data.{string, Members}
 use Rattle.serde_json.specs.Find.{get_member}
 use Rattle.cue_json.specs.Fields.{◌>>=◌, others_at, text_at}
+use Rattle.cue_json.specs.Items.{item_at}
 use Rattle.farm_types.specs.declared.job.LayerSpec.{LayerSpec}
 use Rattle.farm_types.specs.declared.limits.TheConstants.{LEAST_CORES, LEAST_MEMORY, MOST_COMMAND, MOST_CORES, MOST_MEMORY, MOST_RANGE, MOST_TAGS}
 use Rattle.farm_types.specs.Formed.{IsFormedLayer}
@@ -16,7 +17,6 @@ use Rattle.farm_types.specs.Ranges.{is_range_text, prints_as, range_numbers, sec
 use Rattle.farm_types.proofs.Lists.{and_both}
 use Rattle.frame_range.specs.Sets.{numbers_of, set_of}
 use Rattle.farm_lines.specs.declared.job_form.LayerForm.{LayerForm}
-use Rattle.farm_lines.specs.Fields.{item_at}
 use Rattle.farm_lines.specs.Points.{cores_of}
 use Rattle.farm_lines.specs.RequestText.{cores_text, layer_data, texts_data}
 use Rattle.farm_lines.specs.Spec.{layer_cores, layer_form_at, layer_keys, layer_of, layer_with, layers_of, number_at, tags_at}

@@ -12,7 +12,7 @@ use Rattle.farm_types.specs.declared.states.LockState.{LockState}
 use Rattle.farm_types.specs.Forms.{is_between, is_name_text, is_tag_byte, is_tag_text}
 use Rattle.farm_types.specs.Limits.{IsBetween}
 use Rattle.farm_types.proofs.Lists.{and_both}
-use Rattle.farm_words.specs.Words.{lock_of, lock_word}
+use Rattle.state_names.specs.Words.{lock_of, lock_word}
 use Rattle.farm_lines.specs.declared.request.Request.TheVariants as request
 use Rattle.farm_lines.specs.OperatorLines.{asks_pause, job_at, job_keys, kill_at, names_frame}
 use Rattle.farm_lines.specs.Request.{alloc_at, alloc_of_name, asked, asks_alloc, asks_kill, asks_lock, drop_at, drop_keys, lock_keys, lock_line_at, name_keys, show_at}
@@ -23,7 +23,7 @@ use Rattle.client_codec.proofs.AskedPoints.{points}
 use Rattle.object_writer.proofs.DataBack.{Fits}
 use Rattle.client_codec.proofs.FieldsBack.{name_back, whole_back, word_back}
 use Rattle.client_codec.proofs.TextsFit.{name_fits, tag_fits}
-use Rattle.farm_words.proofs.WordsBack.{lock_back, lock_utf8}
+use Rattle.state_names.proofs.WordsBack.{lock_back, lock_utf8}
 
 -- ---- shows
 

@@ -4,11 +4,12 @@ use Rattle.std.specs.Prelude.{codes, false, option_map}
 use Rattle.serde_json.specs.Data.{boolean, string, Members}
 use Rattle.serde_json.specs.Find.{get_member}
 use Rattle.cue_json.specs.Fields.{first_other, flag_at, no_other}
+use Rattle.cue_json.specs.Items.{item_at}
 use Rattle.farm_types.specs.declared.depend.DependSpec.{DependSpec}
 use Rattle.farm_types.specs.Formed.{IsFormedDepend, IsFormedOwn}
-use Rattle.farm_words.specs.Words.{kind_of, kind_word}
+use Rattle.state_names.specs.Words.{kind_of, kind_word}
 use Rattle.farm_lines.specs.DependLines.{own_depend_at, own_keys}
-use Rattle.farm_lines.specs.Fields.{item_at, name_at}
+use Rattle.farm_lines.specs.Fields.{name_at}
 use Rattle.farm_lines.specs.RequestText.{own_depend_data}
 use Rattle.farm_lines.specs.Words.{signed}
 use Rattle.client_codec.proofs.AskedEnds.{frame_expected, frame_fits, layer_expected, layer_fits, on_frame_expected, on_layer_expected, target_read, waiter_read}
@@ -17,7 +18,7 @@ use Rattle.client_codec.proofs.AskedOptions.{adds_fit, expected, optional_signed
 use Rattle.object_writer.proofs.DataBack.{Fits}
 use Rattle.client_codec.proofs.FieldsBack.{fields_in, flag_back, name_back, word_back}
 use Rattle.client_codec.proofs.TextsFit.{name_fits}
-use Rattle.farm_words.proofs.WordsBack.{kind_back, kind_utf8}
+use Rattle.state_names.proofs.WordsBack.{kind_back, kind_utf8}
 
 module _ (d : DependSpec) (h : IsFormedDepend d) where
   parts_read : (ms : Members) → get_member (codes "any") ms ≡ Some (boolean d.any) → get_member (codes "frame") ms ≡ option_map signed d.waiter.frame

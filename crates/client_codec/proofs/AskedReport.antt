@@ -7,6 +7,7 @@ use Rattle.serde_json.specs.Data.{array, string, Members}
 use Rattle.serde_json.specs.Find.{get_member}
 use Rattle.serde_json.specs.View.{items_of}
 use Rattle.cue_json.specs.Fields.{others_at, whole_at}
+use Rattle.cue_json.specs.Items.{item_at}
 use Rattle.farm_types.specs.declared.attempt.Attempt.{Attempt}
 use Rattle.farm_types.specs.declared.attempt.DoneItem.{DoneItem}
 use Rattle.farm_types.specs.declared.attempt.Exit.{Exit}
@@ -15,7 +16,7 @@ use Rattle.farm_types.specs.Formed.{IsFormedDone, IsFormedHeard}
 use Rattle.farm_lines.specs.declared.report.Report.{Report}
 use Rattle.farm_lines.specs.declared.request.Request.TheVariants as request
 use Rattle.farm_lines.specs.Asked.{heard_of}
-use Rattle.farm_lines.specs.Fields.{item_at, optional_whole_at}
+use Rattle.farm_lines.specs.Fields.{optional_whole_at}
 use Rattle.farm_lines.specs.FormedLines.{IsFormedAttempt}
 use Rattle.farm_lines.specs.Reply.{attempt_data, attempts_data}
 use Rattle.farm_lines.specs.Request.{asked, attempt_at, done_at, done_keys, report_at, report_keys}

@@ -1,9 +1,9 @@
 -- Attempts fit, and are read back.
 use Rattle.std.proofs.Common.{◌≡◌, ℕ, List, Ok, refl, arith}
 use Rattle.std.specs.Prelude.{codes}
+use Rattle.cue_json.specs.Items.{item_at}
 use Rattle.farm_types.specs.declared.attempt.Attempt.{Attempt}
 use Rattle.farm_types.specs.declared.limits.TheConstants.{LAST_SLOT, LAST_VERSION}
-use Rattle.farm_lines.specs.Fields.{item_at}
 use Rattle.farm_lines.specs.FormedLines.{IsFormedAttempt}
 use Rattle.farm_lines.specs.Reply.{attempt_data}
 use Rattle.farm_lines.specs.Request.{attempt_at}

@@ -5,7 +5,7 @@ use Rattle.serde_json.specs.Find.{as_bool, as_str, get_member}
 use Rattle.cue_json.specs.Fields.{◌>>=◌, as_whole, flag_at, of_kind, of_member, text_at, whole_at}
 use Rattle.farm_types.specs.Forms.{is_between, is_name_text}
 use Rattle.farm_types.specs.Limits.{IsBetween}
-use Rattle.farm_words.specs.Words.{word_at}
+use Rattle.state_names.specs.Words.{word_at}
 use Rattle.farm_lines.specs.Fields.{name_at}
 use Rattle.farm_lines.specs.Spec.{of_form, text_of}
 use Rattle.farm_lines.specs.Words.{whole}

@@ -6,7 +6,7 @@ use Rattle.std.proofs.lemmas.List.Elements.{All-head, All-tail}
 use Rattle.serde_json.specs.Data.{Data, Members}
 use Rattle.serde_json.specs.View.{items_of}
 use Rattle.cue_json.specs.Fields.{Fault}
-use Rattle.farm_lines.specs.Fields.{item_at, items_at}
+use Rattle.cue_json.specs.Items.{item_at, items_at}
 use Rattle.object_writer.proofs.DataBack.{Fits, ItemsFit}
 
 module _ {X : Type 0} (spelled : X → Data) (P : X → Type 0) where

@@ -20,7 +20,6 @@ mod ItemsBack
 mod LineRefusedBack
 mod ListBack
 mod OkBack
-mod Prepended
 mod ReadBack
 mod RefusedBack
 mod RepliesBack

@@ -4,12 +4,12 @@ use Rattle.std.specs.Prelude.{codes}
 use Rattle.std.specs.List.{All}
 use Rattle.std.proofs.lemmas.List.Elements.{All-head}
 use Rattle.serde_json.specs.View.{items_of}
+use Rattle.cue_json.specs.Items.{item_at, items_at}
 use Rattle.farm_lines.specs.declared.limits.TheConstants.{ROWS_EACH}
 use Rattle.farm_lines.specs.declared.list_row.ListRow.{ListRow}
 use Rattle.farm_lines.specs.declared.list_row.RowKind.{RowKind}
 use Rattle.farm_lines.specs.declared.reply.ListReply.{ListReply}
 use Rattle.farm_lines.specs.declared.reply.Reply.TheVariants as reply
-use Rattle.farm_lines.specs.Fields.{item_at, items_at}
 use Rattle.farm_lines.specs.FormedLines.{IsFormedList, IsFormedRow}
 use Rattle.farm_lines.specs.ListReplies.{list_data, list_row_data}
 use Rattle.farm_lines.specs.Reply.{reply_text}

@@ -2,6 +2,7 @@
 use Rattle.std.proofs.Common.{◌≡◌, ℕ, List, Some, refl, arith}
 use Rattle.std.specs.Prelude.{codes}
 use Rattle.farm_types.specs.declared.limits.TheConstants.{LAST_BOOT, LAST_DEPEND, MOST_BURST, MOST_FRAMES, MOST_HOSTS, SLOT_LIMIT}
+use Rattle.farm_lines.specs.declared.limits.TheConstants.{MOST_BOOKED}
 use Rattle.farm_lines.specs.declared.reply.Reply.TheVariants as reply
 use Rattle.farm_lines.specs.FormedLines.{IsFormedReply}
 use Rattle.farm_lines.specs.Reply.{boot_data, depend_data, done_data, dropped_data, ended_data, reply_text, sub_data, submit_data, tick_data}
@@ -20,7 +21,7 @@ sub_back booked burst size h =
     let ms = fields_in (sub_data booked burst size) in
     back ms (reply.Sub booked burst size) (refl, omega (arith, h.0), (refl, omega (arith, h.1), (refl, tt, (refl, omega (arith, h.2), tt)))) (
     rw (
-      whole_back (codes "booked") ms 0 MOST_BURST booked refl (omega arith, h.0),
+      whole_back (codes "booked") ms 0 MOST_BOOKED booked refl (omega arith, h.0),
       whole_back (codes "burst") ms 0 MOST_BURST burst refl (omega arith, h.1),
       whole_back (codes "size") ms 0 MOST_BURST size refl (omega arith, h.2),
     ) refl

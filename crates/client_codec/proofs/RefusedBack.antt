@@ -16,7 +16,7 @@ use Rattle.farm_lines.specs.ReplyLines.{full_at, full_reply, limit_of, reply_at,
 use Rattle.client_codec.proofs.FieldsBack.{fields_in, name_back, whole_back}
 use Rattle.client_codec.proofs.ReadBack.{back}
 use Rattle.client_codec.proofs.TextsFit.{name_fits, text_fits}
-use Rattle.farm_words.proofs.WordsBack.{counted_utf8, state_utf8}
+use Rattle.state_names.proofs.WordsBack.{counted_utf8, state_utf8}
 
 unknown_back : (name : List ℕ) → IsFormedRefusal (Unknown name) → reply_of (reply_text (reply.Refused (Unknown name))) ≡ Some (reply.Refused (Unknown name))
 unfolding refusal_data

@@ -1,13 +1,13 @@
 -- The reply to a report is read back from its text.
 use Rattle.std.proofs.Common.{◌≡◌, ℕ, List, length, Some, Ok, refl, arith, le-leb}
 use Rattle.std.specs.Prelude.{codes}
+use Rattle.cue_json.specs.Items.{item_at}
 use Rattle.farm_types.specs.declared.limits.TheConstants.{LAST_BOOT, LAST_SLOT, LAST_VERSION, LEAST_CORES, LEAST_MEMORY, MOST_CORES, MOST_MEMORY}
-use Rattle.farm_words.specs.Words.{cut_of, cut_word}
+use Rattle.state_names.specs.Words.{cut_of, cut_word}
 use Rattle.farm_lines.specs.declared.launch.Launch.{Launch}
 use Rattle.farm_lines.specs.declared.limits.TheConstants.{LAUNCHES_EACH}
 use Rattle.farm_lines.specs.declared.reply.Reply.TheVariants as reply
 use Rattle.farm_lines.specs.declared.reply.ReportReply.{ReportReply}
-use Rattle.farm_lines.specs.Fields.{item_at}
 use Rattle.farm_lines.specs.FormedLines.{IsFormedAttempt, IsFormedLaunch, IsFormedReportReply}
 use Rattle.farm_lines.specs.Reply.{attempt_data, launch_data, reply_text, report_data}
 use Rattle.farm_lines.specs.ReplyLines.{launch_at, reply_of, report_reply_at}
@@ -18,7 +18,7 @@ use Rattle.client_codec.proofs.FieldsBack.{fields_in, name_back, whole_back, wor
 use Rattle.client_codec.proofs.ItemsBack.{items_back, items_fit}
 use Rattle.client_codec.proofs.ReadBack.{back}
 use Rattle.client_codec.proofs.TextsFit.{name_fits, text_fits}
-use Rattle.farm_words.proofs.WordsBack.{cut_back, cut_utf8}
+use Rattle.state_names.proofs.WordsBack.{cut_back, cut_utf8}
 
 -- ---- launches
 

@@ -2,8 +2,10 @@
 use Rattle.std.proofs.Common.{◌≡◌, ℕ, List, Ok, refl, arith}
 use Rattle.std.specs.Prelude.{codes}
 use Rattle.serde_json.specs.Find.{as_object}
+use Rattle.cue_json.specs.Items.{item_at}
 use Rattle.farm_types.specs.declared.limits.TheConstants.{LAST_BOOT, LAST_DEPEND, LAST_SLOT, LAST_VERSION, LEAST_CORES, LEAST_MEMORY, MOST_BURST, MOST_CORES, MOST_FRAMES, MOST_MEMORY, MOST_PRIORITY, MOST_RETRIES}
-use Rattle.farm_words.specs.Words.{host_state_of, host_word, job_state_of, job_word, kind_of, kind_word, lock_of, lock_word, state_of, state_word}
+use Rattle.state_names.specs.Words.{host_state_of, host_word, job_state_of, job_word, kind_of, kind_word, lock_of, lock_word, state_of, state_word}
+use Rattle.farm_lines.specs.declared.limits.TheConstants.{MOST_BOOKED}
 use Rattle.farm_lines.specs.declared.list_row.ListRow.{ListRow}
 use Rattle.farm_lines.specs.declared.list_row.ListRow.TheVariants as row
 use Rattle.farm_lines.specs.declared.list_row.ShownDepend.{ShownDepend}
@@ -13,7 +15,6 @@ use Rattle.farm_lines.specs.declared.list_row.ShownJob.{ShownJob}
 use Rattle.farm_lines.specs.declared.list_row.ShownLayer.{ShownLayer}
 use Rattle.farm_lines.specs.declared.list_row.ShownProc.{ShownProc}
 use Rattle.farm_lines.specs.declared.list_row.ShownSub.{ShownSub}
-use Rattle.farm_lines.specs.Fields.{item_at}
 use Rattle.farm_lines.specs.FormedLines.{IsFormedHostRow, IsFormedJobRow, IsFormedLayerRow, IsFormedProcRow, IsFormedRow, IsFormedSubRow, IsName}
 use Rattle.farm_lines.specs.ListReplies.{depend_row_data, frame_row_data, host_row_data, job_row_data, layer_row_data, list_row_data, name_data, proc_row_data, sub_row_data}
 use Rattle.farm_lines.specs.ReplyRows.{depend_row, frame_row, host_row, job_row, kind_of_row_at, layer_row, name_row, proc_row, row_at, sub_row}
@@ -21,7 +22,7 @@ use Rattle.farm_lines.specs.RowKinds.{kind_of_row}
 use Rattle.object_writer.proofs.DataBack.{Fits}
 use Rattle.client_codec.proofs.FieldsBack.{fields_in, name_back, whole_back, word_back}
 use Rattle.client_codec.proofs.TextsFit.{name_fits, text_fits}
-use Rattle.farm_words.proofs.WordsBack.{host_back, host_utf8, job_back, job_utf8, kind_back, kind_utf8, lock_back, lock_utf8, state_back, state_utf8}
+use Rattle.state_names.proofs.WordsBack.{host_back, host_utf8, job_back, job_utf8, kind_back, kind_utf8, lock_back, lock_utf8, state_back, state_utf8}
 
 -- ---- name
 
@@ -43,7 +44,7 @@ sub_read : (s : ShownSub) → IsFormedSubRow s → sub_row (fields_in (sub_row_d
 unfolding sub_row_data sub_row
 sub_read s h =
     let ms = fields_in (sub_row_data s) in
-    rw (name_back (codes "alloc") ms s.alloc refl h.alloc_name, whole_back (codes "booked") ms 0 MOST_BURST s.booked refl (omega arith, h.booked_within), whole_back (codes "burst") ms 0 MOST_BURST s.burst refl (omega arith, h.burst_within), name_back (codes "show") ms s.show refl h.show_name, whole_back (codes "size") ms 0 MOST_BURST s.size refl (omega arith, h.size_within)) refl
+    rw (name_back (codes "alloc") ms s.alloc refl h.alloc_name, whole_back (codes "booked") ms 0 MOST_BOOKED s.booked refl (omega arith, h.booked_within), whole_back (codes "burst") ms 0 MOST_BURST s.burst refl (omega arith, h.burst_within), name_back (codes "show") ms s.show refl h.show_name, whole_back (codes "size") ms 0 MOST_BURST s.size refl (omega arith, h.size_within)) refl
 
 -- ---- host
 

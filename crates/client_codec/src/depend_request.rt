@@ -6,8 +6,8 @@ ghost use Rattle.object_writer.specs.Tokens.{added, tokens_of};
 
 use crate::members::{write_frame_if, write_text_if};
 use farm_types::DependSpec;
-use farm_words::kind_word;
 use object_writer::ObjectWriter;
+use state_names::kind_word;
 use std::alloc::AllocError;
 
 /// A depend: its kind and its two ends.

@@ -5,16 +5,15 @@ ghost use Rattle.serde_json.specs.View.{members_view};
 ghost use Rattle.cue_json.specs.Fields.{Gives, whole_at};
 ghost use Rattle.farm_types.specs.declared.limits.TheConstants.{LAST_BOOT, SLOT_LIMIT};
 ghost use Rattle.farm_types.specs.declared.refusal.Refusal.TheVariants.{WrongBoot, Stale, FarmFull};
-ghost use Rattle.farm_words.specs.Words.{word_at};
+ghost use Rattle.state_names.specs.Words.{word_at};
 ghost use Rattle.farm_lines.specs.declared.reply.Reply.TheVariants as reply;
 ghost use Rattle.farm_lines.specs.ReplyLines.{boot_refusal_keys, free_keys, keyed_refusal, last_keys, seq_at, state_keys, still_held_at, wrong_state_of};
 
-use crate::fields::read_number;
 use crate::refusal::read_code;
 use cue_json::{FieldFault, Map};
-use farm_lines::Reply;
+use farm_lines::{Reply, read_whole};
 use farm_types::{Cores, FrameState, Kb, LAST_BOOT, MOST_CORES, MOST_MEMORY, Refusal, SLOT_LIMIT};
-use farm_words::{Word, named};
+use state_names::{Word, named};
 use std::alloc::Global;
 
 /// The host's boot number is another.
@@ -22,7 +21,7 @@ pub fn read_wrong_boot(alloc: Global, object: &Map) -> Result<Reply, FieldFault>
     ensures { Gives (λ reply. reply) result (keyed_refusal 5 boot_refusal_keys (whole_at (codes "boot") 1 LAST_BOOT) (λ boot. reply.Refused (WrongBoot boot)) (members_view object.now.entries)) }
 {
     read_code(alloc, object, 5)?;
-    let boot = read_number(alloc, object, "boot", 1, LAST_BOOT)?;
+    let boot = read_whole(alloc, object, "boot", 1, LAST_BOOT)?;
     cue_json::no_others(alloc, object, &["boot", "code", "ok", "why"])?;
     Ok(Reply::Refused(Refusal::WrongBoot { boot }))
 }
@@ -42,7 +41,7 @@ pub fn read_farm_full(alloc: Global, object: &Map) -> Result<Reply, FieldFault>
     ensures { Gives (λ reply. reply) result (keyed_refusal 9 free_keys (whole_at (codes "free") 0 SLOT_LIMIT) (λ free. reply.Refused (FarmFull free)) (members_view object.now.entries)) }
 {
     read_code(alloc, object, 9)?;
-    let free = read_number(alloc, object, "free", 0, SLOT_LIMIT)?;
+    let free = read_whole(alloc, object, "free", 0, SLOT_LIMIT)?;
     cue_json::no_others(alloc, object, &["code", "free", "ok", "why"])?;
     Ok(Reply::Refused(Refusal::FarmFull { free }))
 }
@@ -63,7 +62,7 @@ pub fn read_still_held(alloc: Global, object: &Map) -> Result<Reply, FieldFault>
     ensures { Gives (λ reply. reply) result (still_held_at (members_view object.now.entries)) }
 {
     read_code(alloc, object, 13)?;
-    let cores = read_number(alloc, object, "cores", 0, MOST_CORES)?;
+    let cores = read_whole(alloc, object, "cores", 0, MOST_CORES)?;
     let memory = cue_json::whole(alloc, object, "memory", 0, MOST_MEMORY)?;
     cue_json::no_others(alloc, object, &["code", "cores", "memory", "ok", "why"])?;
     Ok(Reply::StillHeld {

@@ -12,7 +12,7 @@ use farm_types::{
     Counted, LAST_BOOT, LAST_DEPEND, LAST_JOB, MOST_ALLOCS, MOST_DEPENDS, MOST_GROUPS, MOST_HOSTS,
     MOST_SHOWS, Refusal,
 };
-use farm_words::{Word, named};
+use state_names::{Word, named};
 use std::alloc::Global;
 
 /// A count that is at its limit: of things that are kept, or of entries.

@@ -1,13 +1,13 @@
 //! The client's side of the codec: the text of a request, and the reply that a line is.
 #![tactic(auto)]
 
+mod at_most;
 mod boot_request;
 mod depend_request;
 mod farm_refusal;
-mod fields;
 mod frame_request;
 mod full_refusal;
-mod item;
+mod launch_reader;
 mod laws;
 mod line_refusal;
 mod list_reply;

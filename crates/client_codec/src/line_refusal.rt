@@ -3,17 +3,16 @@
 ghost use Rattle.std.specs.Prelude.{◌≡◌};
 ghost use Rattle.serde_json.specs.View.{members_view};
 ghost use Rattle.cue_json.specs.Fields.{Gives};
-ghost use Rattle.farm_words.specs.Words.{word_at};
+ghost use Rattle.state_names.specs.Words.{word_at};
 ghost use Rattle.farm_lines.specs.declared.reply.Reply.TheVariants as reply;
 ghost use Rattle.farm_lines.specs.ReplyLines.{bad_range_at, plain_refusal, range_fault_of};
 
-use crate::fields::read_number;
 use crate::refusal::read_code;
 use cue_json::{FieldFault, Map};
-use farm_lines::{Reply, read_name};
+use farm_lines::{Reply, read_name, read_whole};
 use farm_types::MOST_RANGE;
-use farm_words::named;
 use frame_range::RangeFault;
+use state_names::named;
 use std::alloc::Global;
 
 /// A line that is too long.
@@ -32,7 +31,7 @@ pub fn read_bad_range(alloc: Global, object: &Map) -> Result<Reply, FieldFault>
 {
     read_code(alloc, object, 7)?;
     let layer = read_name(alloc, object, "layer")?;
-    let section = read_number(alloc, object, "section", 1, MOST_RANGE)?;
+    let section = read_whole(alloc, object, "section", 1, MOST_RANGE)?;
     let fault = read_fault(alloc, object, "fault", section as usize)?;
     cue_json::no_others(
         alloc,

@@ -1,14 +1,13 @@
 //! The reply to a list: rows, all with the same keys, and how many rows the whole list has.
 
-ghost use Rattle.std.specs.Prelude.{◌≡◌, codes};
-ghost use Rattle.serde_json.specs.View.{items_view, members_view, view};
+ghost use Rattle.std.specs.Prelude.{◌≡◌};
+ghost use Rattle.serde_json.specs.View.{items_view, members_view};
 ghost use Rattle.cue_json.specs.Fields.{Gives};
-ghost use Rattle.farm_lines.specs.Fields.{item_at, items_at};
 ghost use Rattle.farm_lines.specs.ReplyLines.{list_reply_at};
-ghost use Rattle.farm_lines.specs.ReplyRows.{kind_of_keys, kind_of_rows, row_at, rows_at};
+ghost use Rattle.farm_lines.specs.ReplyRows.{kind_of_keys, kind_of_rows, rows_at};
 
-use crate::item::at_most;
-use crate::row::read_row;
+use crate::at_most::at_most;
+use crate::row::RowReader;
 use cue_json::{FieldFault, Map};
 use farm_lines::{ListReply, ListRow, ROWS_EACH, Reply, RowKind};
 use farm_types::Items;
@@ -32,26 +31,11 @@ fn read_rows(alloc: Global, object: &Map) -> Result<Items<ListRow>, FieldFault>
     ensures { Gives (λ rows. rows) result (rows_at (members_view object.now.entries)) }
 {
     let values = cue_json::list(alloc, object, "rows")?;
-    read_alike(alloc, first_kind(values), values)
-}
-
-// The rows with those keys.
-fn read_alike(alloc: Global, kind: RowKind, values: &[Value]) -> Result<Items<ListRow>, FieldFault>
-    ensures { Gives (λ rows. rows) result (items_at (codes "rows") (row_at kind) (items_view values.now)) }
-{
-    let mut found = Items::new(alloc);
-    for value in values {
-        found.push(read_item(alloc, kind, value)?)?;
-    }
-    Ok(found)
-}
-
-// A row, which is an object.
-fn read_item(alloc: Global, kind: RowKind, value: &Value) -> Result<ListRow, FieldFault>
-    ensures { Gives (λ row. row) result (item_at (codes "rows") (row_at kind) (view value.now)) }
-{
-    let object = cue_json::object_item(alloc, value, "rows")?;
-    read_row(alloc, kind, object)
+    let reader = RowReader {
+        keys: first_kind(values),
+    };
+    let rows = cue_json::read_items(alloc, "rows", values, &reader)?;
+    Ok(Items::from_vec(rows))
 }
 
 // The keys of the first row, which are those of each.

@@ -5,8 +5,8 @@ ghost use Rattle.farm_lines.specs.RequestText.{drop_line, job_line, lock_line, n
 ghost use Rattle.object_writer.specs.Tokens.{added, tokens_of};
 
 use farm_types::{DependNo, LockState};
-use farm_words::lock_word;
 use object_writer::ObjectWriter;
+use state_names::lock_word;
 use std::alloc::{AllocError, Global};
 
 /// What is asked of a show or an allocation, by its name.

@@ -4,11 +4,10 @@ ghost use Rattle.serde_json.specs.View.{members_view};
 ghost use Rattle.cue_json.specs.Fields.{Gives};
 ghost use Rattle.farm_lines.specs.ReplyLines.{boot_reply, depend_reply, done_reply, drop_reply, ended_reply, ok_at, sub_reply, submit_reply, tick_reply};
 
-use crate::fields::read_number;
 use crate::list_reply::read_list;
 use crate::report_reply::read_report;
 use cue_json::{FieldFault, Map};
-use farm_lines::{Reply, read_name};
+use farm_lines::{MOST_BOOKED, Reply, read_name, read_whole};
 use farm_types::{
     Cores, DependNo, LAST_BOOT, LAST_DEPEND, MOST_BURST, MOST_FRAMES, MOST_HOSTS, SLOT_LIMIT,
 };
@@ -53,9 +52,9 @@ fn read_done(alloc: Global, object: &Map) -> Result<Reply, FieldFault>
 fn read_sub(alloc: Global, object: &Map) -> Result<Reply, FieldFault>
     ensures { Gives (λ reply. reply) result (sub_reply (members_view object.now.entries)) }
 {
-    let booked = read_number(alloc, object, "booked", 0, MOST_BURST)?;
-    let burst = read_number(alloc, object, "burst", 0, MOST_BURST)?;
-    let size = read_number(alloc, object, "size", 0, MOST_BURST)?;
+    let booked = read_whole(alloc, object, "booked", 0, MOST_BOOKED)?;
+    let burst = read_whole(alloc, object, "burst", 0, MOST_BURST)?;
+    let size = read_whole(alloc, object, "size", 0, MOST_BURST)?;
     cue_json::no_others(alloc, object, &["booked", "burst", "ok", "size"])?;
     Ok(Reply::Sub {
         booked: Cores(booked),
@@ -68,7 +67,7 @@ fn read_sub(alloc: Global, object: &Map) -> Result<Reply, FieldFault>
 fn read_boot(alloc: Global, object: &Map) -> Result<Reply, FieldFault>
     ensures { Gives (λ reply. reply) result (boot_reply (members_view object.now.entries)) }
 {
-    let boot = read_number(alloc, object, "boot", 1, LAST_BOOT)?;
+    let boot = read_whole(alloc, object, "boot", 1, LAST_BOOT)?;
     let nonce = cue_json::whole(alloc, object, "nonce", 0, u64::MAX)?;
     cue_json::no_others(alloc, object, &["boot", "nonce", "ok"])?;
     Ok(Reply::Boot { boot, nonce })
@@ -78,8 +77,8 @@ fn read_boot(alloc: Global, object: &Map) -> Result<Reply, FieldFault>
 fn read_tick(alloc: Global, object: &Map) -> Result<Reply, FieldFault>
     ensures { Gives (λ reply. reply) result (tick_reply (members_view object.now.entries)) }
 {
-    let down = read_number(alloc, object, "down", 0, MOST_HOSTS)?;
-    let lost = read_number(alloc, object, "lost", 0, SLOT_LIMIT)?;
+    let down = read_whole(alloc, object, "down", 0, MOST_HOSTS)?;
+    let lost = read_whole(alloc, object, "lost", 0, SLOT_LIMIT)?;
     cue_json::no_others(alloc, object, &["down", "lost", "ok"])?;
     Ok(Reply::Tick { down, lost })
 }
@@ -88,7 +87,7 @@ fn read_tick(alloc: Global, object: &Map) -> Result<Reply, FieldFault>
 fn read_submitted(alloc: Global, object: &Map) -> Result<Reply, FieldFault>
     ensures { Gives (λ reply. reply) result (submit_reply (members_view object.now.entries)) }
 {
-    let frames = read_number(alloc, object, "frames", 1, MOST_FRAMES)?;
+    let frames = read_whole(alloc, object, "frames", 1, MOST_FRAMES)?;
     let job = read_name(alloc, object, "job")?;
     cue_json::no_others(alloc, object, &["frames", "job", "ok"])?;
     Ok(Reply::Submitted { frames, job })
@@ -98,8 +97,8 @@ fn read_submitted(alloc: Global, object: &Map) -> Result<Reply, FieldFault>
 fn read_depend(alloc: Global, object: &Map) -> Result<Reply, FieldFault>
     ensures { Gives (λ reply. reply) result (depend_reply (members_view object.now.entries)) }
 {
-    let depend = read_number(alloc, object, "depend", 1, LAST_DEPEND)?;
-    let unmet = read_number(alloc, object, "unmet", 0, SLOT_LIMIT)?;
+    let depend = read_whole(alloc, object, "depend", 1, LAST_DEPEND)?;
+    let unmet = read_whole(alloc, object, "unmet", 0, SLOT_LIMIT)?;
     cue_json::no_others(alloc, object, &["depend", "ok", "unmet"])?;
     Ok(Reply::Depend {
         depend: DependNo(depend),
@@ -111,7 +110,7 @@ fn read_depend(alloc: Global, object: &Map) -> Result<Reply, FieldFault>
 fn read_dropped(alloc: Global, object: &Map) -> Result<Reply, FieldFault>
     ensures { Gives (λ reply. reply) result (drop_reply (members_view object.now.entries)) }
 {
-    let opened = read_number(alloc, object, "opened", 0, SLOT_LIMIT)?;
+    let opened = read_whole(alloc, object, "opened", 0, SLOT_LIMIT)?;
     cue_json::no_others(alloc, object, &["ok", "opened"])?;
     Ok(Reply::Dropped { opened })
 }
@@ -120,7 +119,7 @@ fn read_dropped(alloc: Global, object: &Map) -> Result<Reply, FieldFault>
 fn read_ended(alloc: Global, object: &Map) -> Result<Reply, FieldFault>
     ensures { Gives (λ reply. reply) result (ended_reply (members_view object.now.entries)) }
 {
-    let ended = read_number(alloc, object, "ended", 0, SLOT_LIMIT)?;
+    let ended = read_whole(alloc, object, "ended", 0, SLOT_LIMIT)?;
     cue_json::no_others(alloc, object, &["ended", "ok"])?;
     Ok(Reply::Ended { ended })
 }

@@ -9,11 +9,10 @@ ghost use Rattle.farm_lines.specs.ReplyLines.{by_why, code_at, refusal_at};
 use crate::farm_refusal::{
     read_farm_full, read_stale, read_still_held, read_wrong_boot, read_wrong_state,
 };
-use crate::fields::read_text;
 use crate::full_refusal::read_full;
 use crate::line_refusal::{read_bad_range, read_no_memory, read_store, read_too_long};
 use cue_json::{FieldFault, Map};
-use farm_lines::{Reply, read_name};
+use farm_lines::{Reply, read_name, read_text};
 use farm_types::{Refusal, Text};
 use std::alloc::Global;
 

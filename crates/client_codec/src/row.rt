@@ -4,33 +4,41 @@ ghost use Rattle.serde_json.specs.View.{members_view};
 ghost use Rattle.cue_json.specs.Fields.{Gives};
 ghost use Rattle.farm_lines.specs.ReplyRows.{count_at, depend_row, frame_row, host_row, job_row, layer_row, name_row, proc_row, row_at, sub_row};
 
-use crate::fields::{read_number, read_text};
-use cue_json::{FieldFault, Map};
+use cue_json::{FieldFault, ItemReader, Map};
 use farm_lines::{
-    ListRow, RowKind, ShownDepend, ShownFrame, ShownHost, ShownJob, ShownLayer, ShownProc,
-    ShownSub, read_name,
+    ListRow, MOST_BOOKED, RowKind, ShownDepend, ShownFrame, ShownHost, ShownJob, ShownLayer,
+    ShownProc, ShownSub, read_name, read_text, read_whole,
 };
 use farm_types::{
     Cores, DependNo, Kb, LAST_BOOT, LAST_DEPEND, LAST_SLOT, LAST_VERSION, LEAST_CORES,
     LEAST_MEMORY, MOST_BURST, MOST_CORES, MOST_FRAMES, MOST_MEMORY, MOST_PRIORITY, MOST_RETRIES,
     Slot, Version,
 };
-use farm_words::read_word;
+use state_names::read_word;
 use std::alloc::Global;
 
-/// The row with those keys that the object is, or its first field at fault.
-pub fn read_row(alloc: Global, kind: RowKind, object: &Map) -> Result<ListRow, FieldFault>
-    ensures { Gives (λ row. row) result (row_at kind (members_view object.now.entries)) }
-{
-    match kind {
-        RowKind::Name => read_name_row(alloc, object),
-        RowKind::Sub => read_sub(alloc, object),
-        RowKind::Host => read_host(alloc, object),
-        RowKind::Job => read_job(alloc, object),
-        RowKind::Layer => read_layer(alloc, object),
-        RowKind::Frame => read_frame(alloc, object),
-        RowKind::Depend => read_depend(alloc, object),
-        RowKind::Proc => read_proc(alloc, object),
+/// Reads a row with those keys.
+#[derive(Debug, Drop)]
+pub struct RowReader {
+    pub keys: RowKind,
+}
+
+impl ItemReader for RowReader {
+    type Item = ListRow;
+
+    ghost reads = { λ reader. row_at reader.keys };
+
+    fn read(&self, alloc: Global, object: &Map) -> Result<ListRow, FieldFault> {
+        match self.keys {
+            RowKind::Name => read_name_row(alloc, object),
+            RowKind::Sub => read_sub(alloc, object),
+            RowKind::Host => read_host(alloc, object),
+            RowKind::Job => read_job(alloc, object),
+            RowKind::Layer => read_layer(alloc, object),
+            RowKind::Frame => read_frame(alloc, object),
+            RowKind::Depend => read_depend(alloc, object),
+            RowKind::Proc => read_proc(alloc, object),
+        }
     }
 }
 
@@ -48,10 +56,10 @@ fn read_sub(alloc: Global, object: &Map) -> Result<ListRow, FieldFault>
     ensures { Gives (λ row. row) result (sub_row (members_view object.now.entries)) }
 {
     let allocation = read_name(alloc, object, "alloc")?;
-    let booked = read_number(alloc, object, "booked", 0, MOST_BURST)?;
-    let burst = read_number(alloc, object, "burst", 0, MOST_BURST)?;
+    let booked = read_whole(alloc, object, "booked", 0, MOST_BOOKED)?;
+    let burst = read_whole(alloc, object, "burst", 0, MOST_BURST)?;
     let show = read_name(alloc, object, "show")?;
-    let size = read_number(alloc, object, "size", 0, MOST_BURST)?;
+    let size = read_whole(alloc, object, "size", 0, MOST_BURST)?;
     cue_json::no_others(alloc, object, &["alloc", "booked", "burst", "show", "size"])?;
     Ok(ListRow::Sub(ShownSub {
         alloc: allocation,
@@ -67,14 +75,14 @@ fn read_host(alloc: Global, object: &Map) -> Result<ListRow, FieldFault>
     ensures { Gives (λ row. row) result (host_row (members_view object.now.entries)) }
 {
     let allocation = read_name(alloc, object, "alloc")?;
-    let boot = read_number(alloc, object, "boot", 1, LAST_BOOT)?;
-    let cores = read_number(alloc, object, "cores", LEAST_CORES, MOST_CORES)?;
+    let boot = read_whole(alloc, object, "boot", 1, LAST_BOOT)?;
+    let cores = read_whole(alloc, object, "cores", LEAST_CORES, MOST_CORES)?;
     let heard = cue_json::whole(alloc, object, "heard", 0, u64::MAX)?;
     let lock = read_word(alloc, object, "lock")?;
     let memory = cue_json::whole(alloc, object, "memory", LEAST_MEMORY, MOST_MEMORY)?;
     let name = read_name(alloc, object, "name")?;
     let state = read_word(alloc, object, "state")?;
-    let used_cores = read_number(alloc, object, "used_cores", 0, MOST_CORES)?;
+    let used_cores = read_whole(alloc, object, "used_cores", 0, MOST_CORES)?;
     let used_memory = cue_json::whole(alloc, object, "used_memory", 0, MOST_MEMORY)?;
     cue_json::no_others(
         alloc,
@@ -110,7 +118,7 @@ fn read_host(alloc: Global, object: &Map) -> Result<ListRow, FieldFault>
 fn read_count(alloc: Global, object: &Map, field: &str) -> Result<u32, FieldFault>
     ensures { Gives (λ count. count) result (count_at field.now (members_view object.now.entries)) }
 {
-    read_number(alloc, object, field, 0, MOST_FRAMES)
+    read_whole(alloc, object, field, 0, MOST_FRAMES)
 }
 
 #[tactic(auto, unfolding(farm_lines::specs::ReplyRows::job_row))]
@@ -122,7 +130,7 @@ fn read_job(alloc: Global, object: &Map) -> Result<ListRow, FieldFault>
     let eaten = read_count(alloc, object, "eaten")?;
     let name = read_name(alloc, object, "name")?;
     let paused = cue_json::flag(alloc, object, "paused")?;
-    let priority = read_number(alloc, object, "priority", 1, MOST_PRIORITY)?;
+    let priority = read_whole(alloc, object, "priority", 1, MOST_PRIORITY)?;
     let running = read_count(alloc, object, "running")?;
     let show = read_name(alloc, object, "show")?;
     let state = read_word(alloc, object, "state")?;
@@ -164,7 +172,7 @@ fn read_job(alloc: Global, object: &Map) -> Result<ListRow, FieldFault>
 fn read_layer(alloc: Global, object: &Map) -> Result<ListRow, FieldFault>
     ensures { Gives (λ row. row) result (layer_row (members_view object.now.entries)) }
 {
-    let cores = read_number(alloc, object, "cores", LEAST_CORES, MOST_CORES)?;
+    let cores = read_whole(alloc, object, "cores", LEAST_CORES, MOST_CORES)?;
     let dead = read_count(alloc, object, "dead")?;
     let depend = read_count(alloc, object, "depend")?;
     let eaten = read_count(alloc, object, "eaten")?;
@@ -209,9 +217,9 @@ fn read_frame(alloc: Global, object: &Map) -> Result<ListRow, FieldFault>
     ensures { Gives (λ row. row) result (frame_row (members_view object.now.entries)) }
 {
     let frame = read_text(alloc, object, "frame")?;
-    let retries = read_number(alloc, object, "retries", 0, MOST_RETRIES)?;
+    let retries = read_whole(alloc, object, "retries", 0, MOST_RETRIES)?;
     let state = read_word(alloc, object, "state")?;
-    let version = read_number(alloc, object, "version", 0, LAST_VERSION)?;
+    let version = read_whole(alloc, object, "version", 0, LAST_VERSION)?;
     cue_json::no_others(alloc, object, &["frame", "retries", "state", "version"])?;
     Ok(ListRow::Frame(ShownFrame {
         frame,
@@ -225,7 +233,7 @@ fn read_frame(alloc: Global, object: &Map) -> Result<ListRow, FieldFault>
 fn read_depend(alloc: Global, object: &Map) -> Result<ListRow, FieldFault>
     ensures { Gives (λ row. row) result (depend_row (members_view object.now.entries)) }
 {
-    let depend = read_number(alloc, object, "depend", 1, LAST_DEPEND)?;
+    let depend = read_whole(alloc, object, "depend", 1, LAST_DEPEND)?;
     let kind = read_word(alloc, object, "kind")?;
     let satisfied = cue_json::flag(alloc, object, "satisfied")?;
     cue_json::no_others(alloc, object, &["depend", "kind", "satisfied"])?;
@@ -240,13 +248,13 @@ fn read_depend(alloc: Global, object: &Map) -> Result<ListRow, FieldFault>
 fn read_proc(alloc: Global, object: &Map) -> Result<ListRow, FieldFault>
     ensures { Gives (λ row. row) result (proc_row (members_view object.now.entries)) }
 {
-    let cores = read_number(alloc, object, "cores", LEAST_CORES, MOST_CORES)?;
+    let cores = read_whole(alloc, object, "cores", LEAST_CORES, MOST_CORES)?;
     let frame = read_text(alloc, object, "frame")?;
     let host = read_name(alloc, object, "host")?;
     let job = read_name(alloc, object, "job")?;
     let memory = cue_json::whole(alloc, object, "memory", LEAST_MEMORY, MOST_MEMORY)?;
-    let slot = read_number(alloc, object, "slot", 0, LAST_SLOT)?;
-    let version = read_number(alloc, object, "version", 0, LAST_VERSION)?;
+    let slot = read_whole(alloc, object, "slot", 0, LAST_SLOT)?;
+    let version = read_whole(alloc, object, "version", 0, LAST_VERSION)?;
     cue_json::no_others(
         alloc,
         object,

@@ -9,8 +9,8 @@ ghost use Rattle.object_writer.specs.Tokens.{added, tokens_of};
 
 use crate::members::{write_frame_if, write_text_if, write_texts};
 use farm_types::{Cores, DependSpec, JobSpec, LayerSpec, Text};
-use farm_words::kind_word;
 use object_writer::ObjectWriter;
+use state_names::kind_word;
 use std::alloc::{AllocError, Global};
 
 /// That a job be submitted.

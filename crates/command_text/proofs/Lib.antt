@@ -1,3 +1,5 @@
-pub mod Digits
-pub mod Pieces
-pub mod Words
+mod Digits
+pub mod ExpandedTexts
+pub mod NumberTexts
+mod Pieces
+mod Words

@@ -33,7 +33,7 @@ module _ (job layer : List ℕ) (number : ℤ) where
   first_byte b bs found e = ap (λ (x : Option Token). text_for b x ++ expanded_from (rest_of x) job layer number bs) e
 
   -- a token at the front
-  token_first : (token : Token) (text : List ℕ) → token_at job layer number text ≡ Some token → 0 < token.size → 0 < length text
+  pub token_first : (token : Token) (text : List ℕ) → token_at job layer number text ≡ Some token → 0 < token.size → 0 < length text
       → expanded_from 0 job layer number text ≡ token.text ++ expanded_from 0 job layer number (drop token.size text)
   token_first token [] e sized some = absurd (omega arith)
   token_first token (b ∷ bs) e sized some =
@@ -54,7 +54,7 @@ module _ (job layer : List ℕ) (number : ℤ) where
       ∙ ap (λ (x : List ℕ). b ∷ x) (high_bytes bs rest (λ k l. high (suc k) (omega arith)))
 
   -- a character at the front that begins no token
-  char_first : (c : ℕ) (rest : List ℕ) → token_at job layer number (encode_utf8 c ++ rest) ≡ None
+  pub char_first : (c : ℕ) (rest : List ℕ) → token_at job layer number (encode_utf8 c ++ rest) ≡ None
       → expanded_from 0 job layer number (encode_utf8 c ++ rest) ≡ encode_utf8 c ++ expanded_from 0 job layer number rest
   char_first c rest = ⊎_elim
       (λ low. let Copied : List ℕ → Type 0 = λ bs. token_at job layer number (bs ++ rest) ≡ None → expanded_from 0 job layer number (bs ++ rest) ≡ bs ++ expanded_from 0 job layer number rest in

@@ -3,7 +3,9 @@
 
 mod expansion;
 mod frame_names;
+mod laws;
 mod token;
 
 pub use expansion::expand;
 pub use frame_names::frame_name;
+pub use laws::expanded_commands_are_texts;

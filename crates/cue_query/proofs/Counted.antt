@@ -20,7 +20,7 @@ use Rattle.farm_types.specs.Settle.{is_blocked}
 use Rattle.farm_lines.specs.Lists.{count_among, is_dead}
 use Rattle.job_book.specs.declared.counts.Counts.{Counts}
 use Rattle.job_book.specs.Book.{counts_of, number_of, state_in}
-use Rattle.job_book.specs.Counting.{one, part, raised}
+use Rattle.job_book.specs.Counting.{one, part, counted_in}
 use Rattle.cue_query.specs.Counts.{counts_among, job_counts}
 use Rattle.cue_query.proofs.Told.{kept_within}
 
@@ -118,7 +118,7 @@ none_among test slots s is =
     let weighs : weight test s ≡ 0 = weight_is test s.frame ∙ ap (λ (o : Option FrameState). if_counted (for_some o test)) is in
     omega (arith, sum_by-append (weight test) slots (s ∷ []), sum_by-cons (weight test) s [], weighs)
 
-pub one_counted : (slots : List SlotRow) (s : SlotRow) (state : FrameState) → state_of s ≡ Some state → raised state (counts_among slots) ≡ counts_among (slots ++ s ∷ [])
+pub one_counted : (slots : List SlotRow) (s : SlotRow) (state : FrameState) → state_of s ≡ Some state → counted_in state (counts_among slots) ≡ counts_among (slots ++ s ∷ [])
 one_counted slots s state is =
     sym (λ i. record {
       waiting = one_among 0 is_waiting waiting_is slots s state is i;
@@ -187,10 +187,10 @@ module _ (slots : List SlotRow) (ns : List ℕ) (i n : ℕ) (at : slice_get ns i
       ∙ ap counts_among (rows_there slots (take i ns) n)
 
   -- the frame in the next slot is counted
-  pub next_counted : (state : FrameState) → state_there (slice_get slots n) ≡ Some state → raised state (counts_to i) ≡ counts_to (i + 1)
+  pub next_counted : (state : FrameState) → state_there (slice_get slots n) ≡ Some state → counted_in state (counts_to i) ≡ counts_to (i + 1)
   next_counted state is = by (slice_get slots n) refl is
     where
-      by : (o : Option SlotRow) → slice_get slots n ≡ o → state_there o ≡ Some state → raised state (counts_to i) ≡ counts_to (i + 1)
+      by : (o : Option SlotRow) → slice_get slots n ≡ o → state_there o ≡ Some state → counted_in state (counts_to i) ≡ counts_to (i + 1)
       by None here has = absurd (none-some state has)
       by (Some s) here has =
           one_counted (filter_map (slice_get slots) (take i ns)) s state has

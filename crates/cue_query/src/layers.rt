@@ -2,7 +2,7 @@
 
 ghost use Rattle.std.specs.Prelude.{◌≡◌, ◌<◌, ◌^◌, [], IfOk, OnOk};
 ghost use Rattle.farm_lines.specs.Lists.{layer_row, layer_rows, slots_in};
-ghost use Rattle.job_book.specs.Counting.{part, raised};
+ghost use Rattle.job_book.specs.Counting.{part, counted_in};
 ghost use Rattle.cue_query.specs.Counts.{counts_among};
 ghost use Rattle.cue_query.specs.Queries.{IsLayerOf};
 ghost use Rattle.cue_query.specs.Pages.{offered, offered_all};
@@ -107,7 +107,7 @@ fn no_counts() -> Counts
 // One frame more, in that state.
 fn count(counts: &mut Counts, state: FrameState)
     requires { part state counts.old < 2 ^ 31 }
-    ensures { counts.new ≡ raised state counts.old }
+    ensures { counts.new ≡ counted_in state counts.old }
 {
     match state {
         FrameState::Waiting => counts.waiting += 1,

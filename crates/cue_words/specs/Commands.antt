@@ -6,7 +6,7 @@ use Rattle.cue_json.specs.Fields.{◌>>=◌}
 use Rattle.cue_json.specs.Lines.{object_in}
 use Rattle.farm_types.specs.declared.depend.DependKind.{DependKind}
 use Rattle.farm_types.specs.Formed.{names_layer, names_frame, names_target_layer, names_target_frame}
-use Rattle.farm_words.specs.Words.{kind_of, kind_word}
+use Rattle.state_names.specs.Words.{kind_of, kind_word}
 use Rattle.farm_lines.specs.Words.{whole}
 use Rattle.cue_words.specs.declared.asked.ToolWords.{ToolWords}
 use Rattle.cue_words.specs.declared.asked.ToolWords.TheVariants.{Ask, Help}

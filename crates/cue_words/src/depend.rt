@@ -10,7 +10,7 @@ use crate::fill::fill;
 use crate::part::Part::{AllOrAny, On};
 use crate::part::{FRAME, JOB, LAYER, Part};
 use farm_types::{DependKind, Text};
-use farm_words::{Word, kind_word};
+use state_names::{Word, kind_word};
 use std::alloc::Global;
 
 const ON_JOB: Part = Part::Named("on_job");

@@ -6,7 +6,7 @@ ghost use Rattle.farm_lines.specs.Points.{number_of};
 ghost use Rattle.farm_lines.specs.Words.{signed};
 ghost use Rattle.cue_words.specs.Parts.{negated, number_in};
 
-use number_words::number_of;
+use farm_lines::number_of;
 use serde_json::Value;
 
 /// The number of 1 to 10 digits that the word is, which a minus sign may come before.

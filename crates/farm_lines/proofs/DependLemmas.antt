@@ -7,7 +7,7 @@ use Rattle.farm_types.specs.declared.depend.DependKind.{DependKind}
 use Rattle.farm_types.specs.declared.depend.Place.{Place}
 use Rattle.farm_types.specs.Formed.{IsFormedDepend, IsFormedOwn, IsFormedPlace, is_frame_named, is_layer_name, names_frame, names_layer, names_target_frame, names_target_layer}
 use Rattle.farm_types.specs.Forms.{is_frame_number, is_name_text}
-use Rattle.farm_words.specs.Words.{kind_of, word_at}
+use Rattle.state_names.specs.Words.{kind_of, word_at}
 use Rattle.farm_lines.specs.DependLines.{depend_at, depend_keys, frame_if, layer_if, own_depend_at, own_keys, target_at, waiter_at}
 use Rattle.farm_lines.specs.Fields.{name_at, or_default}
 use Rattle.farm_lines.specs.declared.limits.TheConstants.{LEAST_FRAME, MOST_FRAME}

@@ -8,8 +8,9 @@ use Rattle.std.proofs.lemmas.List.Elements.{All-cons, All-nil}
 use Rattle.serde_json.specs.Data.{Data, Items, no_items, item, Members}
 use Rattle.serde_json.specs.Find.{get_member, as_i64, as_str, as_u64, as_number, as_object}
 use Rattle.cue_json.specs.Fields.{Fault, WrongKind, ◌>>=◌, of_kind, of_member, signed_at, signed_in, whole_in, as_signed, as_whole, text_at, whole_at, list_at, has_key}
+use Rattle.cue_json.specs.Items.{item_at, items_at, list_of}
 use Rattle.farm_types.specs.Forms.{is_name_text, is_tag_text}
-use Rattle.farm_lines.specs.Fields.{name_at, item_at, items_at, list_of, or_default}
+use Rattle.farm_lines.specs.Fields.{name_at, or_default}
 use Rattle.farm_lines.specs.Spec.{of_form, text_of, tag_item, tags_in, tags_at}
 
 -- ---- one step after another

@@ -6,13 +6,14 @@ use Rattle.std.specs.Option.{IfSome}
 use Rattle.std.proofs.lemmas.Bool.{and_parts}
 use Rattle.serde_json.specs.Data.{Members}
 use Rattle.cue_json.specs.Fields.{Fault, ◌>>=◌, of_kind, object_at, others_at, signed_at, text_at, whole_at, has_key}
+use Rattle.cue_json.specs.Items.{list_of}
 use Rattle.cue_json.specs.Lines.{object_in}
 use Rattle.farm_types.specs.declared.job.JobSpec.{JobSpec}
 use Rattle.farm_types.specs.declared.rows.AllocRow.{AllocRow}
 use Rattle.farm_types.specs.Formed.{AreFree, IsFormedBoot, IsFormedDepend, IsFormedDone, IsFormedFrame, IsFormedHeard, IsFormedJob, IsFormedSub}
 use Rattle.farm_types.specs.Forms.{is_name_text, is_tag_text}
 use Rattle.farm_types.specs.Limits.{IsBetween}
-use Rattle.farm_words.specs.Words.{lock_of, word_at}
+use Rattle.state_names.specs.Words.{lock_of, word_at}
 use Rattle.farm_lines.specs.declared.asked.Asked.{Asked}
 use Rattle.farm_lines.specs.declared.asked.Asked.TheVariants as asks
 use Rattle.farm_lines.specs.declared.boot_form.BootForm.{BootForm}
@@ -21,7 +22,7 @@ use Rattle.farm_lines.specs.declared.request.Request.{Request}
 use Rattle.farm_lines.specs.declared.request.Request.TheVariants as request
 use Rattle.farm_lines.specs.declared.sub_form.SubForm.{SubForm}
 use Rattle.farm_lines.specs.DependLines.{depend_at}
-use Rattle.farm_lines.specs.Fields.{name_at, list_of, optional_whole_at}
+use Rattle.farm_lines.specs.Fields.{name_at, optional_whole_at}
 use Rattle.farm_lines.specs.ListLines.{query_at}
 use Rattle.farm_lines.specs.OperatorLines.{asks_pause, frame_at, frame_keys, frame_of_job_at, job_at, job_keys, kill_at, killed_at, names_frame}
 use Rattle.farm_lines.specs.Points.{before_point, after_point}

@@ -7,6 +7,7 @@ use Rattle.std.proofs.lemmas.List.Elements.{All-cons, All-head, All-nil, All-tai
 use Rattle.std.proofs.lemmas.Slice.Eq.{bytes_eq-Decides}
 use Rattle.serde_json.specs.Data.{Members}
 use Rattle.cue_json.specs.Fields.{Fault, flag_at, others_at, text_at}
+use Rattle.cue_json.specs.Items.{list_of}
 use Rattle.frame_range.specs.declared.fault.RangeFault.{RangeFault}
 use Rattle.frame_range.specs.declared.section.Section.{Section}
 use Rattle.frame_range.specs.Printed.{printed}
@@ -24,7 +25,7 @@ use Rattle.farm_types.specs.SpecLimits.{LayerKeepsLimits}
 use Rattle.farm_lines.specs.declared.job_form.JobForm.{JobForm}
 use Rattle.farm_lines.specs.declared.job_form.LayerForm.{LayerForm}
 use Rattle.farm_lines.specs.DependLines.{own_depend_at, own_depends}
-use Rattle.farm_lines.specs.Fields.{name_at, list_of, or_default}
+use Rattle.farm_lines.specs.Fields.{name_at, or_default}
 use Rattle.farm_lines.specs.Points.{cores_of}
 use Rattle.farm_lines.specs.Spec.{SpecError, Amount, text_of, number_at, tags_at, layer_keys, job_keys, layer_form_at, job_form_at, within, range_of, layer_cores, layer_with, layer_of, layers_of, job_of, formed, spec_at}
 use Rattle.farm_lines.proofs.DependLemmas.{own_formed}

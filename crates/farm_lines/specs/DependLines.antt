@@ -2,12 +2,13 @@
 use Rattle.std.specs.Prelude.{ℕ, ℤ, Bool, true, false, List, [], ◌∷◌, ◌++◌, codes, Option, None, Some, Result, Ok}
 use Rattle.serde_json.specs.Data.{Members}
 use Rattle.cue_json.specs.Fields.{Fault, ◌>>=◌, signed_at, flag_at, others_at}
+use Rattle.cue_json.specs.Items.{list_of}
 use Rattle.farm_types.specs.declared.depend.DependKind.{DependKind}
 use Rattle.farm_types.specs.declared.depend.DependSpec.{DependSpec}
 use Rattle.farm_types.specs.declared.depend.Place.{Place}
 use Rattle.farm_types.specs.Formed.{names_layer, names_frame, names_target_layer, names_target_frame}
-use Rattle.farm_words.specs.Words.{kind_of, word_at}
-use Rattle.farm_lines.specs.Fields.{name_at, list_of, or_default}
+use Rattle.state_names.specs.Words.{kind_of, word_at}
+use Rattle.farm_lines.specs.Fields.{name_at, or_default}
 use Rattle.farm_lines.specs.declared.limits.TheConstants.{LEAST_FRAME, MOST_FRAME}
 
 -- ---- kinds

@@ -11,7 +11,7 @@ use Rattle.farm_types.specs.declared.limits.TheConstants.{LAST_BOOT, LAST_DEPEND
 use Rattle.farm_types.specs.Forms.{is_frame_number, is_name_text}
 use Rattle.farm_types.specs.Limits.{IsBetween}
 use Rattle.farm_lines.specs.declared.launch.Launch.{Launch}
-use Rattle.farm_lines.specs.declared.limits.TheConstants.{LAUNCHES_EACH, ROWS_EACH}
+use Rattle.farm_lines.specs.declared.limits.TheConstants.{LAUNCHES_EACH, MOST_BOOKED, ROWS_EACH}
 use Rattle.farm_lines.specs.declared.list_row.ListRow.{ListRow}
 use Rattle.farm_lines.specs.declared.list_row.ListRow.TheVariants as row
 use Rattle.farm_lines.specs.declared.list_row.RowKind.{RowKind}
@@ -73,7 +73,7 @@ IsFormedRequest asked = IsFormedAsked (asked_of asked)
 pub record IsFormedSubRow (s : ShownSub) : Type 0 where
   pub alloc_name : IsName s.alloc
   pub show_name : IsName s.show
-  pub booked_within : s.booked ≤ MOST_BURST
+  pub booked_within : s.booked ≤ MOST_BOOKED
   pub burst_within : s.burst ≤ MOST_BURST
   pub size_within : s.size ≤ MOST_BURST
 
@@ -181,7 +181,7 @@ IsFormedRefusal (Full limit what) = limit ≡ limit_of what
 
 abbrev pub IsFormedReply : Reply → Type 0
 IsFormedReply reply.Done = Unit {0}
-IsFormedReply (reply.Sub booked burst size) = (booked ≤ MOST_BURST) × (burst ≤ MOST_BURST) × (size ≤ MOST_BURST)
+IsFormedReply (reply.Sub booked burst size) = (booked ≤ MOST_BOOKED) × (burst ≤ MOST_BURST) × (size ≤ MOST_BURST)
 IsFormedReply (reply.Boot boot nonce) = IsBetween 1 LAST_BOOT boot × (nonce < 2 ^ 64)
 IsFormedReply (reply.Tick down lost) = (down ≤ MOST_HOSTS) × (lost ≤ SLOT_LIMIT)
 IsFormedReply (reply.Submitted frames job) = IsBetween 1 MOST_FRAMES frames × IsName job

@@ -2,7 +2,7 @@
 use Rattle.std.specs.Prelude.{ℕ, List, map, codes, true}
 use Rattle.serde_json.specs.Data.{Data, boolean, string, array, object, no_members, member}
 use Rattle.serde_json.specs.View.{items_of}
-use Rattle.farm_words.specs.Words.{host_word, job_word, kind_word, lock_word, state_word}
+use Rattle.state_names.specs.Words.{host_word, job_word, kind_word, lock_word, state_word}
 use Rattle.farm_lines.specs.declared.list_row.ListRow.{ListRow}
 use Rattle.farm_lines.specs.declared.list_row.ListRow.TheVariants as row
 use Rattle.farm_lines.specs.declared.list_row.ShownDepend.{ShownDepend}

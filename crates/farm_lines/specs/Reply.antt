@@ -13,7 +13,7 @@ use Rattle.farm_types.specs.declared.answer.Answer.{Answer}
 use Rattle.farm_types.specs.declared.answer.Answer.TheVariants as answer
 use Rattle.farm_types.specs.declared.entry.Act.{Act}
 use Rattle.farm_types.specs.declared.entry.Act.TheVariants as act
-use Rattle.farm_words.specs.Words.{counted_word, cut_word, state_word}
+use Rattle.state_names.specs.Words.{counted_word, cut_word, state_word}
 use Rattle.farm_lines.specs.declared.launch.Launch.{Launch}
 use Rattle.farm_types.specs.declared.refusal.Refusal.{Refusal}
 use Rattle.farm_types.specs.declared.refusal.Refusal.TheVariants.{Unknown, Finished, Exists, WrongBoot, Stale, FarmFull, Satisfied, WrongState, VersionSpent, SelfDepend, Started, Full}

@@ -3,6 +3,7 @@
 use Rattle.std.specs.Prelude.{ℕ, List, [], ◌∷◌, codes, bytes_eq, length, nat_le, Bool, true, false, Option, None, Some, option_and_then, Result, Ok, Err, if◌then◌else◌}
 use Rattle.serde_json.specs.Data.{Members}
 use Rattle.cue_json.specs.Fields.{Fault, WrongKind, ◌>>=◌, of_kind, flag_at, has_key, others_at, text_at, whole_at}
+use Rattle.cue_json.specs.Items.{list_of}
 use Rattle.cue_json.specs.Lines.{object_in}
 use Rattle.frame_range.specs.declared.fault.RangeFault.{RangeFault}
 use Rattle.frame_range.specs.declared.fault.RangeFault.TheVariants as range_fault
@@ -10,12 +11,12 @@ use Rattle.farm_types.specs.declared.refusal.Counted.{Counted}
 use Rattle.farm_types.specs.declared.refusal.Counted.TheVariants as counted
 use Rattle.farm_types.specs.declared.refusal.Refusal.TheVariants.{Unknown, Finished, Exists, WrongBoot, Stale, FarmFull, Satisfied, WrongState, VersionSpent, SelfDepend, Started, Full}
 use Rattle.farm_types.specs.declared.limits.TheConstants.{LAST_BOOT, LAST_DEPEND, LAST_JOB, LAST_SLOT, LAST_VERSION, LEAST_CORES, LEAST_MEMORY, MOST_ALLOCS, MOST_BURST, MOST_CORES, MOST_DEPENDS, MOST_FRAMES, MOST_GROUPS, MOST_HOSTS, MOST_MEMORY, MOST_RANGE, MOST_SHOWS, SLOT_LIMIT}
-use Rattle.farm_words.specs.Words.{counted_of, cut_of, state_of, word_at}
+use Rattle.state_names.specs.Words.{counted_of, cut_of, state_of, word_at}
 use Rattle.farm_lines.specs.declared.launch.Launch.{Launch}
-use Rattle.farm_lines.specs.declared.limits.TheConstants.{LAUNCHES_EACH, ROWS_EACH}
+use Rattle.farm_lines.specs.declared.limits.TheConstants.{LAUNCHES_EACH, MOST_BOOKED, ROWS_EACH}
 use Rattle.farm_lines.specs.declared.reply.Reply.{Reply}
 use Rattle.farm_lines.specs.declared.reply.Reply.TheVariants as reply
-use Rattle.farm_lines.specs.Fields.{list_of, name_at}
+use Rattle.farm_lines.specs.Fields.{name_at}
 use Rattle.farm_lines.specs.Reply.{most_entries}
 use Rattle.farm_lines.specs.ReplyRows.{rows_at}
 use Rattle.farm_lines.specs.Request.{attempt_at}
@@ -37,7 +38,7 @@ sub_keys = codes "booked" ∷ codes "burst" ∷ codes "ok" ∷ codes "size" ∷ 
 
 unfoldable pub sub_reply : Members → Result Reply Fault
 sub_reply ms =
-    whole_at (codes "booked") 0 MOST_BURST ms >>= λ booked. whole_at (codes "burst") 0 MOST_BURST ms >>= λ burst. whole_at (codes "size") 0 MOST_BURST ms >>= λ size.
+    whole_at (codes "booked") 0 MOST_BOOKED ms >>= λ booked. whole_at (codes "burst") 0 MOST_BURST ms >>= λ burst. whole_at (codes "size") 0 MOST_BURST ms >>= λ size.
     others_at sub_keys ms >>= λ none. Ok (reply.Sub booked burst size)
 
 abbrev pub boot_keys : List (List ℕ)

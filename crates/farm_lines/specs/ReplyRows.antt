@@ -3,13 +3,15 @@ use Rattle.std.specs.Prelude.{ℕ, List, [], ◌∷◌, codes, Option, None, Som
 use Rattle.serde_json.specs.Data.{Items, no_items, item, Members}
 use Rattle.serde_json.specs.Find.{as_object}
 use Rattle.cue_json.specs.Fields.{Fault, ◌>>=◌, flag_at, has_key, list_at, others_at, text_at, whole_at}
+use Rattle.cue_json.specs.Items.{items_at}
 use Rattle.farm_types.specs.declared.limits.TheConstants.{LAST_BOOT, LAST_DEPEND, LAST_SLOT, LAST_VERSION, LEAST_CORES, LEAST_MEMORY, MOST_BURST, MOST_CORES, MOST_FRAMES, MOST_MEMORY, MOST_PRIORITY, MOST_RETRIES}
-use Rattle.farm_words.specs.Words.{host_state_of, job_state_of, kind_of, lock_of, state_of, word_at}
+use Rattle.state_names.specs.Words.{host_state_of, job_state_of, kind_of, lock_of, state_of, word_at}
+use Rattle.farm_lines.specs.declared.limits.TheConstants.{MOST_BOOKED}
 use Rattle.farm_lines.specs.declared.list_row.ListRow.{ListRow}
 use Rattle.farm_lines.specs.declared.list_row.ListRow.TheVariants as row
 use Rattle.farm_lines.specs.declared.list_row.RowKind.{RowKind}
 use Rattle.farm_lines.specs.declared.list_row.RowKind.TheVariants as kind
-use Rattle.farm_lines.specs.Fields.{items_at, name_at}
+use Rattle.farm_lines.specs.Fields.{name_at}
 
 -- ---- words
 
@@ -23,7 +25,7 @@ sub_row_keys = codes "alloc" ∷ codes "booked" ∷ codes "burst" ∷ codes "sho
 
 unfoldable pub sub_row : Members → Result ListRow Fault
 sub_row ms =
-    name_at (codes "alloc") ms >>= λ alloc. whole_at (codes "booked") 0 MOST_BURST ms >>= λ booked. whole_at (codes "burst") 0 MOST_BURST ms >>= λ burst.
+    name_at (codes "alloc") ms >>= λ alloc. whole_at (codes "booked") 0 MOST_BOOKED ms >>= λ booked. whole_at (codes "burst") 0 MOST_BURST ms >>= λ burst.
     name_at (codes "show") ms >>= λ show. whole_at (codes "size") 0 MOST_BURST ms >>= λ size. others_at sub_row_keys ms >>= λ none.
     Ok (row.Sub (record { alloc = alloc; booked = booked; burst = burst; show = show; size = size }))
 

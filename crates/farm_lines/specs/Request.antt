@@ -2,11 +2,12 @@
 use Rattle.std.specs.Prelude.{ℕ, ◌&&◌, true, false, List, [], ◌∷◌, codes, length, Option, None, Some, Result, Ok, Err, ⊤, bytes_eq, if◌then◌else◌}
 use Rattle.serde_json.specs.Data.{Members}
 use Rattle.cue_json.specs.Fields.{Fault, field_of, ◌>>=◌, of_kind, text_at, whole_at, object_at, others_at}
+use Rattle.cue_json.specs.Items.{list_of}
 use Rattle.cue_json.specs.Lines.{object_in}
 use Rattle.frame_range.specs.declared.fault.RangeFault.{RangeFault}
 use Rattle.farm_types.specs.declared.attempt.Attempt.{Attempt}
 use Rattle.farm_types.specs.declared.attempt.DoneItem.{DoneItem}
-use Rattle.farm_words.specs.Words.{lock_of, word_at}
+use Rattle.state_names.specs.Words.{lock_of, word_at}
 use Rattle.farm_lines.specs.declared.boot_form.BootForm.{BootForm}
 use Rattle.farm_types.specs.declared.boot.BootLine.{BootLine}
 use Rattle.farm_types.specs.declared.job.JobSpec.{JobSpec}
@@ -18,7 +19,7 @@ use Rattle.farm_types.specs.declared.states.LockState.{LockState}
 use Rattle.farm_lines.specs.declared.sub_form.SubForm.{SubForm}
 use Rattle.farm_types.specs.declared.sub_line.SubLine.{SubLine}
 use Rattle.farm_lines.specs.DependLines.{depend_at}
-use Rattle.farm_lines.specs.Fields.{name_at, optional_whole_at, list_of}
+use Rattle.farm_lines.specs.Fields.{name_at, optional_whole_at}
 use Rattle.farm_types.specs.Forms.{is_tag_text}
 use Rattle.farm_lines.specs.ListLines.{query_at}
 use Rattle.farm_lines.specs.OperatorLines.{asks_pause, frame_at, job_at, kill_at}

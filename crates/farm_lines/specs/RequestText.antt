@@ -11,7 +11,7 @@ use Rattle.farm_types.specs.declared.job.JobSpec.{JobSpec}
 use Rattle.farm_types.specs.declared.job.LayerSpec.{LayerSpec}
 use Rattle.farm_types.specs.declared.states.LockState.{LockState}
 use Rattle.farm_types.specs.declared.sub_line.SubLine.{SubLine}
-use Rattle.farm_words.specs.Words.{kind_word, lock_word}
+use Rattle.state_names.specs.Words.{kind_word, lock_word}
 use Rattle.farm_lines.specs.declared.query.Listed.{Listed}
 use Rattle.farm_lines.specs.declared.query.Listed.TheVariants as listed
 use Rattle.farm_lines.specs.declared.query.Query.{Query}

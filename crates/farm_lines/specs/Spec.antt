@@ -3,6 +3,7 @@ use Rattle.std.specs.Prelude.{ℕ, Bool, false, List, [], ◌∷◌, codes, leng
 use Rattle.serde_json.specs.Data.{Data, Items, no_items, item, Members}
 use Rattle.serde_json.specs.Find.{as_str}
 use Rattle.cue_json.specs.Fields.{Fault, WrongKind, ◌>>=◌, of_kind, text_at, whole_at, flag_at, list_at, others_at}
+use Rattle.cue_json.specs.Items.{list_of}
 use Rattle.frame_range.specs.declared.fault.RangeFault.{RangeFault}
 use Rattle.frame_range.specs.declared.section.Section.{Section}
 use Rattle.frame_range.specs.Printed.{printed}
@@ -16,7 +17,7 @@ use Rattle.farm_types.specs.declared.limits.TheConstants.{LEAST_CORES, LEAST_MEM
 use Rattle.farm_types.specs.Forms.{is_command_text, is_name_or_empty, is_tag_text, is_between}
 use Rattle.farm_lines.specs.Points.{cores_of}
 use Rattle.farm_lines.specs.DependLines.{own_depends}
-use Rattle.farm_lines.specs.Fields.{name_at, list_of, or_default}
+use Rattle.farm_lines.specs.Fields.{name_at, or_default}
 
 -- why a spec isn't taken: a field is missing or not of its form, a layer's range has a fault, or the amount of a field is outside its limits
 pub data SpecError : Type 0 where

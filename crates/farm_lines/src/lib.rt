@@ -3,15 +3,18 @@
 #![tactic(auto)]
 
 mod asked;
+mod attempt_reader;
 mod boot_form;
 mod cores_text;
 mod field_faults;
+mod fields;
 mod job_form;
 mod launch;
 mod laws;
 mod limits;
 mod list_row;
 mod name_field;
+mod number;
 mod points;
 mod query;
 mod reply;
@@ -21,16 +24,21 @@ mod sub_form;
 mod what;
 
 pub use asked::Asked;
+pub use attempt_reader::AttemptReader;
 pub use boot_form::BootForm;
 pub use cores_text::read_cores;
+pub use fields::{read_list, read_text, read_whole};
 pub use job_form::{JobForm, LayerForm};
 pub use launch::Launch;
 pub use laws::requests_are_formed;
-pub use limits::{LAUNCHES_EACH, LEAST_FRAME, LINE_LIMIT, MOST_FRAME, REPLY_LIMIT, ROWS_EACH};
+pub use limits::{
+    LAUNCHES_EACH, LEAST_FRAME, LINE_LIMIT, MOST_BOOKED, MOST_FRAME, REPLY_LIMIT, ROWS_EACH,
+};
 pub use list_row::{
     ListRow, RowKind, ShownDepend, ShownFrame, ShownHost, ShownJob, ShownLayer, ShownProc, ShownSub,
 };
 pub use name_field::read_name;
+pub use number::{is_number, number_of};
 pub use points::split_at_point;
 pub use query::{Listed, Query};
 pub use reply::{ListReply, Reply, ReportReply};

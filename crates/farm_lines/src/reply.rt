@@ -5,7 +5,7 @@ use crate::list_row::ListRow;
 use farm_types::{Attempt, Cores, Cut, DependNo, Items, Kb, Refusal, Text};
 use frame_range::RangeFault;
 
-/// A reply: one variant for each set of keys of an ok reply, and for each refusal.
+/// A reply: one variant for each set of keys of an ok reply, one for all that the farm refuses, and one for each refusal that isn't the farm's.
 #[derive(Debug, Drop)]
 pub enum Reply {
     /// Done, with nothing to tell: for a show, an allocation, a host's lock, and a job that is paused or resumed.

@@ -1,6 +1,6 @@
 -- What reading a spec answers.
-use Rattle.std.specs.Prelude.{◌≡◌, ◌++◌, ℕ, List, Result, Ok, Err}
-use Rattle.cue_json.specs.Fields.{Missing, WrongKind, Unknown, ◌>>=◌}
+use Rattle.std.specs.Prelude.{◌≡◌, ℕ, List, Result, Ok, Err}
+use Rattle.cue_json.specs.Fields.{Missing, WrongKind, Unknown}
 use Rattle.cue_json.specs.declared.fault.FieldFault.{FieldFault}
 use Rattle.cue_json.specs.declared.fault.FieldFault.TheVariants as field_fault
 use Rattle.frame_range.specs.declared.fault.RangeFault.{RangeFault}
@@ -40,10 +40,6 @@ Fails (spec_fault.Amount field) read = read ≡ Err (Amount field)
 abbrev pub GivesSpec : {X : Type 0} → Result X SpecFault → Result X SpecError → Type 0
 GivesSpec (Ok x) read = read ≡ Ok x
 GivesSpec (Err fault) read = Fails fault read
-
--- what was read of a list's rest, behind what was read of its front
-abbrev pub prepend : {X E : Type 0} → List X → Result (List X) E → Result (List X) E
-prepend front rest = rest >>= λ xs. Ok (front ++ xs)
 
 -- a field's fault as the spec's; that memory ran out stands alone
 abbrev pub with_field : FieldFault → SpecFault

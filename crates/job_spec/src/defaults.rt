@@ -9,7 +9,7 @@ ghost use Rattle.farm_lines.specs.Spec.{number_at, tags_at, text_of};
 
 use crate::{tags, words};
 use cue_json::{FieldFault, Map};
-use farm_lines::read_name;
+use farm_lines::{read_name, read_text};
 use farm_types::{Items, Text};
 use std::alloc::Global;
 
@@ -29,7 +29,7 @@ pub fn text(alloc: Global, object: &Map, field: &str, default: &str) -> Result<T
     ensures { Gives (λ text. text) result (or_default default.now text_at field.now (members_view object.now.entries)) }
 {
     if cue_json::has(object, field) {
-        words::text(alloc, object, field)
+        read_text(alloc, object, field)
     } else {
         Ok(Text::from_str(alloc, default)?)
     }

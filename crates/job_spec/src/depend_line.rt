@@ -1,18 +1,17 @@
 //! Reading depends: the request for one, and those of a spec.
 
 ghost use Rattle.std.specs.Prelude.{[]};
-ghost use Rattle.serde_json.specs.View.{items_view, members_view, view};
+ghost use Rattle.serde_json.specs.View.{members_view};
 ghost use Rattle.cue_json.specs.Fields.{Gives};
 ghost use Rattle.farm_lines.specs.DependLines.{depend_at, frame_if, layer_if, own_depend_at, own_depends, target_at, waiter_at};
-ghost use Rattle.farm_lines.specs.Fields.{item_at, items_at, or_default};
+ghost use Rattle.farm_lines.specs.Fields.{or_default};
 
 use crate::defaults;
 use crate::depend_keys::{no_others, no_others_in_spec};
-use cue_json::{FieldFault, Map};
-use farm_lines::{LEAST_FRAME, MOST_FRAME, read_name};
+use cue_json::{FieldFault, ItemReader, Map};
+use farm_lines::{LEAST_FRAME, MOST_FRAME, read_list, read_name};
 use farm_types::{DependKind, DependSpec, Items, Place, Text};
-use farm_words::{names_frame, names_layer, names_target_frame, names_target_layer, read_word};
-use serde_json::Value;
+use state_names::{names_frame, names_layer, names_target_frame, names_target_layer, read_word};
 use std::alloc::Global;
 
 /// The depend that the object of a request asks for, or its first fault: the kind, whether any target is enough, the job that
@@ -47,71 +46,38 @@ pub fn read_depends(
     ensures { Gives (λ depends. depends) result (or_default [] (own_depends own.now) field.now (members_view object.now.entries)) }
 {
     if cue_json::has(object, field) {
-        read_list(alloc, object, field, own)
+        read_list(alloc, object, field, &OwnReader { own })
     } else {
         Ok(Items::new(alloc))
     }
 }
 
-// The depends in the field's list.
-fn read_list(
-    alloc: Global,
-    object: &Map,
-    field: &str,
-    own: &Text,
-) -> Result<Items<DependSpec>, FieldFault>
-    ensures { Gives (λ depends. depends) result (own_depends own.now field.now (members_view object.now.entries)) }
-{
-    let values = cue_json::list(alloc, object, field)?;
-    read_items(alloc, field, values, own)
+// Reads a depend in the spec of that job: its fields in order, and no others.
+#[derive(Debug, Drop)]
+struct OwnReader<'a> {
+    own: &'a Text,
 }
 
-// The depends of the list of that field.
-fn read_items(
-    alloc: Global,
-    field: &str,
-    values: &[Value],
-    own: &Text,
-) -> Result<Items<DependSpec>, FieldFault>
-    ensures { Gives (λ depends. depends) result (items_at field.now (own_depend_at own.now) (items_view values.now)) }
-{
-    let mut found = Items::new(alloc);
-    for value in values {
-        found.push(read_item(alloc, field, value, own)?)?;
+impl<'a> ItemReader for OwnReader<'a> {
+    type Item = DependSpec;
+
+    ghost reads = { λ reader. own_depend_at reader.own.now };
+
+    #[tactic(auto, unfolding(farm_lines::specs::DependLines::own_depend_at))]
+    fn read(&self, alloc: Global, object: &Map) -> Result<DependSpec, FieldFault> {
+        let kind = read_word(alloc, object, "kind")?;
+        let any = defaults::flag(alloc, object, "any")?;
+        let waiter = read_waiter(alloc, object, self.own.copy(alloc)?, kind)?;
+        let on_job = defaults::job(alloc, object, "on_job", self.own)?;
+        let target = read_target(alloc, object, on_job, kind)?;
+        no_others_in_spec(alloc, object, kind)?;
+        Ok(DependSpec {
+            kind,
+            any,
+            waiter,
+            target,
+        })
     }
-    Ok(found)
-}
-
-// One depend of the list of that field, which is an object.
-fn read_item(
-    alloc: Global,
-    field: &str,
-    value: &Value,
-    own: &Text,
-) -> Result<DependSpec, FieldFault>
-    ensures { Gives (λ depend. depend) result (item_at field.now (own_depend_at own.now) (view value.now)) }
-{
-    let object = cue_json::object_item(alloc, value, field)?;
-    read_own_depend(alloc, object, own)
-}
-
-// The fields in order of a depend in a spec, and no others.
-#[tactic(auto, unfolding(farm_lines::specs::DependLines::own_depend_at))]
-fn read_own_depend(alloc: Global, object: &Map, own: &Text) -> Result<DependSpec, FieldFault>
-    ensures { Gives (λ depend. depend) result (own_depend_at own.now (members_view object.now.entries)) }
-{
-    let kind = read_word(alloc, object, "kind")?;
-    let any = defaults::flag(alloc, object, "any")?;
-    let waiter = read_waiter(alloc, object, own.copy(alloc)?, kind)?;
-    let on_job = defaults::job(alloc, object, "on_job", own)?;
-    let target = read_target(alloc, object, on_job, kind)?;
-    no_others_in_spec(alloc, object, kind)?;
-    Ok(DependSpec {
-        kind,
-        any,
-        waiter,
-        target,
-    })
 }
 
 // The end of that job that waits.

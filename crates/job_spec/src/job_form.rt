@@ -5,10 +5,10 @@ ghost use Rattle.cue_json.specs.Fields.{Gives};
 ghost use Rattle.farm_lines.specs.Spec.{job_form_at};
 
 use crate::depend_line::read_depends;
-use crate::layer_form::read_layers;
+use crate::layer_form::LayerReader;
 use crate::{defaults, words};
 use cue_json::{FieldFault, Map};
-use farm_lines::{JobForm, read_name};
+use farm_lines::{JobForm, read_list, read_name};
 use std::alloc::Global;
 
 /// A job's fields in order, and no others. In each depend the job itself waits.
@@ -25,7 +25,7 @@ pub fn read_job(alloc: Global, object: &Map) -> Result<JobForm, FieldFault>
     let max_retries = defaults::number(alloc, object, "max_retries", 3)?;
     let auto_eat = defaults::flag(alloc, object, "auto_eat")?;
     let paused = defaults::flag(alloc, object, "paused")?;
-    let layers = read_layers(alloc, object, "layers")?;
+    let layers = read_list(alloc, object, "layers", &LayerReader)?;
     let depends = read_depends(alloc, object, "depends", &name)?;
     cue_json::no_others(
         alloc,

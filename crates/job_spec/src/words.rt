@@ -3,7 +3,7 @@
 ghost use Rattle.std.specs.Prelude.{◌≡◌, Ok, Err, if◌then◌else◌};
 ghost use Rattle.std.specs.List.{list_all};
 ghost use Rattle.serde_json.specs.View.{members_view};
-ghost use Rattle.cue_json.specs.Fields.{Gives, WrongKind, text_at};
+ghost use Rattle.cue_json.specs.Fields.{Gives, WrongKind};
 ghost use Rattle.farm_types.specs.Forms.{is_command_byte, is_command_text, is_name_or_empty, is_tag_text};
 ghost use Rattle.farm_lines.specs.Spec.{text_of};
 
@@ -33,14 +33,6 @@ pub fn command(alloc: Global, object: &Map, field: &str) -> Result<Text, FieldFa
 {
     let text = cue_json::text(alloc, object, field)?;
     kept(alloc, field, text, is_command(text))
-}
-
-/// The field's text, whatever it is.
-pub fn text(alloc: Global, object: &Map, field: &str) -> Result<Text, FieldFault>
-    ensures { Gives (λ text. text) result (text_at field.now (members_view object.now.entries)) }
-{
-    let text = cue_json::text(alloc, object, field)?;
-    Ok(Text::from_str(alloc, text)?)
 }
 
 /// A copy of the text where it has the form that was asked for.

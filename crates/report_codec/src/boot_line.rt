@@ -10,9 +10,9 @@ ghost use Rattle.job_spec.specs.SpecResults.{GivesSpec};
 ghost use Rattle.report_codec.specs.Reads.{IsRequest};
 ghost use Rattle.object_writer.specs.Tokens.{added, tokens_of};
 
-use crate::read_fields::{read_number, read_text};
+use crate::read_fields::read_number;
 use cue_json::{FieldFault, Map};
-use farm_lines::{BootForm, Request, RequestFault, read_name};
+use farm_lines::{BootForm, Request, RequestFault, read_name, read_text};
 use farm_types::{
     BootLine, Cores, Kb, LEAST_CORES, LEAST_MEMORY, MOST_CORES, MOST_MEMORY, MOST_TAGS,
 };

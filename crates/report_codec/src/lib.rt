@@ -4,9 +4,9 @@
 mod alloc_line;
 mod boot_line;
 mod depend_line;
+mod done_reader;
 mod drop_line;
 mod fault_reply;
-mod item;
 mod laws;
 mod list_line;
 mod list_reply;

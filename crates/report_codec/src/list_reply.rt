@@ -9,8 +9,8 @@ use farm_lines::{
     ListReply, ListRow, ShownDepend, ShownFrame, ShownHost, ShownJob, ShownLayer, ShownProc,
     ShownSub,
 };
-use farm_words::{host_word, job_word, kind_word, lock_word, state_word};
 use object_writer::ObjectWriter;
+use state_names::{host_word, job_word, kind_word, lock_word, state_word};
 use std::alloc::AllocError;
 
 /// The reply to a list: its rows, and how many there are in all. Cores in hundredths of a core, memory in KB.

@@ -8,7 +8,7 @@ ghost use Rattle.report_codec.specs.Reads.{IsRequest};
 use cue_json::{FieldFault, Map};
 use farm_lines::{Request, RequestFault, read_name};
 use farm_types::{LockState, Text};
-use farm_words::read_word;
+use state_names::read_word;
 use std::alloc::Global;
 
 /// The host whose lock the object sets, or its first fault.

@@ -1,20 +1,11 @@
 //! Fields that more than one kind of line has.
 
 ghost use Rattle.serde_json.specs.View.{members_view};
-ghost use Rattle.cue_json.specs.Fields.{Gives, text_at};
+ghost use Rattle.cue_json.specs.Fields.{Gives};
 ghost use Rattle.farm_lines.specs.Spec.{number_at};
 
 use cue_json::{FieldFault, Map};
-use farm_types::Text;
 use std::alloc::Global;
-
-/// The field's text, whatever it is.
-pub fn read_text(alloc: Global, object: &Map, field: &str) -> Result<Text, FieldFault>
-    ensures { Gives (λ text. text) result (text_at field.now (members_view object.now.entries)) }
-{
-    let text = cue_json::text(alloc, object, field)?;
-    Ok(Text::from_str(alloc, text)?)
-}
 
 /// The field's whole number of 64 bits, whose limits are judged later.
 pub fn read_number(alloc: Global, object: &Map, field: &str) -> Result<u64, FieldFault>

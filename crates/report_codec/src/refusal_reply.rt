@@ -2,13 +2,13 @@
 
 ghost use Rattle.std.specs.Prelude.{◌≡◌, OnOk};
 ghost use Rattle.farm_types.specs.declared.refusal.Refusal.TheVariants.{Unknown, Finished, Exists, WrongBoot, Stale, FarmFull, Satisfied, WrongState, VersionSpent, SelfDepend, Started, Full};
-ghost use Rattle.farm_words.specs.Words.{counted_word, state_word};
+ghost use Rattle.state_names.specs.Words.{counted_word, state_word};
 ghost use Rattle.farm_lines.specs.Reply.{refusal_data};
 ghost use Rattle.object_writer.specs.Tokens.{added, tokens_of};
 
 use farm_types::{Counted, FrameState, Refusal};
-use farm_words::{counted_word, state_word};
 use object_writer::ObjectWriter;
+use state_names::{counted_word, state_word};
 use std::alloc::AllocError;
 
 /// The refusal with its code and what it shows.

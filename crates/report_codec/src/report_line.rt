@@ -4,19 +4,21 @@ ghost use Rattle.std.specs.Prelude.{◌≡◌, ◌∷◌, OnOk};
 ghost use Rattle.json.specs.Token.{key};
 ghost use Rattle.serde_json.specs.View.{members_view};
 ghost use Rattle.cue_json.specs.Fields.{Gives};
-ghost use Rattle.farm_words.specs.Words.{cut_word};
+ghost use Rattle.state_names.specs.Words.{cut_word};
 ghost use Rattle.farm_lines.specs.declared.request.Request.TheVariants as request;
 ghost use Rattle.farm_lines.specs.Reply.{attempt_data, attempts_data, launch_data, launches_data, report_data};
 ghost use Rattle.farm_lines.specs.Request.{asked, report_at};
 ghost use Rattle.report_codec.specs.Reads.{IsRequest};
 ghost use Rattle.object_writer.specs.Tokens.{added, tokens_of};
 
-use crate::item;
+use crate::done_reader::DoneReader;
 use cue_json::{FieldFault, Map};
-use farm_lines::{Launch, Report, ReportReply, Request, RequestFault, read_name};
+use farm_lines::{
+    AttemptReader, Launch, Report, ReportReply, Request, RequestFault, read_list, read_name,
+};
 use farm_types::{Attempt, LAST_BOOT};
-use farm_words::cut_word;
 use object_writer::ObjectWriter;
+use state_names::cut_word;
 use std::alloc::{AllocError, Global};
 
 /// The report that the object is, or its first fault.
@@ -35,8 +37,8 @@ fn report(alloc: Global, object: &Map) -> Result<Report, FieldFault>
     let host = read_name(alloc, object, "host")?;
     let boot = cue_json::whole(alloc, object, "boot", 1, u64::from(LAST_BOOT))?;
     let seq = cue_json::whole(alloc, object, "seq", 1, u64::MAX)?;
-    let running = item::list(alloc, object, "running")?;
-    let done = item::list(alloc, object, "done")?;
+    let running = read_list(alloc, object, "running", &AttemptReader)?;
+    let done = read_list(alloc, object, "done", &DoneReader)?;
     cue_json::no_others(
         alloc,
         object,

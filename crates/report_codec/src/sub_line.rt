@@ -10,9 +10,9 @@ ghost use Rattle.job_spec.specs.SpecResults.{GivesSpec};
 ghost use Rattle.report_codec.specs.Reads.{IsRequest};
 ghost use Rattle.object_writer.specs.Tokens.{added, tokens_of};
 
-use crate::read_fields::{read_number, read_text};
+use crate::read_fields::read_number;
 use cue_json::{FieldFault, Map};
-use farm_lines::{Request, RequestFault, SubForm, read_name};
+use farm_lines::{Request, RequestFault, SubForm, read_name, read_text};
 use farm_types::{Cores, MOST_BURST, SubLine};
 use job_spec::{SpecFault, within};
 use object_writer::ObjectWriter;

@@ -2,7 +2,7 @@
 use Rattle.std.specs.Prelude.{codes}
 use Rattle.std.proofs.lemmas.Result.{on_ok_weaker}
 use Rattle.serde_json.specs.Data.{Members, boolean, member, no_members, string}
-use Rattle.farm_words.specs.Words.{kind_word}
+use Rattle.state_names.specs.Words.{kind_word}
 use Rattle.farm_lines.specs.RequestText.{own_depend_data, with_signed, with_text}
 use Rattle.client_codec.proofs.RequestTokens.{and_as, and_if, and_then, of_object}
 use Rattle.client_codec.proofs.submit_request.write_own_depend.Goals as goal

@@ -5,7 +5,7 @@ use Rattle.farm_types.specs.declared.states.FrameState.{FrameState}
 use Rattle.farm_types.specs.Depends.{layer_shape}
 use Rattle.farm_types.specs.Jobs.{JobLists}
 use Rattle.job_book.specs.Book.{state_at}
-use Rattle.job_book.specs.Counting.{part, raised}
+use Rattle.job_book.specs.Counting.{part, counted_in}
 use Rattle.cue_query.specs.Counts.{counts_among}
 use Rattle.cue_query.proofs.Counted.{all_counted, next_counted, next_passed, part_below}
 use Rattle.cue_query.proofs.OwnSlots.{own_count, own_slots}
@@ -40,7 +40,7 @@ loop-slot-preserved c =
     let n = c.slot-item.result in
     let at = slice_get_read ns (length ns) l.slot-index n refl c.loop-slot-test.true c.slot-item.is in
     let is = sym (ap (λ (p : Option FrameState × ℕ). p.0) (c.state.ensures ∙ ap (λ (b : JobLists). state_at b n) c.jobs-in-loop-slot.ensures)) ∙ c.in-Some.is in
-    c.count.ensures ∙ (ap (raised c.in-Some.state) l.invariant ∙ next_counted c.args.farm.now.slots ns l.slot-index n at c.in-Some.state is)
+    c.count.ensures ∙ (ap (counted_in c.in-Some.state) l.invariant ∙ next_counted c.args.farm.now.slots ns l.slot-index n at c.in-Some.state is)
 
 pub returns : goal.returns
 returns c =

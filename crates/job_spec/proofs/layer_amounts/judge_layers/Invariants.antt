@@ -3,7 +3,7 @@ use Rattle.std.proofs.Common.{◌≡◌, drop, length}
 use Rattle.std.specs.List.{All}
 use Rattle.farm_lines.specs.Spec.{layers_of}
 use Rattle.farm_types.specs.SpecLimits.{LayerKeepsLimits}
-use Rattle.job_spec.specs.SpecResults.{prepend}
+use Rattle.cue_json.specs.Items.{prepend}
 use Rattle.job_spec.proofs.layer_amounts.judge_layers.Given as goal
 
 abbrev pub invariant-loop-form : goal.invariant-loop-form

@@ -2,7 +2,7 @@
 use Rattle.std.proofs.Common.{◌≡◌, drop}
 use Rattle.serde_json.specs.View.{items_view}
 use Rattle.farm_lines.specs.Spec.{tags_in}
-use Rattle.job_spec.specs.SpecResults.{prepend}
+use Rattle.cue_json.specs.Items.{prepend}
 use Rattle.job_spec.proofs.tags.read_values.Given as goal
 
 abbrev pub invariant-loop-value : goal.invariant-loop-value
