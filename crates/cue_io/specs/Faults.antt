@@ -7,8 +7,8 @@ abbrev pub last_count : ℕ
 last_count = 18446744073709551615
 
 -- the count after one more
-abbrev pub counted : ℕ → ℕ
-counted count = min (count + 1) last_count
+abbrev pub incremented : ℕ → ℕ
+incremented count = min (count + 1) last_count
 
 -- a count went up, or stands where no count can go up
 abbrev pub HasRisen : ℕ → ℕ → Type 0

@@ -1,5 +1,5 @@
 -- All calls of a reader together: the lines given are those of the bytes taken, cut at their newlines.
-use Rattle.std.specs.Prelude.{◌≡◌, ℕ, ◌+◌, ◌<◌, ◌≤◌, Bool, true, false, List, [], ◌∷◌, ◌++◌, length, Option, Result, Ok, Err}
+use Rattle.std.specs.Prelude.{◌≡◌, ℕ, ◌+◌, ◌<◌, ◌≤◌, Bool, true, false, List, [], ◌∷◌, ◌++◌, length, Option, Result, Ok, Err, ◌⊎◌}
 use Rattle.std.proofs.Common.{refl, sym, ap, ◌∙◌, subst, inl, inr, append_assoc, append-nil, length-append, true≢false}
 use Rattle.cue_io.specs.declared.line.LineFault.{LineFault}
 use Rattle.cue_io.specs.declared.line.LineFault.TheVariants.{Read, Spent}
@@ -8,9 +8,9 @@ use Rattle.cue_io.specs.Lines.{has_newline, lines_of, joined, AreLines, joined-a
 use Rattle.cue_io.specs.Reader.{Held, Given, Whole, Long, AtEnd, Goes, IsPending, new_reader, IsNext, IsOver, IsUncut, Leaves, Moves}
 use Rattle.cue_io.specs.declared.limits.TheConstants.{BYTE_LIMIT}
 
--- the bytes taken are those of the lines, with their newlines, and then those pending
-pub record IsGoing (taken : List ℕ) (lines : List (List ℕ)) (pending : List ℕ) : Type 0 where
-  pub cut : taken ≡ joined lines ++ pending
+-- the lines are whole ones, the first of the bytes taken: those are their bytes, with their newlines, and then the rest
+pub record AreWholeLines (taken : List ℕ) (lines : List (List ℕ)) (rest : List ℕ) : Type 0 where
+  pub cut : taken ≡ joined lines ++ rest
   pub in_lines : AreLines lines
 
 -- the lines are all those of the bytes taken
@@ -20,7 +20,7 @@ pub record IsDone (taken : List ℕ) (lines : List (List ℕ)) (pending : List �
 
 -- the lines given so far, by whether the source has ended
 abbrev pub IsCut : Bool → List ℕ → List (List ℕ) → List ℕ → Type 0
-IsCut false taken lines pending = IsGoing taken lines pending
+IsCut false taken lines pending = AreWholeLines taken lines pending
 IsCut true taken lines pending = IsDone taken lines pending
 
 -- a reader that took these bytes since it was made has given these lines, the ones that it passed over among them
@@ -38,6 +38,16 @@ pub record IsUnfinished (taken : List ℕ) (lines : List (List ℕ)) : Type 0 wh
   pub cut : taken ≡ joined lines ++ rest
   pub in_line : has_newline rest ≡ false
   pub in_lines : AreLines lines
+
+-- the lines are all those of the bytes taken, and the source has none left
+pub record AreAllLines (taken : List ℕ) (lines : List (List ℕ)) (left : Option (List ℕ)) : Type 0 where
+  pub cut : lines_of taken ≡ lines
+  pub none_left : IsAtEnd left
+
+-- The lines are the first of the bytes taken: whole ones, each with its newline; or all that there were, a last one without a newline among them, where the
+-- source is at its end.
+abbrev pub AreFirstLines : List ℕ → List (List ℕ) → Option (List ℕ) → Type 0
+AreFirstLines taken lines left = ((rest : List ℕ) × AreWholeLines taken lines rest) ⊎ AreAllLines taken lines left
 
 -- where a reader stands after an answer, of all bytes taken and the lines given before
 abbrev pub Continues : ℕ → List ℕ → List (List ℕ) → Result Given LineFault → Held → Option (List ℕ) → Type 0
@@ -67,8 +77,8 @@ taken-append {taken = taken} {took = took} so_far goes =
     goes.taken_is ∙ ap (λ count. count + length took) so_far.taken_is ∙ sym (length-append taken took)
 
 -- the bytes after one more line that a newline ends
-going-append : (taken pending took line rest : List ℕ) (lines : List (List ℕ)) → IsGoing taken lines pending
-    → pending ++ took ≡ line ++ 10 ∷ rest → has_newline line ≡ false → IsGoing (taken ++ took) (lines ++ line ∷ []) rest
+going-append : (taken pending took line rest : List ℕ) (lines : List (List ℕ)) → AreWholeLines taken lines pending
+    → pending ++ took ≡ line ++ 10 ∷ rest → has_newline line ≡ false → AreWholeLines (taken ++ took) (lines ++ line ∷ []) rest
 going-append taken pending took line rest lines going cut in_line = record {
   cut = ap (λ bytes. bytes ++ took) going.cut
       ∙ append_assoc (joined lines) pending took
@@ -79,13 +89,13 @@ going-append taken pending took line rest lines going cut in_line = record {
 }
 
 -- the bytes after a call that gave no line
-going-more : (taken pending took : List ℕ) (lines : List (List ℕ)) → IsGoing taken lines pending
+going-more : (taken pending took : List ℕ) (lines : List (List ℕ)) → AreWholeLines taken lines pending
     → taken ++ took ≡ joined lines ++ (pending ++ took)
 going-more taken pending took lines going =
     ap (λ bytes. bytes ++ took) going.cut ∙ append_assoc (joined lines) pending took
 
 -- the lines after one more line that the end of the source ends
-done-append : (taken pending took line : List ℕ) (lines : List (List ℕ)) → IsGoing taken lines pending
+done-append : (taken pending took line : List ℕ) (lines : List (List ℕ)) → AreWholeLines taken lines pending
     → pending ++ took ≡ line → has_newline line ≡ false → 0 < length line → lines_of (taken ++ took) ≡ lines ++ line ∷ []
 done-append taken pending took line lines going cut in_line some =
     ap lines_of (going-more taken pending took lines going ∙ ap (λ bytes. joined lines ++ bytes) cut)
@@ -93,7 +103,7 @@ done-append taken pending took line lines going cut in_line some =
     ∙ ap (λ later. lines ++ later) (lines_of-last line in_line some)
 
 -- the lines where no byte is left after them
-done-none : (taken pending took : List ℕ) (lines : List (List ℕ)) → IsGoing taken lines pending → pending ++ took ≡ []
+done-none : (taken pending took : List ℕ) (lines : List (List ℕ)) → AreWholeLines taken lines pending → pending ++ took ≡ []
     → lines_of (taken ++ took) ≡ lines
 done-none taken pending took lines going cut =
     ap lines_of (going-more taken pending took lines going ∙ ap (λ bytes. joined lines ++ bytes) cut)
@@ -104,7 +114,7 @@ done-none taken pending took lines going cut =
 given-next : {limit : ℕ} {taken : List ℕ} {lines : List (List ℕ)} {old : Held} {left : Option (List ℕ)} {took : List ℕ}
     {answer : Result Given LineFault} {new : Held} {left' : Option (List ℕ)} (line rest : List ℕ)
     (so_far : HasGiven limit taken lines old left) → Goes old took answer new → old.ended ≡ false
-    → IsGoing taken lines so_far.pending → (new.ended ≡ true → IsAtEnd left')
+    → AreWholeLines taken lines so_far.pending → (new.ended ≡ true → IsAtEnd left')
     → IsPending new rest → IsNext (so_far.pending ++ took) line rest new
     → HasGiven limit (taken ++ took) (lines ++ line ∷ []) new left'
 given-next {limit} {taken} {lines} {old} {left} {took} {answer} {new} {left'} line rest so_far goes unended going end pending (inl next) = record {
@@ -133,7 +143,7 @@ given-next {limit} {taken} {lines} {old} {left} {took} {answer} {new} {left'} li
 uncut-next : {limit : ℕ} {taken : List ℕ} {lines : List (List ℕ)} {old : Held} {left : Option (List ℕ)} {took : List ℕ}
     {answer : Result Given LineFault} {new : Held} {left' : Option (List ℕ)} (rest : List ℕ)
     (so_far : HasGiven limit taken lines old left) → Goes old took answer new
-    → IsGoing taken lines so_far.pending → (new.ended ≡ true → IsAtEnd left')
+    → AreWholeLines taken lines so_far.pending → (new.ended ≡ true → IsAtEnd left')
     → IsPending new rest → IsUncut (so_far.pending ++ took) rest new
     → HasGiven limit (taken ++ took) lines new left'
 uncut-next {limit} {taken} {lines} {old} {left} {took} {answer} {new} {left'} rest so_far goes going end pending uncut = record {
@@ -150,7 +160,7 @@ uncut-next {limit} {taken} {lines} {old} {left} {took} {answer} {new} {left'} re
 }
 
 -- the bytes of an unfinished line come last
-unfinished-next : (taken pending took rest : List ℕ) (lines : List (List ℕ)) (new : Held) → IsGoing taken lines pending
+unfinished-next : (taken pending took rest : List ℕ) (lines : List (List ℕ)) (new : Held) → AreWholeLines taken lines pending
     → IsUncut (pending ++ took) rest new → IsUnfinished (taken ++ took) lines
 unfinished-next taken pending took rest lines new going uncut = record {
   rest = pending ++ took;
@@ -163,7 +173,7 @@ unfinished-next taken pending took rest lines new going uncut = record {
 over-next : {limit : ℕ} {taken : List ℕ} {lines : List (List ℕ)} {old : Held} {left : Option (List ℕ)} {took : List ℕ}
     {answer : Result Given LineFault} {new : Held} {left' : Option (List ℕ)} (rest : List ℕ)
     (so_far : HasGiven limit taken lines old left) → Goes old took answer new
-    → IsGoing taken lines so_far.pending → (new.ended ≡ true → IsAtEnd left')
+    → AreWholeLines taken lines so_far.pending → (new.ended ≡ true → IsAtEnd left')
     → IsPending new rest → IsOver (so_far.pending ++ took) rest new
     → (lines_of (taken ++ took) ≡ lines) × IsAtEnd left' × HasGiven limit (taken ++ took) lines new left'
 over-next {limit} {taken} {lines} {old} {left} {took} {answer} {new} {left'} rest so_far goes going end pending over =
@@ -185,7 +195,7 @@ over-next {limit} {taken} {lines} {old} {left} {took} {answer} {new} {left'} res
 continues-open : (limit : ℕ) (taken : List ℕ) (lines : List (List ℕ)) (old : Held) (left : Option (List ℕ))
     (took : List ℕ) (answer : Result Given LineFault) (new : Held) (left' : Option (List ℕ))
     (so_far : HasGiven limit taken lines old left) → Goes old took answer new → old.ended ≡ false
-    → IsGoing taken lines so_far.pending → (new.ended ≡ true → IsAtEnd left')
+    → AreWholeLines taken lines so_far.pending → (new.ended ≡ true → IsAtEnd left')
     → Leaves old so_far.pending took answer new → Continues limit (taken ++ took) lines answer new left'
 continues-open limit taken lines old left took (Ok (Whole line)) new left' so_far goes unended going end leaves = (
   subst (λ (most : ℕ). length line ≤ most) so_far.limit_is leaves.cuts.1,
@@ -263,3 +273,14 @@ pub Continues-fault : (fault : LineFault) (limit : ℕ) (taken : List ℕ) (line
     → Continues limit taken lines (Err fault) reader left → IsUnfinished taken lines
 Continues-fault Read limit taken lines reader left continues = continues.0
 Continues-fault Spent limit taken lines reader left continues = continues.0
+
+first-by : (ended : Bool) (taken : List ℕ) (lines : List (List ℕ)) (pending : List ℕ) (left : Option (List ℕ)) → IsCut ended taken lines pending
+    → (ended ≡ true → IsAtEnd left) → AreFirstLines taken lines left
+first-by false taken lines pending left cut end = inl (pending, cut)
+first-by true taken lines pending left cut end = inr (record { cut = cut.cut; none_left = end refl })
+
+-- the lines given are the first of the bytes taken
+pub HasGiven-first : (limit : ℕ) (taken : List ℕ) (lines : List (List ℕ)) (reader : Held) (left : Option (List ℕ))
+    → HasGiven limit taken lines reader left → AreFirstLines taken lines left
+HasGiven-first limit taken lines reader left so_far =
+    first-by reader.ended taken lines so_far.pending left so_far.is_cut so_far.at_end

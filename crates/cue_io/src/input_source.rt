@@ -1,7 +1,7 @@
 //! Any reader of std as a source.
 ghost use Rattle.std.specs.Prelude.{◌≡◌, ◌<◌, ◌≤◌, true, false, None, length, take, IfOk, OnOk, OnErr, MatchResult, IsSome};
 ghost use Rattle.cue_io.specs.Adapters.{Inlet};
-ghost use Rattle.cue_io.specs.Faults.{HasRisen, counted};
+ghost use Rattle.cue_io.specs.Faults.{HasRisen, incremented};
 ghost use Rattle.cue_io.specs.Input.{Takes, IsAtEnd};
 
 use crate::source::{Source, SourceFault};
@@ -82,7 +82,7 @@ impl<R: Read + Drop> Source for InputSource<R> {
 
         // exactly what is counted
         ensures ok { OnOk result (self.new.faults ≡ self.old.faults) }
-        ensures err { OnErr result (self.new.faults ≡ counted self.old.faults) }
+        ensures err { OnErr result (self.new.faults ≡ incremented self.old.faults) }
     {
         match self.reader.read(into) {
             Ok(count) => {

@@ -1,7 +1,7 @@
 //! Any writer of std as a sink.
 ghost use Rattle.std.specs.Prelude.{◌≡◌, ◌<◌, ◌≤◌, None, if◌then◌else◌, length, take, IfOk, OnErr, IsSome};
 ghost use Rattle.cue_io.specs.Adapters.{Outlet, flushed};
-ghost use Rattle.cue_io.specs.Faults.{HasRisen, counted};
+ghost use Rattle.cue_io.specs.Faults.{HasRisen, incremented};
 ghost use Rattle.cue_io.specs.Memory.{takes_none};
 ghost use Rattle.cue_io.specs.Output.{Adds};
 ghost use Rattle.cue_io.specs.declared.sink.SinkFault.TheVariants.{Failed};
@@ -88,10 +88,10 @@ impl<W: Write + Drop> Sink for OutputSink<W> {
 
         // exactly what is counted, and that nothing is written after a flush that failed
         ensures ok { IfOk result (λ n. self.new.faults ≡
-            (if takes_none n (length piece.now) then counted self.old.faults else self.old.faults)) }
-        ensures err { OnErr result (self.new.faults ≡ counted self.old.faults) }
+            (if takes_none n (length piece.now) then incremented self.old.faults else self.old.faults)) }
+        ensures err { OnErr result (self.new.faults ≡ incremented self.old.faults) }
         ensures stays { 0 < self.old.unflushed →
-            (result ≡ Err Failed) × (self.new ≡ record self.old { faults = counted self.old.faults }) }
+            (result ≡ Err Failed) × (self.new ≡ record self.old { faults = incremented self.old.faults }) }
     {
         if 0 < self.unflushed {
             self.faults = self.faults.saturating_add(1);

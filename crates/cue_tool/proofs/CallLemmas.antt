@@ -1,5 +1,7 @@
 -- What came of one line that was awaited, by what the reader of lines gave.
 use Rattle.std.proofs.Common.{◌≡◌, ℕ, ◌<◌, true, false, List, [], length, take, drop, inl, inr, refl, sym, ap, subst, Option, Result, Ok, Err, arith, length-drop, take-append-drop}
+use Rattle.command_line.specs.declared.status.Status.{Status}
+use Rattle.command_line.specs.declared.status.Status.TheVariants as exit
 use Rattle.cue_io.specs.declared.line.Line.{Line}
 use Rattle.cue_io.specs.declared.line.LineFault.{LineFault}
 use Rattle.cue_io.specs.declared.line.LineFault.TheVariants as line_fault
@@ -31,7 +33,7 @@ ends_at : (old new : Held) (left : Option (List ℕ)) → old ≡ new_reader REP
 ends_at old new left is at_end ended = at_end (subst (λ (reader : Held). reader.ended ≡ false) (sym is) refl) ended
 
 -- a line came that may be a reply
-pub line_came : (words : List (List ℕ)) (status : ℕ) (line took printed : List ℕ) (returned : Result Line LineFault) (old new : Held) (left : Option (List ℕ))
+pub line_came : (words : List (List ℕ)) (status : Status) (line took printed : List ℕ) (returned : Result Line LineFault) (old new : Held) (left : Option (List ℕ))
     → old ≡ new_reader REPLY_LIMIT → given_by returned ≡ Ok (Whole line) → Goes old took (given_by returned) new → (old.ended ≡ false → new.ended ≡ true → IsAtEnd left)
     → OrRanOut (Answers (read_shown words line (reply_of line)) status printed) status printed → OrRanOut (Comes words status took printed left) status printed
 line_came words status line took printed returned old new left is whole goes at_end (inr ran_out) = inr ran_out
@@ -42,7 +44,7 @@ line_came words status line took printed returned old new left is whole goes at_
 -- a line came that is too long
 pub long_came : (words : List (List ℕ)) (took : List ℕ) (returned : Result Line LineFault) (old new : Held) (left : Option (List ℕ))
     → old ≡ new_reader REPLY_LIMIT → given_by returned ≡ Ok Long → Goes old took (given_by returned) new → (old.ended ≡ false → new.ended ≡ true → IsAtEnd left)
-    → OrRanOut (Comes words 11 took [] left) 11 []
+    → OrRanOut (Comes words exit.NoReply took [] left) exit.NoReply []
 long_came words took returned old new left is long goes at_end =
     let cuts = cuts_of old new took (Ok Long) is (subst (λ (answer : Result Given LineFault). Goes old took answer new) long goes) in
     inl (inr (inl (record { line = cuts.1.0; first = first_of took cuts.1.0 cuts.0 new left cuts.1.1 (ends_at old new left is at_end); long = cuts.1.2; status_is = refl; none_printed = refl })))
@@ -50,7 +52,7 @@ long_came words took returned old new left is long goes at_end =
 -- the input ended
 pub none_came : (words : List (List ℕ)) (took : List ℕ) (returned : Result Line LineFault) (old new : Held) (left : Option (List ℕ))
     → old ≡ new_reader REPLY_LIMIT → given_by returned ≡ Ok AtEnd → Goes old took (given_by returned) new → (old.ended ≡ false → new.ended ≡ true → IsAtEnd left)
-    → OrRanOut (Comes words 10 took [] left) 10 []
+    → OrRanOut (Comes words exit.InputEnded took [] left) exit.InputEnded []
 none_came words took returned old new left is ended goes at_end =
     let over = (cuts_of old new took (Ok AtEnd) is (subst (λ (answer : Result Given LineFault). Goes old took answer new) ended goes)).1 in
     inl (inr (inr (record {
@@ -62,7 +64,7 @@ none_came words took returned old new left is ended goes at_end =
 -- the read failed
 pub read_failed : (words : List (List ℕ)) (took : List ℕ) (returned : Result Line LineFault) (old new : Held) (left : Option (List ℕ))
     → old ≡ new_reader REPLY_LIMIT → given_by returned ≡ Err line_fault.Read → Goes old took (given_by returned) new
-    → OrRanOut (Comes words 4 took [] left) 4 []
+    → OrRanOut (Comes words exit.ReadFailed took [] left) exit.ReadFailed []
 read_failed words took returned old new left is failed goes =
     let gone = subst (λ (answer : Result Given LineFault). Goes old took answer new) failed goes in
     let cuts = (cuts_of old new took (Err line_fault.Read) is gone).1 in
@@ -72,7 +74,7 @@ read_failed words took returned old new left is failed goes =
 -- the bytes that one call takes are spent
 pub bytes_spent : (words : List (List ℕ)) (took : List ℕ) (returned : Result Line LineFault) (old new : Held) (left : Option (List ℕ))
     → old ≡ new_reader REPLY_LIMIT → given_by returned ≡ Err line_fault.Spent → Goes old took (given_by returned) new
-    → OrRanOut (Comes words 8 took [] left) 8 []
+    → OrRanOut (Comes words exit.Spent took [] left) exit.Spent []
 bytes_spent words took returned old new left is spent goes =
     let gone = subst (λ (answer : Result Given LineFault). Goes old took answer new) spent goes in
     let cuts = (cuts_of old new took (Err line_fault.Spent) is gone).1 in

@@ -1,4 +1,6 @@
 mod CallLemmas
+mod CompleteLemmas
 mod EndLemmas
 mod ListingLemmas
 mod ProgramLemmas
+mod ShownLemmas

@@ -2,7 +2,7 @@
 use Rattle.std.specs.Prelude.{ℕ, Bool, true, false, List, [], ◌∷◌, map, fold, ◌++◌, codes, decimal, Option, None, Some, if◌then◌else◌}
 use Rattle.std.specs.List.{list_all}
 use Rattle.cue_tables.specs.Tables.{table_text}
-use Rattle.farm_words.specs.Words.{host_word, job_word, kind_word, lock_word, state_word}
+use Rattle.state_names.specs.Words.{host_word, job_word, kind_word, lock_word, state_word}
 use Rattle.farm_lines.specs.declared.list_row.ListRow.{ListRow}
 use Rattle.farm_lines.specs.declared.list_row.ListRow.TheVariants as row
 use Rattle.farm_lines.specs.declared.list_row.RowKind.{RowKind}

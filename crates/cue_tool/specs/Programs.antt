@@ -1,16 +1,22 @@
 -- The whole work of the program: where it connects to, the file that it reads, and its call.
-use Rattle.std.specs.Prelude.{ℕ, ◌≡◌, Bool, true, false, List, [], ◌∷◌, codes, bytes_eq, Option, None, Some, Result, Ok, Err, ◌⊎◌, if◌then◌else◌}
+use Rattle.std.specs.Prelude.{ℕ, ◌≡◌, List, [], ◌∷◌, codes, bytes_eq, Option, None, Some, Result, Ok, Err, ◌⊎◌, if◌then◌else◌}
+use Rattle.command_line.specs.declared.status.Status.{Status}
+use Rattle.command_line.specs.declared.status.Status.TheVariants as exit
 use Rattle.cue_io.specs.Faults.{HasRisen}
 use Rattle.cue_words.specs.declared.asked.ToolWords.{ToolWords}
 use Rattle.cue_words.specs.declared.asked.ToolWords.TheVariants.{Ask, Help}
+use Rattle.cue_words.specs.declared.asked.WordsFault.{WordsFault}
 use Rattle.cue_words.specs.Commands.{words_of}
 use Rattle.cue_words.specs.Parts.{WordsError}
+use Rattle.cue_words.specs.Results.{IsWords}
 use Rattle.dialer.specs.declared.dial.DialFault.{DialFault}
 use Rattle.dialer.specs.declared.dial.DialFault.TheVariants as dial_faults
-use Rattle.dialer.specs.Dials.{Dial, Joined, Target, target_of}
+use Rattle.dialer.specs.Dials.{Connection, Dial, Target, dial_told, target_of}
+use Rattle.cue_tool.specs.declared.program.Wanted.{Wanted}
+use Rattle.cue_tool.specs.declared.program.Wanted.TheVariants as wanted
 use Rattle.cue_tool.specs.declared.program.SpecFault.{SpecFault}
 use Rattle.cue_tool.specs.declared.program.SpecFault.TheVariants as spec_faults
-use Rattle.cue_tool.specs.Calls.{Call, Ends, IsApart, IsCall, WriteFailed}
+use Rattle.cue_tool.specs.Calls.{Call, GoesApart, IsApart, IsCall, Streams, WriteFailed, streams}
 
 -- a file that was asked for, and its text, or why there is none
 pub record Opened : Type 0 where
@@ -28,67 +34,98 @@ pub record Run : Type 0 where
   pub opened : List Opened
   pub call : Call
 
--- whether a request is asked for
-abbrev pub is_request : Result ToolWords WordsError → Bool
-is_request (Ok (Ask line)) = true
-is_request (Ok Help) = false
-is_request (Err error) = false
+-- the output at one moment: what was printed, where that is told, and its count of faults
+pub record Output : Type 0 where
+  pub printed : Option (List ℕ)
+  pub faults : ℕ
 
--- the program ended with this status before its call: nothing was taken, sent or printed
-pub record EndsWith (ended status : ℕ) (call : Call) : Type 0 where
-  pub status_is : status ≡ ended
+abbrev pub output : Option (List ℕ) → ℕ → Output
+output printed faults = record { printed = printed; faults = faults }
+
+-- what a run comes to: its status, the connection that it gives back, if it had one, and the output before and after
+pub record Outcome : Type 0 where
+  pub status : Status
+  pub back : Option Connection
+  pub before : Output
+  pub after : Output
+
+abbrev pub outcome : Status → Option Connection → Output → Output → Outcome
+outcome status back before after = record { status = status; back = back; before = before; after = after }
+
+-- the streams of a call over a connection
+abbrev pub streams_over : Connection → Output → Streams
+streams_over connection out = streams connection.left connection.read_faults connection.written connection.write_faults out.printed out.faults
+
+-- the program ended with this status before it had a connection: nothing was taken, sent or printed
+pub record EndsWith (status : Status) (came : Outcome) (call : Call) : Type 0 where
+  pub status_is : came.status ≡ status
+  pub no_connection : came.back ≡ None
   pub apart : IsApart call
   pub none_printed : call.printed ≡ []
 
--- the call over a connection, or over nothing where none is needed, and its causes
-pub record HasCalled (words : List (List ℕ)) (spec : Option (List ℕ)) (status : ℕ) (call : Call) : Type 0 where
-  pub before : Ends
-  pub after : Ends
-  pub is_call : IsCall words spec status before after call
-  pub read : status ≡ 4 → HasRisen before.read_faults after.read_faults
-  pub write : status ≡ 5 → WriteFailed before after
+-- the call over a connection that began as told and is given back as it is then, and its causes
+pub record HasCalled (began ended : Connection) (words : List (List ℕ)) (spec : Option (List ℕ)) (came : Outcome) (call : Call) : Type 0 where
+  pub is_call : IsCall words spec came.status (streams_over began came.before) (streams_over ended came.after) call
+  pub read : came.status ≡ exit.ReadFailed → HasRisen began.read_faults ended.read_faults
+  pub write : came.status ≡ exit.WriteFailed → WriteFailed (streams_over began came.before) (streams_over ended came.after)
 
--- it is so, or memory ran out before the call
-abbrev pub OrNoMemory : Type 0 → ℕ → Call → Type 0
-OrNoMemory done status call = done ⊎ EndsWith 7 status call
-
--- the call over this connection
-abbrev pub HasCalledOver : Joined → List (List ℕ) → Option (List ℕ) → ℕ → Call → Type 0
-HasCalledOver joined words spec status call =
-    (called : HasCalled words spec status call) × (called.before.left ≡ joined.left) × (called.before.written ≡ joined.written)
+-- it is given back
+abbrev pub HasCalledOver : Connection → Option Connection → List (List ℕ) → Option (List ℕ) → Outcome → Call → Type 0
+HasCalledOver began None words spec came call = ⊥
+HasCalledOver began (Some ended) words spec came call = HasCalled began ended words spec came call
 
 -- what came of a connection
-abbrev pub Connects : Result Joined DialFault → List (List ℕ) → Option (List ℕ) → ℕ → Call → Type 0
-Connects (Ok joined) words spec status call = HasCalledOver joined words spec status call
-Connects (Err dial_faults.Failed) words spec status call = EndsWith 9 status call
-Connects (Err dial_faults.NoMemory) words spec status call = EndsWith 7 status call
+abbrev pub Connects : Result Connection DialFault → List (List ℕ) → Option (List ℕ) → Outcome → Call → Type 0
+Connects (Ok began) words spec came call = HasCalledOver began came.back words spec came call
+Connects (Err dial_faults.Failed) words spec came call = EndsWith exit.NoConnection came call
+Connects (Err dial_faults.NoMemory) words spec came call = EndsWith exit.NoMemory came call
 
--- It connects once where the words ask for a request, and else nowhere.
-abbrev pub Dials : Bool → Target → Option (List ℕ) → ℕ → List Dial → Call → Type 0
-Dials true target spec status dialled call = (came : Result Joined DialFault) × (dialled ≡ record { place = target.place; came = came } ∷ []) × Connects came target.words spec status call
-Dials false target spec status dialled call = (dialled ≡ []) × OrNoMemory (HasCalled target.words spec status call) status call
+-- it connects once, to that place
+pub record HasDialled (target : Target) (spec : Option (List ℕ)) (came : Outcome) (dialled : List Dial) (call : Call) : Type 0 where
+  pub joined : Result Connection DialFault
+  pub once : dialled ≡ dial_told target.place joined
+  pub connects : Connects joined target.words spec came call
+
+-- it connects nowhere
+pub record StaysApart (asked : Result ToolWords WordsError) (came : Outcome) (dialled : List Dial) (call : Call) : Type 0 where
+  pub none_dialled : dialled ≡ []
+  pub no_connection : came.back ≡ None
+  pub went : GoesApart asked came.status call
+  pub write : came.status ≡ exit.WriteFailed → HasRisen came.before.faults came.after.faults
+
+-- It connects where the words ask for a request, and else not.
+abbrev pub Dials : Result ToolWords WordsError → Target → Option (List ℕ) → Outcome → List Dial → Call → Type 0
+Dials (Ok (Ask line)) target spec came dialled call = HasDialled target spec came dialled call
+Dials (Ok Help) target spec came dialled call = StaysApart (Ok Help) came dialled call
+Dials (Err error) target spec came dialled call = StaysApart (Err error) came dialled call
 
 -- the words were read with this spec, or memory ran out for that
-abbrev pub Reads : Target → Option (List ℕ) → ℕ → List Dial → Call → Type 0
-Reads target spec status dialled call = Dials (is_request (words_of target.words spec)) target spec status dialled call ⊎ ((dialled ≡ []) × EndsWith 7 status call)
+abbrev pub Reads : Target → Option (List ℕ) → Outcome → List Dial → Call → Type 0
+Reads target spec came dialled call = Dials (words_of target.words spec) target spec came dialled call ⊎ ((dialled ≡ []) × EndsWith exit.NoMemory came call)
 
 -- what came of the spec's file
-abbrev pub Opens : Result (List ℕ) SpecFault → Target → ℕ → List Dial → Call → Type 0
-Opens (Ok text) target status dialled call = Reads target (Some text) status dialled call
-Opens (Err spec_faults.Unreadable) target status dialled call = (dialled ≡ []) × EndsWith 13 status call
-Opens (Err spec_faults.NoMemory) target status dialled call = (dialled ≡ []) × EndsWith 7 status call
+abbrev pub Opens : Result (List ℕ) SpecFault → Target → Outcome → List Dial → Call → Type 0
+Opens (Ok text) target came dialled call = Reads target (Some text) came dialled call
+Opens (Err spec_faults.Unreadable) target came dialled call = (dialled ≡ []) × EndsWith exit.UnreadableSpec came call
+Opens (Err spec_faults.NoMemory) target came dialled call = (dialled ≡ []) × EndsWith exit.NoMemory came call
 
 -- the file that the words name is read once, and no other
-abbrev pub RunsWith : Option (List ℕ) → Target → ℕ → Run → Type 0
-RunsWith None target status run = (run.opened ≡ []) × Reads target None status run.dialled run.call
-RunsWith (Some file) target status run =
-    (text : Result (List ℕ) SpecFault) × (run.opened ≡ record { file = file; text = text } ∷ []) × Opens text target status run.dialled run.call
+abbrev pub RunsWith : Option (List ℕ) → Target → Outcome → Run → Type 0
+RunsWith None target came run = (run.opened ≡ []) × Reads target None came run.dialled run.call
+RunsWith (Some file) target came run =
+    (text : Result (List ℕ) SpecFault) × (run.opened ≡ record { file = file; text = text } ∷ []) × Opens text target came run.dialled run.call
 
-abbrev pub IsRunAt : Option Target → ℕ → Run → Type 0
-IsRunAt None status run = (run.dialled ≡ []) × (run.opened ≡ []) × EndsWith 2 status run.call
-IsRunAt (Some target) status run = RunsWith (file_of target.words) target status run
+abbrev pub IsRunAt : Option Target → Outcome → Run → Type 0
+IsRunAt None came run = (run.dialled ≡ []) × (run.opened ≡ []) × EndsWith exit.WrongWords came run.call
+IsRunAt (Some target) came run = RunsWith (file_of target.words) target came run
 
--- A run of the program for the words after its name: without an address and a port it is status 2; then the file of `submit` is read; and then the words
+-- A run of the program for the words after its name: without an address and a port they are wrong; then the file of `submit` is read; and then the words
 -- are, which alone say whether it connects.
-abbrev pub IsRun : List (List ℕ) → ℕ → Run → Type 0
-IsRun words status run = IsRunAt (target_of words) status run
+abbrev pub IsRun : List (List ℕ) → Outcome → Run → Type 0
+IsRun words came run = IsRunAt (target_of words) came run
+
+-- what the words want, or exactly their fault, unless memory ran out
+abbrev pub IsWanted : Result Wanted WordsFault → Result ToolWords WordsError → Type 0
+IsWanted (Ok wanted.Reply) asked = (line : List ℕ) × (asked ≡ Ok (Ask line))
+IsWanted (Ok wanted.HelpText) asked = asked ≡ Ok Help
+IsWanted (Err fault) asked = IsWords (Err fault) asked

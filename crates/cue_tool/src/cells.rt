@@ -9,7 +9,7 @@ use farm_lines::{
     ListRow, ShownDepend, ShownFrame, ShownHost, ShownJob, ShownLayer, ShownProc, ShownSub,
 };
 use farm_types::{Items, Text};
-use farm_words::{host_word, job_word, kind_word, lock_word, state_word};
+use state_names::{host_word, job_word, kind_word, lock_word, state_word};
 use std::alloc::{AllocError, Global};
 
 /// The cells of each row.

@@ -9,4 +9,4 @@ mod run;
 mod shown;
 
 pub use program::{SpecFault, SpecFiles, run_program};
-pub use run::{Status, run_cue};
+pub use run::run_cue;

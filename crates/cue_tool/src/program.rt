@@ -1,23 +1,20 @@
 //! The program's whole work: the file of a job spec, a connection, and then the call.
 
-ghost use Rattle.std.specs.Prelude.{◌≡◌, List, [], ◌∷◌, IfOk, Option, Result, Some, option_map};
+ghost use Rattle.std.specs.Prelude.{◌≡◌, List, [], ◌∷◌, Option, None, Some, option_map};
+ghost use Rattle.cue_io.specs.Growth.{Grows};
 ghost use Rattle.cue_io.specs.Output.{Adds};
 ghost use Rattle.cue_words.specs.Commands.{words_of};
 ghost use Rattle.cue_tool.specs.Calls.{Call};
-ghost use Rattle.cue_io.specs.Growth.{Grows};
-ghost use Rattle.dialer.specs.Dials.{Dial, Joined, target_at};
-ghost use Rattle.cue_tool.specs.Programs.{Connects, HasCalled, HasCalledOver, IsRun, IsRunAt, Opened, OrNoMemory, Reads, Run, file_of, is_request};
+ghost use Rattle.dialer.specs.Dials.{Dial, connected, given_back, target_at};
+ghost use Rattle.cue_tool.specs.Programs.{HasCalled, HasDialled, IsRun, IsRunAt, IsWanted, Opened, Reads, Run, file_of, outcome, output};
 
-use crate::run::{NO_MEMORY, Status, WRONG_WORDS, run_cue};
-use cue_io::{MemorySink, MemorySource, Sink, Source};
+use crate::run::{print_help, run_cue};
+use command_line::Status;
+use cue_io::{Sink, Source};
 use cue_words::{ToolWords, WordsFault, read_words};
 use dialer::{DialFault, Dialer, target_of};
 use farm_types::Text;
-use std::alloc::{AllocError, Global};
-
-const NO_CONNECTION: Status = 9;
-
-const UNREADABLE_SPEC: Status = 13;
+use std::alloc::Global;
 
 /// Why a file gave no text.
 #[derive(Clone, Copy, Debug, PartialEq, Eq)]
@@ -36,22 +33,25 @@ pub trait SpecFiles {
         ensures { Grows (opened self.old) (opened self.new) (record { file = file.now; text = result } ∷ []) };
 }
 
-/// Runs the tool for the words after its name: an address, a port, and the words of `run_cue`. It connects only where those ask for a request.
+/// Runs the tool for the words after its name: an address, a port, and the words of `run_cue`. It connects only where those ask for a request, and gives the
+/// connection back as the call left it.
 pub fn run_program<D: Dialer, F: SpecFiles, O: Sink>(
     alloc: Global,
     words: &[Text],
     dialer: &mut D,
     files: &mut F,
     out: &mut O,
-) -> Status
+) -> (Status, Option<(D::In, D::Out)>)
     // What was read, where it connected to, what was taken, sent and printed, and why the status is this one.
-    ensures { (run : Run) × IsRun words.now result run
+    ensures { (run : Run) × IsRun words.now
+        (outcome result.0 (given_back D.In.left D.In.faults D.Out.written D.Out.faults result.1) (output (O.written out.old) (O.faults out.old))
+        (output (O.written out.new) (O.faults out.new))) run
         × Grows (D.dialled dialer.old) (D.dialled dialer.new) run.dialled
         × Grows (F.opened files.old) (F.opened files.new) run.opened
         × Adds (O.written out.old) (O.written out.new) run.call.printed }
 {
     let Some((address, port, command)) = target_of(words) else {
-        return WRONG_WORDS;
+        return (Status::WrongWords, None);
     };
     run_command(alloc, address, port, command, dialer, files, out)
 }
@@ -65,8 +65,10 @@ fn run_command<D: Dialer, F: SpecFiles, O: Sink>(
     dialer: &mut D,
     files: &mut F,
     out: &mut O,
-) -> Status
-    ensures { (run : Run) × IsRunAt (Some (target_at address.now words.now port)) result run
+) -> (Status, Option<(D::In, D::Out)>)
+    ensures { (run : Run) × IsRunAt (Some (target_at address.now words.now port))
+        (outcome result.0 (given_back D.In.left D.In.faults D.Out.written D.Out.faults result.1) (output (O.written out.old) (O.faults out.old))
+        (output (O.written out.new) (O.faults out.new))) run
         × Grows (D.dialled dialer.old) (D.dialled dialer.new) run.dialled
         × Grows (F.opened files.old) (F.opened files.new) run.opened
         × Adds (O.written out.old) (O.written out.new) run.call.printed }
@@ -84,8 +86,8 @@ fn run_command<D: Dialer, F: SpecFiles, O: Sink>(
             dialer,
             out,
         ),
-        Err(SpecFault::Unreadable) => UNREADABLE_SPEC,
-        Err(SpecFault::NoMemory) => NO_MEMORY,
+        Err(SpecFault::Unreadable) => (Status::UnreadableSpec, None),
+        Err(SpecFault::NoMemory) => (Status::NoMemory, None),
     }
 }
 
@@ -98,28 +100,38 @@ fn run_words<D: Dialer, O: Sink>(
     spec: Option<&str>,
     dialer: &mut D,
     out: &mut O,
-) -> Status
+) -> (Status, Option<(D::In, D::Out)>)
     ensures { (dialled : List Dial) × (call : Call)
-        × Reads (target_at address.now words.now port) (option_map (λ text. text.now) spec.entry) result dialled call
+        × Reads (target_at address.now words.now port) (option_map (λ text. text.now) spec.entry)
+        (outcome result.0 (given_back D.In.left D.In.faults D.Out.written D.Out.faults result.1) (output (O.written out.old) (O.faults out.old))
+        (output (O.written out.new) (O.faults out.new))) dialled call
         × Grows (D.dialled dialer.old) (D.dialled dialer.new) dialled
         × Adds (O.written out.old) (O.written out.new) call.printed }
 {
-    match asks_for_reply(alloc, words, spec) {
-        Ok(true) => run_connected(alloc, address, port, words, spec, dialer, out),
-        Ok(false) => run_apart(alloc, words, spec, out),
-        Err(_) => NO_MEMORY,
+    match wanted_by(alloc, words, spec) {
+        Ok(Wanted::Reply) => run_connected(alloc, address, port, words, spec, dialer, out),
+        Ok(Wanted::HelpText) => (print_help(out), None),
+        Err(WordsFault::Usage { .. }) => (Status::WrongWords, None),
+        Err(WordsFault::BadSpec) => (Status::WrongWords, None),
+        Err(WordsFault::NoMemory) => (Status::NoMemory, None),
     }
 }
 
-// Whether the words ask for a request, to which a reply comes.
-fn asks_for_reply(alloc: Global, words: &[Text], spec: Option<&str>) -> Result<bool, AllocError>
-    ensures { IfOk result (λ asks. asks ≡ is_request (words_of words.now (option_map (λ text. text.now) spec.entry))) }
+// What words ask for: a request's reply, or the help text.
+#[derive(Clone, Copy)]
+enum Wanted {
+    Reply,
+    HelpText,
+}
+
+// What the words want.
+fn wanted_by(alloc: Global, words: &[Text], spec: Option<&str>) -> Result<Wanted, WordsFault>
+    ensures { IsWanted result (words_of words.now (option_map (λ text. text.now) spec.entry)) }
 {
     match read_words(alloc, words, spec) {
-        Ok(ToolWords::Ask { .. }) => Ok(true),
-        Ok(ToolWords::Help) => Ok(false),
-        Err(WordsFault::Usage { .. } | WordsFault::BadSpec) => Ok(false),
-        Err(WordsFault::NoMemory) => Err(AllocError),
+        Ok(ToolWords::Ask { .. }) => Ok(Wanted::Reply),
+        Ok(ToolWords::Help) => Ok(Wanted::HelpText),
+        Err(fault) => Err(fault),
     }
 }
 
@@ -132,47 +144,41 @@ fn run_connected<D: Dialer, O: Sink>(
     spec: Option<&str>,
     dialer: &mut D,
     out: &mut O,
-) -> Status
-    ensures { (came : Result Joined DialFault) × (call : Call) × Connects came words.now (option_map (λ text. text.now) spec.entry) result call
-        × Grows (D.dialled dialer.old) (D.dialled dialer.new) (record { place = record { address = address.now; port = port }; came = came } ∷ [])
+) -> (Status, Option<(D::In, D::Out)>)
+    ensures { (dialled : List Dial) × (call : Call)
+        × HasDialled (target_at address.now words.now port) (option_map (λ text. text.now) spec.entry)
+        (outcome result.0 (given_back D.In.left D.In.faults D.Out.written D.Out.faults result.1) (output (O.written out.old) (O.faults out.old))
+        (output (O.written out.new) (O.faults out.new))) dialled call
+        × Grows (D.dialled dialer.old) (D.dialled dialer.new) dialled
         × Adds (O.written out.old) (O.written out.new) call.printed }
 {
     match dialer.dial(address, port) {
-        Ok((source, sink)) => run_over(alloc, words, spec, source, sink, out),
-        Err(DialFault::Failed) => NO_CONNECTION,
-        Err(DialFault::NoMemory) => NO_MEMORY,
+        Ok(ends) => {
+            let (status, ends) = run_over(alloc, words, spec, ends, out);
+            (status, Some(ends))
+        }
+        Err(DialFault::Failed) => (Status::NoConnection, None),
+        Err(DialFault::NoMemory) => (Status::NoMemory, None),
     }
 }
 
-// Runs the call over an empty source and a sink in memory, of which it needs neither.
-fn run_apart<O: Sink>(alloc: Global, words: &[Text], spec: Option<&str>, out: &mut O) -> Status
-    ensures { (call : Call) × OrNoMemory (HasCalled words.now (option_map (λ text. text.now) spec.entry) result call) result call
-        × Adds (O.written out.old) (O.written out.new) call.printed }
-{
-    let Ok(source) = MemorySource::make(alloc, &[], 1, &[]) else {
-        return NO_MEMORY;
-    };
-    let Ok(sink) = MemorySink::make(alloc, 1, 0, &[]) else {
-        return NO_MEMORY;
-    };
-    run_over(alloc, words, spec, source, sink, out)
-}
-
-// Runs the call over a source and a sink of its own.
+// Runs the call over the source and the sink of a connection, and gives them back.
 fn run_over<S: Source + Drop, W: Sink + Drop, O: Sink>(
     alloc: Global,
     words: &[Text],
     spec: Option<&str>,
-    source: S,
-    sink: W,
+    ends: (S, W),
     out: &mut O,
-) -> Status
-    ensures { (call : Call) × HasCalledOver (record { left = S.left source; written = W.written sink }) words.now (option_map (λ text. text.now) spec.entry) result call
+) -> (Status, (S, W))
+    ensures { (call : Call) × HasCalled (connected S.left S.faults W.written W.faults ends) (connected S.left S.faults W.written W.faults result.1) words.now
+        (option_map (λ text. text.now) spec.entry)
+        (outcome result.0 (Some (connected S.left S.faults W.written W.faults result.1)) (output (O.written out.old) (O.faults out.old))
+        (output (O.written out.new) (O.faults out.new))) call
         × Adds (O.written out.old) (O.written out.new) call.printed }
 {
-    let mut source = source;
-    let mut sink = sink;
-    run_cue(alloc, words, spec, &mut source, &mut sink, out)
+    let (mut source, mut sink) = ends;
+    let status = run_cue(alloc, words, spec, &mut source, &mut sink, out);
+    (status, (source, sink))
 }
 
 // The file of the job spec that the words name.

@@ -5,15 +5,11 @@ ghost use Rattle.farm_lines.specs.ReplyLines.{reply_of};
 ghost use Rattle.cue_tool.specs.Answers.{as_it_came, as_table, is_refusal, list_word, ok_shown, read_shown, shown_of};
 
 use crate::listing::listing;
-use crate::run::Status;
 use client_codec::{ReplyFault, read_reply};
+use command_line::Status;
 use farm_lines::Reply;
 use farm_types::{Items, Text};
 use std::alloc::{AllocError, Global};
-
-const OK: Status = 0;
-
-const REFUSED: Status = 1;
 
 /// A status, and the bytes that are printed with it.
 #[derive(Drop)]
@@ -47,7 +43,7 @@ fn shown_of(
     ensures { IfOk result (λ shown. shown ≡ shown_of words.now line.now reply.now) }
 {
     if is_refusal(reply) {
-        Ok(Some(as_it_came(alloc, REFUSED, line)?))
+        Ok(Some(as_it_came(alloc, Status::Refused, line)?))
     } else {
         ok_shown(alloc, list_word(words), line, reply)
     }
@@ -63,7 +59,7 @@ fn ok_shown(
     ensures { IfOk result (λ shown. shown ≡ ok_shown (option_map (λ word. word.now) what.entry) line.now reply.now) }
 {
     match (what, reply) {
-        (None, _) => Ok(Some(as_it_came(alloc, OK, line)?)),
+        (None, _) => Ok(Some(as_it_came(alloc, Status::Done, line)?)),
         (Some(what), Reply::List(list)) => Ok(listing(alloc, what, list)?.map(as_table)),
         (Some(_), _) => Ok(None),
     }
@@ -86,7 +82,7 @@ fn as_table(text: Text) -> Shown
     ensures { result ≡ as_table text }
 {
     Shown {
-        status: OK,
+        status: Status::Done,
         text: Items::from_vec(text.into_string().into_bytes()),
     }
 }

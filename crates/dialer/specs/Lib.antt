@@ -1,1 +1,2 @@
 pub mod Dials
+pub mod Memory

@@ -1,6 +1,7 @@
 //! What connects.
 
 use cue_io::{Sink, Source};
+use std::alloc::AllocError;
 
 /// Why there is no connection.
 #[derive(Clone, Copy, Debug, PartialEq, Eq)]
@@ -11,11 +12,23 @@ pub enum DialFault {
     NoMemory,
 }
 
-/// What connects to a place by its address and port. Where it can, it tells the connections that it was asked for, and what came of that.
+impl From<AllocError> for DialFault {
+    ghost use Rattle.std.specs.Prelude.{◌≡◌};
+    ghost use Rattle.dialer.specs.declared.dial.DialFault.TheVariants.{NoMemory};
+
+    ghost from_gives = { λ _ e. e ≡ NoMemory };
+
+    fn from(_: AllocError) -> DialFault {
+        DialFault::NoMemory
+    }
+}
+
+/// What connects to a place by its address and port. Where it can, it tells the connections that it was asked for, and what came of that, without those for
+/// which it found no memory. A connection is a source and a sink, each with what it tells, and with its count of faults.
 pub trait Dialer {
-    ghost use Rattle.std.specs.Prelude.{◌∷◌, [], List, Option};
+    ghost use Rattle.std.specs.Prelude.{List, Option};
     ghost use Rattle.cue_io.specs.Growth.{Grows};
-    ghost use Rattle.dialer.specs.Dials.{Dial, joined_by};
+    ghost use Rattle.dialer.specs.Dials.{Dial, came_by, dial_told, place_at};
 
     type In: Source + Drop;
 
@@ -25,5 +38,5 @@ pub trait Dialer {
 
     fn dial(&mut self, address: &str, port: u16) -> Result<(Self::In, Self::Out), DialFault>
         ensures { Grows (dialled self.old) (dialled self.new)
-            (record { place = record { address = address.now; port = port }; came = joined_by Self.In.left Self.Out.written result } ∷ []) };
+            (dial_told (place_at address.now port) (came_by Self.In.left Self.In.faults Self.Out.written Self.Out.faults result)) };
 }

@@ -3,7 +3,7 @@
 ghost use Rattle.std.specs.Prelude.{◌≡◌};
 ghost use Rattle.dialer.specs.Dials.{port_of};
 
-use number_words::number_of;
+use farm_lines::number_of;
 
 /// The port that 1 to 10 decimal digits write, where it is one from 1 to 65,535.
 pub fn port_of(text: &str) -> Option<u16>

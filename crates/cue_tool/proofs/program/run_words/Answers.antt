@@ -1,29 +1,60 @@
--- The words ask for a request, or for none.
-use Rattle.std.proofs.Common.{◌≡◌, ℕ, List, [], ◌∷◌, true, false, inr, refl, Option, option_map}
+-- The words ask for the help text, or for nothing, or memory ran out.
+use Rattle.std.proofs.Common.{◌≡◌, ℕ, List, [], inr, refl, None, Ok, Err, Option, option_map}
+use Rattle.command_line.specs.declared.status.Status.TheVariants as exit
+use Rattle.cue_io.specs.Growth.{Grows-none}
 use Rattle.cue_io.specs.Output.{Adds-none}
 use Rattle.cue_words.specs.Commands.{words_of}
-use Rattle.cue_io.specs.Growth.{Grows-none}
+use Rattle.cue_words.specs.Parts.{Usage, BadSpec}
+use Rattle.cue_words.specs.declared.asked.ToolWords.TheVariants.{Help}
 use Rattle.dialer.specs.Dials.{Target, target_at}
-use Rattle.cue_tool.specs.Programs.{is_request}
+use Rattle.cue_tool.specs.Programs.{Outcome, Output, outcome, output}
 use Rattle.cue_tool.proofs.EndLemmas.{no_call}
-use Rattle.cue_tool.proofs.ProgramLemmas.{apart, connected, ended}
+use Rattle.cue_tool.proofs.ProgramLemmas.{ended, reads_by, stayed, wants_bad, wants_help, wants_none}
 use Rattle.cue_tool.proofs.program.run_words.Goals as goal
 
-pub returns-in-Ok-true : goal.returns-in-Ok-true
-returns-in-Ok-true g c =
+pub returns-in-Ok-HelpText : goal.returns-in-Ok-HelpText
+returns-in-Ok-HelpText g c =
     let target : Target = target_at c.args.address.now c.args.words.now c.args.port in
     let spec : Option (List ℕ) = option_map (λ text. text.now) c.args.spec in
-    let asks : is_request (words_of c.args.words.now spec) ≡ true = cc (c.in-Ok-true.ensures, c.in-Ok-true.field-0-test) in
-    let ran = c.run_connected.ensures in
-    (record { place = target.place; came = ran.0 } ∷ [], ran.1, connected target spec c.run_connected.result ran.0 ran.1 asks ran.2, ran.3, ran.4)
+    let is : words_of c.args.words.now spec ≡ Ok Help = wants_help c.in-Ok-HelpText.field-0 _ c.in-Ok-HelpText.field-0-is c.in-Ok-HelpText.ensures in
+    let came : Outcome = outcome c.print_help.result None (output (g.O.Sink.written c.args.out.now) (g.O.Sink.faults c.args.out.now))
+    (output (g.O.Sink.written c.print_help.new.out) (g.O.Sink.faults c.print_help.new.out)) in
+    let printed = c.print_help.ensures.answers in (
+      [],
+      record { taken = []; sent = []; printed = printed.0 },
+      reads_by target spec came [] (record { taken = []; sent = []; printed = printed.0 }) (Ok Help) is
+          (record { none_dialled = refl; no_connection = refl; went = ((refl, refl), printed.2); write = c.print_help.ensures.write }),
+      Grows-none (g.D.Dialer.dialled c.args.dialer.now),
+      printed.1,
+    )
 
-pub returns-in-Ok-false : goal.returns-in-Ok-false
-returns-in-Ok-false g c =
+pub returns-in-Err-Usage : goal.returns-in-Err-Usage
+returns-in-Err-Usage g c =
     let target : Target = target_at c.args.address.now c.args.words.now c.args.port in
     let spec : Option (List ℕ) = option_map (λ text. text.now) c.args.spec in
-    let asks : is_request (words_of c.args.words.now spec) ≡ false = cc (c.in-Ok-false.ensures, c.in-Ok-false.field-0-test) in
-    let ran = c.run_apart.ensures in
-    ([], ran.0, apart target spec c.run_apart.result ran.0 asks ran.1, Grows-none (g.D.Dialer.dialled c.args.dialer.now), ran.2)
+    let out : Output = output (g.O.Sink.written c.args.out.now) (g.O.Sink.faults c.args.out.now) in (
+      [],
+      no_call,
+      reads_by target spec (outcome exit.WrongWords None out out) [] no_call (Err (Usage _))
+          (wants_none _ c.in-Err-Usage.field-0 _ c.in-Err-Usage.field-0-is c.in-Err-Usage.ensures) (stayed (Usage _) out),
+      Grows-none (g.D.Dialer.dialled c.args.dialer.now),
+      Adds-none (g.O.Sink.written c.args.out.now),
+    )
 
-pub returns-in-Err : goal.returns-in-Err
-returns-in-Err g c = ([], no_call, inr (refl, ended 7), Grows-none (g.D.Dialer.dialled c.args.dialer.now), Adds-none (g.O.Sink.written c.args.out.now))
+pub returns-in-Err-BadSpec : goal.returns-in-Err-BadSpec
+returns-in-Err-BadSpec g c =
+    let target : Target = target_at c.args.address.now c.args.words.now c.args.port in
+    let spec : Option (List ℕ) = option_map (λ text. text.now) c.args.spec in
+    let out : Output = output (g.O.Sink.written c.args.out.now) (g.O.Sink.faults c.args.out.now) in (
+      [],
+      no_call,
+      reads_by target spec (outcome exit.WrongWords None out out) [] no_call (Err BadSpec)
+          (wants_bad c.in-Err-BadSpec.field-0 _ c.in-Err-BadSpec.field-0-is c.in-Err-BadSpec.ensures) (stayed BadSpec out),
+      Grows-none (g.D.Dialer.dialled c.args.dialer.now),
+      Adds-none (g.O.Sink.written c.args.out.now),
+    )
+
+pub returns-in-Err-NoMemory : goal.returns-in-Err-NoMemory
+returns-in-Err-NoMemory g c =
+    let out : Output = output (g.O.Sink.written c.args.out.now) (g.O.Sink.faults c.args.out.now) in
+    ([], no_call, inr (refl, ended exit.NoMemory out), Grows-none (g.D.Dialer.dialled c.args.dialer.now), Adds-none (g.O.Sink.written c.args.out.now))

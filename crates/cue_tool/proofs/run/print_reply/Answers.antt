@@ -62,3 +62,6 @@ returns-in-Err-Spent-clause-came g c =
       Adds-none (g.O.Sink.written c.args.out.now),
       bytes_spent c.args.words.now moves.took c.next.result c.args.reader.now c.next.follows.lender-at-none (g.S.Source.left c.next.new.source) c.requires is moves.goes,
     )
+
+pub returns-in-Ok-Bytes-clause-read : goal.returns-in-Ok-Bytes-clause-read
+returns-in-Ok-Bytes-clause-read g c failed = absurd (c.print_line.ensures.reads_nothing failed)
