@@ -1,6 +1,7 @@
 //! A child program, and the thread that waits for it.
 
 ghost use Rattle.std.specs.Prelude.{◌≡◌, IfOk};
+ghost use Rattle.child_spawner.specs.Children.{is_child_of};
 
 use crate::exits::exit_told;
 use crate::faults::fault_of;
@@ -64,6 +65,13 @@ impl Child {
                 Err(fault_of(error.kind()))
             }
         }
+    }
+
+    /// Whether it is the attempt's: another attempt of the same slot has another child.
+    pub fn is_of(&self, attempt: &Attempt) -> bool
+        ensures { result ≡ is_child_of attempt.now self.now }
+    {
+        self.attempt.slot == attempt.slot && self.attempt.version == attempt.version
     }
 
     /// How it ended, where it has.

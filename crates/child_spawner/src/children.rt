@@ -1,6 +1,8 @@
 //! The spawner over child programs.
 
 ghost use Rattle.std.specs.Prelude.{◌≡◌, ◌<◌, ◌≤◌, None, IfSome, vec_len};
+ghost use Rattle.std.specs.List.{position};
+ghost use Rattle.child_spawner.specs.Children.{is_child_of};
 ghost use Rattle.cue_io.specs.Faults.{HasRisen};
 ghost use Rattle.rqd_launcher.specs.declared.spawner.SpawnFault.TheVariants.{Failed};
 
@@ -53,11 +55,10 @@ impl<R> ChildSpawner<R> {
 
     // The place of an attempt's child.
     fn place(&self, attempt: &Attempt) -> Option<usize>
-        ensures { IfSome result (λ place. place < vec_len self.now.children) }
+        ensures place { result ≡ position (is_child_of attempt.now) self.now.children.items }
+        ensures within { IfSome result (λ place. place < vec_len self.now.children) }
     {
-        self.children
-            .iter()
-            .position(|child| child.attempt == *attempt)
+        self.children.iter().position(|child| child.is_of(attempt))
     }
 }
 

@@ -18,6 +18,29 @@ const OTHER: Attempt = Attempt {
     version: Version(1),
 };
 
+// A later attempt of the first slot.
+const AGAIN: Attempt = Attempt {
+    slot: Slot(0),
+    version: Version(2),
+};
+
+// Ends with 3 where it has nothing to read, and what it writes goes nowhere.
+const SILENT: &str =
+    "for stream in stdin stdout stderr; do test /dev/$stream -ef /dev/null || exit 4; done; exit 3";
+
+// Ends with 0 once no child of the daemon's has ended that isn't waited for, and with 1 where there is one for ten seconds.
+const ALL_WAITED_FOR: &str = "\
+for second in 0 1 2 3 4 5 6 7 8 9; do
+    left=
+    for process in /proc/[0-9]*/stat; do
+        read -r _ _ state parent _ <$process || continue
+        test \"$state $parent\" = \"Z $PPID\" && left=yes
+    done
+    test -z \"$left\" && exit 0
+    sleep 1
+done
+exit 1";
+
 // How many polls a child has to end, with a pause of 10 ms after each.
 const MOST_POLLS: u32 = 2_000;
 
@@ -46,12 +69,25 @@ fn exit(status: u32, signal: u32) -> Option<Exit> {
 fn a_command_ends_with_its_status(rt: HostRuntime) -> Result<(), Fail> {
     let alloc = rt.alloc();
     let mut spawner = ChildSpawner::make(alloc, rt);
-    spawner.start(alloc, FIRST, "exit 3")?;
+    spawner.start(alloc, FIRST, SILENT)?;
     spawner.start(alloc, OTHER, "/no/such/command")?;
     assert_eq!(rt; ended(&rt, alloc, &mut spawner, &FIRST)?, exit(3, 0));
     assert_eq!(rt; ended(&rt, alloc, &mut spawner, &OTHER)?, exit(127, 0));
     assert_eq!(rt; spawner.poll(alloc, FIRST)?, None);
     assert_eq!(rt; spawner.faults(), 0);
+    Ok(())
+}
+
+#[test]
+fn an_older_attempt_of_a_slot_is_another_one(rt: HostRuntime) -> Result<(), Fail> {
+    let alloc = rt.alloc();
+    let mut spawner = ChildSpawner::make(alloc, rt);
+    spawner.start(alloc, FIRST, "sleep 100")?;
+    spawner.start(alloc, AGAIN, "exit 5")?;
+    assert_eq!(rt; ended(&rt, alloc, &mut spawner, &AGAIN)?, exit(5, 0));
+    assert_eq!(rt; spawner.poll(alloc, FIRST)?, None);
+    spawner.stop(alloc, FIRST)?;
+    assert_eq!(rt; ended(&rt, alloc, &mut spawner, &FIRST)?, exit(1, 9));
     Ok(())
 }
 
@@ -65,6 +101,8 @@ fn a_stop_ends_all_that_a_command_started(rt: HostRuntime) -> Result<(), Fail> {
     assert_eq!(rt; ended(&rt, alloc, &mut spawner, &FIRST)?, exit(1, 9));
     spawner.stop(alloc, FIRST)?;
     spawner.stop(alloc, OTHER)?;
+    spawner.start(alloc, AGAIN, ALL_WAITED_FOR)?;
+    assert_eq!(rt; ended(&rt, alloc, &mut spawner, &AGAIN)?, exit(0, 0));
     assert_eq!(rt; spawner.faults(), 0);
     Ok(())
 }

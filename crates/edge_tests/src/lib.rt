@@ -1,5 +1,5 @@
-//! Tests of the trusted edges: what no clause says of readers, writers, streams and clocks of std under `cue_io`, and of child programs under
-//! `child_spawner`.
+//! Tests of the trusted edges: what no clause says of readers, writers and clocks of std under `cue_io`, of command lines under `command_line`, of connections under
+//! `dialer`, and of child programs and rests under `child_spawner`.
 #![tactic(auto)]
 
 #[cfg(test)]
@@ -7,7 +7,11 @@ mod children;
 #[cfg(test)]
 mod clocks;
 #[cfg(test)]
+mod command_lines;
+#[cfg(test)]
 mod readers;
+#[cfg(test)]
+mod rests;
 #[cfg(test)]
 mod streams;
 #[cfg(test)]

@@ -1,21 +1,26 @@
-//! A TCP stream is a source and a sink.
+//! A connection over the network is a source and a sink.
 use cue_io::{InputSource, Line, LineReader, OutputSink, write_all};
-use std::net::{Ipv4Addr, SocketAddr, TcpListener, TcpStream};
+use dialer::{Dialer, NetDialer};
+use std::net::{Ipv4Addr, SocketAddr, TcpListener};
 use std::test::Fail;
 
 #[test]
-fn lines_go_both_ways_over_loopback(rt: HostRuntime) -> Result<(), Fail> {
+fn lines_go_both_ways_to_the_place_that_was_dialled(rt: HostRuntime) -> Result<(), Fail> {
     let listener = TcpListener::bind(&rt, SocketAddr::from((Ipv4Addr::LOCALHOST, 0)))?;
-    let near = TcpStream::connect(&rt, listener.local_addr()?)?;
+    let port = listener.local_addr()?.port();
+    let dialled = NetDialer::make(rt.clone()?).dial("127.0.0.1", port);
+    assert!(rt; dialled.is_ok());
+    let Ok((replied, asks)) = dialled else {
+        return Ok(());
+    };
+    let (mut replied, mut asks) = (replied, asks);
     let (far, _) = listener.accept()?;
-    let mut asks = OutputSink::make(near.try_clone()?);
     let mut asked = InputSource::make(far.try_clone()?);
     let mut lines = LineReader::make(rt.alloc(), 8)?;
     assert_eq!(rt; write_all(&mut asks, b"one\ntwo\n"), Ok(()));
     assert_eq!(rt; lines.next(&mut asked), Ok(Line::Bytes(b"one")));
     assert_eq!(rt; lines.next(&mut asked), Ok(Line::Bytes(b"two")));
     let mut replies = OutputSink::make(far);
-    let mut replied = InputSource::make(near);
     let mut reply_lines = LineReader::make(rt.alloc(), 8)?;
     assert_eq!(rt; write_all(&mut replies, b"yes\n"), Ok(()));
     assert_eq!(rt; reply_lines.next(&mut replied), Ok(Line::Bytes(b"yes")));

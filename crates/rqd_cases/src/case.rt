@@ -11,6 +11,9 @@ use std::alloc::Global;
 #[derive(Drop)]
 pub struct Case {
     pub words: Items<Text>,
+    /// Whether the words are those of the whole program, which connects first, and whether somebody listens then.
+    pub connects: bool,
+    pub is_reached: bool,
     /// How the source gives bytes, and how the sink takes them.
     pub reads: Moves,
     pub writes: Moves,
@@ -23,6 +26,8 @@ pub struct Case {
     pub requests: Vec<u8>,
     /// The calls of its spawner, with their answers.
     pub calls: Vec<u8>,
+    /// The places that it connects to.
+    pub places: Vec<u8>,
     pub status: u8,
 }
 
@@ -31,6 +36,8 @@ impl Case {
     pub fn new(alloc: Global) -> Case {
         Case {
             words: Items::new(alloc),
+            connects: false,
+            is_reached: true,
             reads: Moves::new(alloc),
             writes: Moves::new(alloc),
             exits: Vec::new(alloc),
@@ -38,6 +45,7 @@ impl Case {
             replies: Vec::new(alloc),
             requests: Vec::new(alloc),
             calls: Vec::new(alloc),
+            places: Vec::new(alloc),
             status: 0,
         }
     }
@@ -45,10 +53,13 @@ impl Case {
 
 impl Told for Case {
     fn is_pasted(&self, line: &str) -> bool {
-        line.starts_with('>') || line.starts_with('<') || line.starts_with('*')
+        line.starts_with('>')
+            || line.starts_with('<')
+            || line.starts_with('*')
+            || line.starts_with('@')
     }
 
-    // Takes a request, a reply or a call of the spawner.
+    // Takes a request, a reply, a call of the spawner or a place.
     fn paste(&mut self, alloc: Global, line: &str) -> Result<(), LineFault> {
         if let Some(request) = line.strip_prefix('>') {
             add_line(alloc, &mut self.requests, request)
@@ -56,6 +67,8 @@ impl Told for Case {
             add_line(alloc, &mut self.replies, reply)
         } else if let Some(call) = line.strip_prefix('*') {
             add_line(alloc, &mut self.calls, call)
+        } else if let Some(place) = line.strip_prefix('@') {
+            add_line(alloc, &mut self.places, place)
         } else {
             Err(LineFault::Malformed)
         }
@@ -65,6 +78,11 @@ impl Told for Case {
     fn set(&mut self, alloc: Global, name: &str, value: &str) -> Result<(), LineFault> {
         match name {
             "words" => self.words = words_of(alloc, value)?,
+            "program" => {
+                self.words = words_of(alloc, value)?;
+                self.connects = true;
+            }
+            "listener" => self.is_reached = value != "none",
             "reads" => self.reads.most = most_bytes_of(value)?,
             "writes" => self.writes.most = most_bytes_of(value)?,
             "capacity" => self.writes.capacity = bytes_of(value)?,

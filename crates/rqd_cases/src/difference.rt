@@ -4,6 +4,7 @@ use crate::case::Case;
 use crate::life::{Life, run};
 use crate::spawner_calls::call_lines;
 use case_text::{line_difference, status_difference, take_lines};
+use cue_io::{MemorySink, MemorySource};
 use std::alloc::{AllocError, Global};
 
 /// Runs the life of a case, behind the shared lines of its file, and says what differed first from what it tells.
@@ -23,22 +24,16 @@ fn malformed(alloc: Global, line: &str) -> Result<Option<String>, AllocError> {
     Ok(Some(format!(in alloc; "the case has a malformed line: {line}")?))
 }
 
-// The first request, call or count that is another one.
+// The first place, request, call or count that is another one.
 fn life_difference(alloc: Global, case: &Case, life: &Life) -> Result<Option<String>, AllocError> {
-    if let Some(found) = line_difference(alloc, "request", &case.requests, life.sink.written())? {
+    if let Some(found) = line_difference(alloc, "place", &case.places, life.places.as_bytes())? {
+        return Ok(Some(found));
+    }
+    if let Some(found) = stream_difference(alloc, case, life)? {
         return Ok(Some(found));
     }
     let calls = call_lines(alloc, life.spawner.calls())?;
     if let Some(found) = line_difference(alloc, "call", &case.calls, calls.as_bytes())? {
-        return Ok(Some(found));
-    }
-    if let Some(found) = status_difference(
-        alloc,
-        case.status,
-        life.status,
-        &life.source,
-        &life.sink,
-    )? {
         return Ok(Some(found));
     }
     fault_difference(
@@ -46,6 +41,39 @@ fn life_difference(alloc: Global, case: &Case, life: &Life) -> Result<Option<Str
         case.failing_calls.len() as u64,
         life.spawner.faults(),
     )
+}
+
+// The first request that is another one, another status, or another number of reads and writes that failed; of a life without a connection only the status can be.
+fn stream_difference(
+    alloc: Global,
+    case: &Case,
+    life: &Life,
+) -> Result<Option<String>, AllocError> {
+    match &life.ends {
+        Some((source, sink)) => connection_difference(alloc, case, life, source, sink),
+        None => code_difference(alloc, case.status, life.status.code()),
+    }
+}
+
+fn connection_difference(
+    alloc: Global,
+    case: &Case,
+    life: &Life,
+    source: &MemorySource,
+    sink: &MemorySink,
+) -> Result<Option<String>, AllocError> {
+    if let Some(found) = line_difference(alloc, "request", &case.requests, sink.written())? {
+        return Ok(Some(found));
+    }
+    status_difference(alloc, case.status, life.status.code(), source, sink)
+}
+
+// Another status.
+fn code_difference(alloc: Global, told: u8, came: u8) -> Result<Option<String>, AllocError> {
+    if told == came {
+        return Ok(None);
+    }
+    Ok(Some(format!(in alloc; "the status is {came} and should be {told}, without a connection")?))
 }
 
 // Another number of spawner calls that failed.

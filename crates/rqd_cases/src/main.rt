@@ -5,6 +5,7 @@ mod attempts;
 mod case;
 mod difference;
 mod life;
+mod places;
 mod spawner_calls;
 
 use case_text::{Cases, run_files};

@@ -20,9 +20,9 @@ use Rattle.rqd_core.specs.declared.orders.RqdFault.{RqdFault}
 use Rattle.rqd_core.specs.declared.planned.Planned.{Planned}
 use Rattle.rqd_core.specs.declared.running.Running.{Running}
 use Rattle.rqd_core.specs.declared.taking.Taking.{Taking}
-use Rattle.rqd_core.specs.Keeping.{AreStarted, CanInstall, Follows, IsReadyFor, IsStarting, IsTaken, IsWithin, taking_for}
+use Rattle.rqd_core.specs.Keeping.{AreStarted, CanInstall, Follows, IsReadyFor, IsStarting, ComesTo, IsWithin, taking_for}
 use Rattle.rqd_core.specs.Life.{Life, attempts_of, cores_of, is_run, without}
-use Rattle.rqd_core.specs.Replies.{after_report, all_launched, answered, code_of, first_taking, is_done, is_of_boot, is_of_report, launched, no_orders, not_latest, placed, refused_with, run_of, started, take_boot, take_line, take_other, take_read, take_reply, take_report, unfit}
+use Rattle.rqd_core.specs.Replies.{after_report, all_launched, answered, code_of, first_taking, is_done, is_of_boot, is_of_report, launched, no_orders, not_latest, placed, refused_with, running_among, started, take_boot, take_line, take_other, take_read, take_reply, take_report, unfit}
 
 -- ---- attempts that differ
 
@@ -215,7 +215,7 @@ ok_orders o = Ok o
 pub taken : (l : Life) (r : ReportReply) → IsWithin l.running l.config.cores → IsTaking l.running l.config.cores (taking_for l r)
 taken l r within = all_launched_keeps l.running l.config.cores (first_taking l r.acks) r.launches (first_keeps l r.acks within)
 
-module _ (l : Life) (r : ReportReply) (p : Planned) (within : IsWithin l.running l.config.cores) (ready : IsReadyFor (taking_for l r) (run_of l.running r.kills) p) where
+module _ (l : Life) (r : ReportReply) (p : Planned) (within : IsWithin l.running l.config.cores) (ready : IsReadyFor (taking_for l r) (running_among l.running r.kills) p) where
   can_install : CanInstall l p
   can_install = record {
     within = subst (λ (rs : List Running). IsWithin rs l.config.cores) (sym ready.running) (taken_within l.running l.config.cores (taking_for l r) (taken l r within));
@@ -230,11 +230,11 @@ module _ (l : Life) (r : ReportReply) (p : Planned) (within : IsWithin l.running
     told = ap (λ (o : Orders). ok_orders o) (sym ready.orders);
   }
 
-pub all_follow : {E : Type 0} (l : Life) (r : ReportReply) (t : Taking) (stops : List Attempt) (result : Result Planned E) → IsWithin l.running l.config.cores → t ≡ taking_for l r → stops ≡ run_of l.running r.kills
+pub all_follow : {E : Type 0} (l : Life) (r : ReportReply) (t : Taking) (stops : List Attempt) (result : Result Planned E) → IsWithin l.running l.config.cores → t ≡ taking_for l r → stops ≡ running_among l.running r.kills
     → IfOk result (IsReadyFor t stops) → IfOk result (Follows l r)
 all_follow l r t stops (Err e) within taken stopped ready = tt
 all_follow l r t stops (Ok p) within taken stopped ready =
-    follows l r p within (subst (λ (u : Taking). IsReadyFor u (run_of l.running r.kills) p) taken (subst (λ (ss : List Attempt). IsReadyFor t ss p) stopped ready))
+    follows l r p within (subst (λ (u : Taking). IsReadyFor u (running_among l.running r.kills) p) taken (subst (λ (ss : List Attempt). IsReadyFor t ss p) stopped ready))
 
 -- ---- a life that begins
 
@@ -283,7 +283,7 @@ read_starts l None within = tt
 read_starts l (Some r) within = reply_starts l r within
 
 -- so are the starts that a call answers
-pub starts_told : (l : Life) (line : List ℕ) (result : Result Orders RqdFault) (new : Life) → IsWithin l.running l.config.cores → IsTaken l (take_line l line) result new
+pub starts_told : (l : Life) (line : List ℕ) (result : Result Orders RqdFault) (new : Life) → IsWithin l.running l.config.cores → ComesTo l (take_line l line) result new
     → IfOk result (λ (o : Orders). AreStarted o.starts new.running)
 starts_told l line (Err fault) new within is = tt
 starts_told l line (Ok o) new within is =

@@ -37,9 +37,9 @@ pub record AreStarted (starts : List Launch) (running : List Running) : Type 0 w
   pub run : All (λ (l : Launch). is_run l.attempt running ≡ true) starts
 
 -- what a reply comes to is what the call answers and leaves; where memory ran out nothing has changed
-abbrev pub IsTaken : Life → Taken → Result Orders RqdFault → Life → Type 0
-IsTaken old taken (Err fault.NoMemory) new = new ≡ old
-IsTaken old taken result new = (result ≡ taken.told) × (new ≡ taken.life)
+abbrev pub ComesTo : Life → Taken → Result Orders RqdFault → Life → Type 0
+ComesTo old taken (Err fault.NoMemory) new = new ≡ old
+ComesTo old taken result new = (result ≡ taken.told) × (new ≡ taken.life)
 
 -- ---- what the reply to the latest report leaves
 

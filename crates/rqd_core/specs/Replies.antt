@@ -69,8 +69,8 @@ abbrev pub not_acked : List Attempt → List DoneItem → List DoneItem
 not_acked acks finished = filter (λ (d : DoneItem). not (list_any (is_same d.attempt) acks)) finished
 
 -- what of these attempts it runs
-abbrev pub run_of : List Running → List Attempt → List Attempt
-run_of running attempts = filter (λ a. is_run a running) attempts
+abbrev pub running_among : List Running → List Attempt → List Attempt
+running_among running attempts = filter (λ a. is_run a running) attempts
 
 -- the lists before the launches, once the acknowledgements are taken
 abbrev pub first_taking : Life → List Attempt → Taking
@@ -80,7 +80,7 @@ first_taking l acks =
 abbrev pub ordered : Life → List Attempt → Taking → Taken
 ordered l kills t = record {
   life = record l { running = t.running; finished = t.finished };
-  told = Ok (record { starts = t.starts; stops = run_of l.running kills; refused = t.refused });
+  told = Ok (record { starts = t.starts; stops = running_among l.running kills; refused = t.refused });
 }
 
 -- acknowledgements first, then kills, then launches

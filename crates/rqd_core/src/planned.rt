@@ -8,7 +8,7 @@ ghost use Rattle.rqd_core.specs.Replies.{first_taking};
 use crate::orders::Orders;
 use crate::rqd::Rqd;
 use crate::running::{Running, cores_of};
-use crate::taking::{Taking, launch_all, not_acked, run_of};
+use crate::taking::{Taking, launch_all, not_acked, running_among};
 use farm_lines::ReportReply;
 use farm_types::{Attempt, Cores, DoneItem, Items};
 use std::alloc::{AllocError, Global};
@@ -26,7 +26,7 @@ pub struct Planned {
 pub(crate) fn plan(alloc: Global, rqd: &Rqd, report: ReportReply) -> Result<Planned, AllocError>
     ensures { IfOk result (λ planned. Follows rqd.now report planned) }
 {
-    let stops = run_of(alloc, rqd.running.as_slice(), report.kills.as_slice())?;
+    let stops = running_among(alloc, rqd.running.as_slice(), report.kills.as_slice())?;
     let mut taking = first_taking(alloc, rqd, report.acks.as_slice())?;
     launch_all(&mut taking, report.launches.into_vec())?;
     with_room(alloc, taking, stops)

@@ -1,7 +1,7 @@
 //! What replies do to a life.
 
 ghost use Rattle.std.specs.Prelude.{◌≡◌, Ok, IfOk, OnErr};
-ghost use Rattle.rqd_core.specs.Keeping.{IsTaken};
+ghost use Rattle.rqd_core.specs.Keeping.{ComesTo};
 ghost use Rattle.rqd_core.specs.Replies.{after_refusal, after_report, after_why, answered, code_of, is_of_boot, is_of_report, no_orders, take_boot, take_line, take_other, take_reply, take_report, take_short};
 
 use crate::codes::code_of;
@@ -17,7 +17,7 @@ use std::alloc::{AllocError, Global};
 impl Rqd {
     // What a line orders.
     pub(crate) fn take_line(&mut self, alloc: Global, line: &[u8]) -> Result<Orders, RqdFault>
-        ensures { IsTaken self.old (take_line self.old line.now) result self.new }
+        ensures { ComesTo self.old (take_line self.old line.now) result self.new }
     {
         match read_reply(alloc, line) {
             Ok(reply) => self.take(alloc, reply),
@@ -28,7 +28,7 @@ impl Rqd {
 
     // What a reply orders.
     fn take(&mut self, alloc: Global, reply: Reply) -> Result<Orders, RqdFault>
-        ensures { IsTaken self.old (take_reply self.old reply) result self.new }
+        ensures { ComesTo self.old (take_reply self.old reply) result self.new }
     {
         match reply {
             Reply::Report(report) => self.take_report(alloc, report),
@@ -37,7 +37,7 @@ impl Rqd {
     }
 
     fn take_report(&mut self, alloc: Global, report: ReportReply) -> Result<Orders, RqdFault>
-        ensures { IsTaken self.old (take_report self.old report) result self.new }
+        ensures { ComesTo self.old (take_report self.old report) result self.new }
     {
         if is_of_report(&report, self.awaited) {
             Ok(self.follow(alloc, report)?)
@@ -57,7 +57,7 @@ impl Rqd {
     }
 
     fn take_short(&mut self, alloc: Global, reply: &Reply) -> Result<Orders, RqdFault>
-        ensures { IsTaken self.old (take_short self.old reply.now) result self.new }
+        ensures { ComesTo self.old (take_short self.old reply.now) result self.new }
     {
         match reply {
             Reply::Boot { boot, nonce } => self.take_boot(alloc, *boot, *nonce),
@@ -66,7 +66,7 @@ impl Rqd {
     }
 
     fn take_boot(&mut self, alloc: Global, boot: u32, nonce: u64) -> Result<Orders, RqdFault>
-        ensures { IsTaken self.old (take_boot self.old boot nonce) result self.new }
+        ensures { ComesTo self.old (take_boot self.old boot nonce) result self.new }
     {
         if !is_of_boot(self.config.nonce, nonce, self.awaited) {
             return Err(RqdFault::NotLatest { seq: 0 });
@@ -77,7 +77,7 @@ impl Rqd {
     }
 
     fn take_other(&mut self, reply: &Reply) -> Result<Orders, RqdFault>
-        ensures { IsTaken self.old (take_other self.old reply.now (code_of reply.now)) result self.new }
+        ensures { ComesTo self.old (take_other self.old reply.now (code_of reply.now)) result self.new }
     {
         let Some(code) = code_of(reply) else {
             return Err(RqdFault::NotLatest { seq: 0 });

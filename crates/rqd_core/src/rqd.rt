@@ -5,7 +5,7 @@ ghost use Rattle.std.specs.Vec.{vec_capacity};
 ghost use Rattle.std.specs.List.{IsDistinct};
 ghost use Rattle.farm_types.specs.Run as runs;
 ghost use Rattle.farm_lines.specs.ReplyLines.{reply_of};
-ghost use Rattle.rqd_core.specs.Keeping.{AreStarted, IsTaken};
+ghost use Rattle.rqd_core.specs.Keeping.{AreStarted, ComesTo};
 ghost use Rattle.rqd_core.specs.Life.{after_end, after_line, attempts_of, cores_of, is_run, line_of, new_life, without};
 ghost use Rattle.rqd_core.specs.Replies.{take_line};
 
@@ -77,7 +77,7 @@ impl Rqd {
     /// What a line that came orders. Only the first reply to the latest line is acted on: acknowledged completions leave the finished list, kills of running attempts are
     /// to be stopped, and launches are to be started, or are finished where they don't fit. A stopped attempt runs until it has ended.
     pub fn take_reply(&mut self, alloc: Global, line: &[u8]) -> Result<Orders, RqdFault>
-        ensures taken { IsTaken self.old (take_line self.old line.now) result self.new }
+        ensures taken { ComesTo self.old (take_line self.old line.now) result self.new }
         ensures started { IfOk result (λ orders. AreStarted orders.starts self.new.running) }
     {
         let _config = &self.config;

@@ -3,7 +3,7 @@
 ghost use Rattle.std.specs.Prelude.{◌≡◌, ◌≤◌, IfOk, OnOk};
 ghost use Rattle.std.specs.List.{list_any};
 ghost use Rattle.farm_types.specs.Run as runs;
-ghost use Rattle.rqd_core.specs.Replies.{all_launched, is_done, launched, not_acked, placed, run_of, started, unfit};
+ghost use Rattle.rqd_core.specs.Replies.{all_launched, is_done, launched, not_acked, placed, running_among, started, unfit};
 
 use crate::limits::UNFIT_STATUS;
 use crate::orders::NoFit;
@@ -130,12 +130,12 @@ fn is_listed(attempt: &Attempt, attempts: &[Attempt]) -> bool
 }
 
 /// Those of the attempts that run.
-pub(crate) fn run_of(
+pub(crate) fn running_among(
     alloc: Global,
     running: &[Running],
     attempts: &[Attempt],
 ) -> Result<Items<Attempt>, AllocError>
-    ensures { IfOk result (λ found. found ≡ run_of running.now attempts.now) }
+    ensures { IfOk result (λ found. found ≡ running_among running.now attempts.now) }
 {
     let mut found = Items::new(alloc);
     for attempt in attempts {

@@ -86,8 +86,8 @@ impl MemorySpawner {
         fails
     }
 
-    // Tells a call.
-    fn tell(&mut self, task: SpawnTask, answer: SpawnAnswer) -> Result<(), AllocError>
+    // Puts a call on the list.
+    fn list_call(&mut self, task: SpawnTask, answer: SpawnAnswer) -> Result<(), AllocError>
         ensures ok { OnOk result (self.new ≡ record self.old { calls = self.old.calls ++ record { task = task; answer = answer } ∷ [] }) }
         ensures err { OnErr result (self.new ≡ self.old) }
     {
@@ -153,11 +153,11 @@ impl Spawner for MemorySpawner {
         ensures exact { Plays self.old (Poll attempt) (poll_answer result) self.new }
     {
         if self.count_call() {
-            self.tell(SpawnTask::Poll { attempt }, SpawnAnswer::Failed)?;
+            self.list_call(SpawnTask::Poll { attempt }, SpawnAnswer::Failed)?;
             return Err(SpawnFault::Failed);
         }
         let exit = self.exit_of(&attempt);
-        self.tell(SpawnTask::Poll { attempt }, SpawnAnswer::of_poll(&exit))?;
+        self.list_call(SpawnTask::Poll { attempt }, SpawnAnswer::of_poll(&exit))?;
         Ok(exit)
     }
 
@@ -175,7 +175,7 @@ impl Spawner for MemorySpawner {
 }
 
 impl MemorySpawner {
-    // Tells a start or a stop, and answers it.
+    // Lists a start or a stop, and answers it.
     fn act(&mut self, task: SpawnTask, fails: bool) -> Result<(), SpawnFault>
         ensures told { Grows (Some self.old.calls) (Some self.new.calls) (told_as task (act_answer result)) }
         ensures failed { IsErrOf result Failed → fails ≡ true }
@@ -183,10 +183,10 @@ impl MemorySpawner {
         ensures kept { self.new ≡ record self.old { calls = self.new.calls } }
     {
         if fails {
-            self.tell(task, SpawnAnswer::Failed)?;
+            self.list_call(task, SpawnAnswer::Failed)?;
             return Err(SpawnFault::Failed);
         }
-        self.tell(task, SpawnAnswer::Done)?;
+        self.list_call(task, SpawnAnswer::Done)?;
         Ok(())
     }
 }

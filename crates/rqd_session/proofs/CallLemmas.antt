@@ -1,9 +1,11 @@
 -- Round by round, a call is the rounds of one life, and the one that was cut off.
-use Rattle.std.proofs.Common.{◌≡◌, ◌<◌, inl, inr, ℕ, Bool, true, false, List, [], ◌∷◌, ◌++◌, refl, sym, ap, ◌∙◌, subst, length, Option, None, Some, Result, Ok, Err, append-nil}
+use Rattle.std.proofs.Common.{◌≡◌, ◌<◌, inl, inr, ℕ, List, [], ◌∷◌, ◌++◌, refl, sym, ap, ◌∙◌, subst, length, Option, None, Some, Result, Ok, Err, append-nil}
 use Rattle.std.specs.Prelude.{⊤}
-use Rattle.cue_io.specs.History.{HasGiven, HasGiven-next, HasGiven-new, Continues, IsCut}
+use Rattle.command_line.specs.declared.status.Status.{Status}
+use Rattle.command_line.specs.declared.status.Status.TheVariants as exit
+use Rattle.cue_io.specs.Growth.{Grows, Grows-append}
+use Rattle.cue_io.specs.History.{AreFirstLines, HasGiven, HasGiven-first, HasGiven-next, HasGiven-new, Continues}
 use Rattle.cue_io.specs.Input.{Takes, Takes-none, Takes-append}
-use Rattle.cue_io.specs.Lines.{lines_of, lines_of-joined}
 use Rattle.cue_io.specs.Output.{Adds, Adds-append}
 use Rattle.cue_io.specs.Reader.{Held, Given, Whole, Long, AtEnd, new_reader}
 use Rattle.cue_io.specs.declared.line.LineFault.{LineFault}
@@ -11,28 +13,18 @@ use Rattle.cue_io.specs.declared.line.LineFault.TheVariants as line_fault
 use Rattle.farm_lines.specs.declared.limits.TheConstants.{REPLY_LIMIT}
 use Rattle.rqd_core.specs.Life.{Life}
 use Rattle.rqd_launcher.specs.declared.call.SpawnCall.{SpawnCall}
-use Rattle.cue_io.specs.Growth.{Grows, Grows-append}
 use Rattle.rqd_launcher.specs.Carries.{HaveCauses}
 use Rattle.rqd_session.specs.declared.cut.Cut.{Cut}
 use Rattle.rqd_session.specs.declared.cut.Cut.TheVariants as cut
-use Rattle.rqd_session.specs.Rounds.{Round, Part, Polling, Sending, Waiting, Hearing, Acting, AreRounds, IsPart, IsRound, after_round, after_rounds, calls_by, calls_in, line_after, lines_sent, replies_by, replies_in, sent_by}
-use Rattle.rqd_session.specs.Runs.{AreFirstLines, Call, Cuts, Ends, HasMoved, IsCutOff}
+use Rattle.rqd_session.specs.Rounds.{Round, Part, Polling, Sending, Waiting, Reading, Acting, AreRounds, IsPart, IsRound, after_round, after_rounds, calls_by, calls_in, line_after, lines_sent, replies_by, replies_in, sent_by}
+use Rattle.rqd_session.specs.Runs.{Call, Cuts, HasMoved, IsCutOff, Surroundings}
 use Rattle.rqd_session.specs.Steps.{Done, Gave, GaveSo, IsCutAt, IsWhole, Makes, RanOutEarly, RanOutLate, round_of, status_of}
 use Rattle.rqd_session.proofs.RoundLemmas.{HaveCauses-append, after_rounds-append, are_rounds-append, calls_in-append, lines_sent-append, replies_in-append}
-
--- ---- the lines that were given are the first of the bytes taken
-
-first_lines_by : (ended : Bool) (taken : List ℕ) (lines : List (List ℕ)) (pending : List ℕ) → IsCut ended taken lines pending → AreFirstLines taken lines
-first_lines_by false taken lines pending is = (lines_of pending, ap lines_of is.cut ∙ lines_of-joined lines pending is.in_lines)
-first_lines_by true taken lines pending is = ([], is.cut ∙ sym (append-nil lines))
-
-pub first_lines : (taken : List ℕ) (lines : List (List ℕ)) (reader : Held) (left : Option (List ℕ)) → HasGiven REPLY_LIMIT taken lines reader left → AreFirstLines taken lines
-first_lines taken lines reader left given = first_lines_by reader.ended taken lines given.pending given.is_cut
 
 -- ---- what was moved
 
 -- what was taken, sent and told in one round more
-pub moved_more : (before mid after : Ends) (call : Call) (took sent : List ℕ) (told : List SpawnCall) (rounds : List Round) (part : Option Part) → HasMoved before mid call
+pub moved_more : (before mid after : Surroundings) (call : Call) (took sent : List ℕ) (told : List SpawnCall) (rounds : List Round) (part : Option Part) → HasMoved before mid call
     → Takes mid.left after.left took → Adds mid.written after.written sent → Grows mid.calls after.calls told → HaveCauses told mid.spawn_faults after.spawn_faults
     → HasMoved before after (record { taken = call.taken ++ took; sent = call.sent ++ sent; told = call.told ++ told; rounds = rounds; part = part })
 moved_more before mid after call took sent told rounds part moved takes sends tells causes = record {
@@ -107,7 +99,7 @@ module _ (first life life' : Life) (call : Call) (reader reader' : Held) (left l
 
   module _ (rounds : ℕ) (fewer : length call.rounds < rounds) where
     -- it was cut off there
-    ended_at : (took : List ℕ) (part : Part) (status : ℕ) → IsCutAt life part done → done.polls ++ done.acts ≡ calls_by part
+    ended_at : (took : List ℕ) (part : Part) (status : Status) → IsCutAt life part done → done.polls ++ done.acts ≡ calls_by part
         → Cuts part status (call.taken ++ took) (replies_in call.rounds ++ replies_by part) left'
         → IsCutOff first rounds part status (call_with call took done call.rounds (Some part)) left'
     ended_at took part status is calls cuts = record {
@@ -122,28 +114,30 @@ module _ (first life life' : Life) (call : Call) (reader reader' : Held) (left l
     no_acts : done.acts ≡ [] → done.polls ++ done.acts ≡ done.polls
     no_acts none = ap (λ acts. done.polls ++ acts) none ∙ append-nil done.polls
 
-    -- the reader wasn't asked: its lines are as before
-    unasked : AreFirstLines (call.taken ++ []) (replies_in call.rounds ++ [])
-    unasked =
+    -- the reader wasn't asked, and the source is as it was: the lines are as before
+    unasked : left' ≡ left → AreFirstLines (call.taken ++ []) (replies_in call.rounds ++ []) left'
+    unasked same =
         let taken : call.taken ≡ call.taken ++ [] = sym (append-nil call.taken) in
         let lines : replies_in call.rounds ≡ replies_in call.rounds ++ [] = sym (append-nil (replies_in call.rounds)) in
-        subst (λ (bytes : List ℕ). AreFirstLines bytes (replies_in call.rounds ++ [])) taken
-        (subst (λ (given : List (List ℕ)). AreFirstLines call.taken given) lines (first_lines call.taken (replies_in call.rounds) reader left made.given))
+        subst (λ (now : Option (List ℕ)). AreFirstLines (call.taken ++ []) (replies_in call.rounds ++ []) now) (sym same)
+        (subst (λ (bytes : List ℕ). AreFirstLines bytes (replies_in call.rounds ++ []) left) taken
+        (subst (λ (given : List (List ℕ)). AreFirstLines call.taken given left) lines
+        (HasGiven-first REPLY_LIMIT call.taken (replies_in call.rounds) reader left made.given)))
 
     -- what is said of the round that was cut off
-    abbrev IsEnded : List ℕ → ℕ → Type 0
+    abbrev IsEnded : List ℕ → Status → Type 0
     IsEnded took status = (part : Part) × IsCutOff first rounds part status (call_with call took done call.rounds (Some part)) left'
 
-    early : RanOutEarly life done → IsEnded [] 7
-    early (none, inl polling) = (Polling done.polls, ended_at [] (Polling done.polls) 7 polling (no_acts none) (refl, unasked))
-    early (none, inr sending) = (Sending done.polls [], ended_at [] (Sending done.polls []) 7 sending (no_acts none) (inr (refl, refl), unasked))
+    early : left' ≡ left → RanOutEarly life done → IsEnded [] exit.NoMemory
+    early same (none, inl polling) = (Polling done.polls, ended_at [] (Polling done.polls) exit.NoMemory polling (no_acts none) (refl, unasked same))
+    early same (none, inr sending) = (Sending done.polls [], ended_at [] (Sending done.polls []) exit.NoMemory sending (no_acts none) (refl, unasked same))
 
-    late : (took reply : List ℕ) → RanOutLate life reply done → AreFirstLines (call.taken ++ took) (replies_in call.rounds ++ reply ∷ []) → IsEnded took 7
-    late took reply (inl hearing) lines = (Hearing done.polls reply, ended_at took (Hearing done.polls reply) 7 hearing.1 (no_acts hearing.0) (refl, lines))
-    late took reply (inr acting) lines = (Acting done.polls reply done.acts, ended_at took (Acting done.polls reply done.acts) 7 acting refl (refl, lines))
+    late : (took reply : List ℕ) → RanOutLate life reply done → AreFirstLines (call.taken ++ took) (replies_in call.rounds ++ reply ∷ []) left' → IsEnded took exit.NoMemory
+    late took reply (inl read) lines = (Reading done.polls reply, ended_at took (Reading done.polls reply) exit.NoMemory read.1 (no_acts read.0) (refl, lines))
+    late took reply (inr acting) lines = (Acting done.polls reply done.acts, ended_at took (Acting done.polls reply done.acts) exit.NoMemory acting refl (refl, lines))
 
     -- no reply line came
-    waiting : (took : List ℕ) (status : ℕ) → (done.acts ≡ []) × IsCutAt life (Waiting done.polls) done
+    waiting : (took : List ℕ) (status : Status) → (done.acts ≡ []) × IsCutAt life (Waiting done.polls) done
         → Cuts (Waiting done.polls) status (call.taken ++ took) (replies_in call.rounds) left' → IsEnded took status
     waiting took status (none, is) cuts = (
       Waiting done.polls,
@@ -155,22 +149,22 @@ module _ (first life life' : Life) (call : Call) (reader reader' : Held) (left l
     cut_by : (why : Cut) (took : List ℕ) (answer : Result Given LineFault) → Makes life (Err why) life' (Some answer) done
         → Continues REPLY_LIMIT (call.taken ++ took) (replies_in call.rounds) answer reader' left' → IsEnded took (status_of why)
     cut_by cut.NoMemory took (Ok (Whole reply)) makes continues =
-        late took reply (makes continues.0) (first_lines (call.taken ++ took) (replies_in call.rounds ++ reply ∷ []) reader' left' continues.1)
-    cut_by cut.Read took (Err line_fault.Read) makes continues = waiting took 4 makes (inl (refl, continues.0, continues.1))
-    cut_by cut.Spent took (Err line_fault.Spent) makes continues = waiting took 8 makes (inr (inl (refl, continues.0, continues.1)))
-    cut_by cut.End took (Ok AtEnd) makes continues = waiting took 10 makes (inr (inr (refl, continues.0, continues.1)))
+        late took reply (makes continues.0) (HasGiven-first REPLY_LIMIT (call.taken ++ took) (replies_in call.rounds ++ reply ∷ []) reader' left' continues.1)
+    cut_by cut.Read took (Err line_fault.Read) makes continues = waiting took exit.ReadFailed makes (continues.0, continues.1)
+    cut_by cut.Spent took (Err line_fault.Spent) makes continues = waiting took exit.Spent makes (continues.0, continues.1)
+    cut_by cut.End took (Ok AtEnd) makes continues = waiting took exit.InputEnded makes (record { cut = continues.0; none_left = continues.1 })
     cut_by why took answer makes continues = absurd makes
 
-    cut_unasked : (why : Cut) → Makes life (Err why) life' None done → IsEnded [] (status_of why)
-    cut_unasked cut.Write makes = (Sending done.polls done.sent, ended_at [] (Sending done.polls done.sent) 5 makes.1 (no_acts makes.0) (inl refl, unasked))
-    cut_unasked cut.NoMemory makes = early makes
-    cut_unasked why makes = absurd makes
+    cut_unasked : (why : Cut) → left' ≡ left → Makes life (Err why) life' None done → IsEnded [] (status_of why)
+    cut_unasked cut.Write same makes = (Sending done.polls done.sent, ended_at [] (Sending done.polls done.sent) exit.WriteFailed makes.1 (no_acts makes.0) (tt, unasked same))
+    cut_unasked cut.NoMemory same makes = early same makes
+    cut_unasked why same makes = absurd makes
 
     -- the round was cut off
     pub cut_more : (why : Cut) (gave : Gave) → Makes life (Err why) life' gave done → GaveSo left left' reader gave reader'
         → (took : List ℕ) × (part : Part) × Takes left left' took × IsCutOff first rounds part (status_of why) (call_with call took done call.rounds (Some part)) left'
     cut_more why None makes so =
-        let ended = cut_unasked why makes in
+        let ended = cut_unasked why so.1 makes in
         ([], ended.0, subst (λ (now : Option (List ℕ)). Takes left now []) (sym so.1) (Takes-none left), ended.1)
     cut_more why (Some answer) makes moves =
         let ended = cut_by why moves.took answer makes

@@ -18,17 +18,17 @@ use Rattle.rqd_launcher.specs.declared.call.SpawnTask.{SpawnTask}
 use Rattle.rqd_launcher.specs.Carries.{AreCut, AreTold, life_after, polls_of}
 use Rattle.rqd_session.specs.declared.cut.Cut.{Cut}
 use Rattle.rqd_session.specs.declared.cut.Cut.TheVariants as cut
-use Rattle.rqd_session.specs.Rounds.{IsFront, awaiting, heard, heard_in, line_after, tasks_told}
-use Rattle.rqd_session.specs.Steps.{Done, Gave, Hears, IsSent, IsWhole, Makes, orders_told, tasks_ordered}
+use Rattle.rqd_session.specs.Rounds.{IsFront, awaiting, take_bounded, taken_in, line_after, tasks_told}
+use Rattle.rqd_session.specs.Steps.{Done, Gave, Awaits, IsSent, IsWhole, Makes, orders_told, tasks_ordered}
 use Rattle.rqd_session.proofs.RoundLemmas.{front_none, front_part}
 
 -- ---- what a reply line comes to
 
-heard_short : (l : Life) (reply : List ℕ) → length reply ≤ REPLY_LIMIT → heard l reply ≡ take_line l reply
-heard_short l reply within = cond-false (nat_lt REPLY_LIMIT (length reply)) (record { life = l; told = Err fault.NotAReply }) (take_line l reply) (le-ltb REPLY_LIMIT (length reply) within)
+short_taken : (l : Life) (reply : List ℕ) → length reply ≤ REPLY_LIMIT → take_bounded l reply ≡ take_line l reply
+short_taken l reply within = cond-false (nat_lt REPLY_LIMIT (length reply)) (record { life = l; told = Err fault.NotAReply }) (take_line l reply) (le-ltb REPLY_LIMIT (length reply) within)
 
-heard_long : (l : Life) (reply : List ℕ) → REPLY_LIMIT < length reply → heard l reply ≡ record { life = l; told = Err fault.NotAReply }
-heard_long l reply long = cond-true (nat_lt REPLY_LIMIT (length reply)) (record { life = l; told = Err fault.NotAReply }) (take_line l reply) (lt-ltb REPLY_LIMIT (length reply) long)
+long_taken : (l : Life) (reply : List ℕ) → REPLY_LIMIT < length reply → take_bounded l reply ≡ record { life = l; told = Err fault.NotAReply }
+long_taken l reply long = cond-true (nat_lt REPLY_LIMIT (length reply)) (record { life = l; told = Err fault.NotAReply }) (take_line l reply) (lt-ltb REPLY_LIMIT (length reply) long)
 
 tasks_are : (told : Result Orders RqdFault) → tasks_ordered (orders_told told) ≡ tasks_told told
 tasks_are (Ok orders) = refl
@@ -90,53 +90,53 @@ pub line_sent : (old mid : Life) (polls : List SpawnCall) (written written' : Op
 line_sent old mid polls written written' mid_is sends = subst (λ (l : Life). Adds written written' (line_of l ++ 10 ∷ [])) mid_is sends
 
 -- no reply line came, or memory ran out at it
-hearing : (why : Cut) (answer : Result Given LineFault) (old next third new : Life) (polls : List SpawnCall) → IsAwaiting old next polls → Hears next (Err why) third answer
+reading : (why : Cut) (answer : Result Given LineFault) (old next third new : Life) (polls : List SpawnCall) → IsAwaiting old next polls → Awaits next (Err why) third answer
     → Makes old (Err why) new (Some answer) (done_by polls (line_after old polls) [])
-hearing cut.Read (Err line_fault.Read) old next third new polls asked hears = (refl, record { is_part = asked.polled; sent = refl })
-hearing cut.Spent (Err line_fault.Spent) old next third new polls asked hears = (refl, record { is_part = asked.polled; sent = refl })
-hearing cut.End (Ok AtEnd) old next third new polls asked hears = (refl, record { is_part = asked.polled; sent = refl })
-hearing cut.NoMemory (Ok (Whole reply)) old next third new polls asked hears = λ within. inl (refl, record { is_part = (asked.polled, within); sent = refl })
-hearing why (Ok (Whole reply)) old next third new polls asked hears = absurd hears
-hearing why (Ok Long) old next third new polls asked hears = absurd hears
-hearing why (Ok AtEnd) old next third new polls asked hears = absurd hears
-hearing why (Err fault) old next third new polls asked hears = absurd hears
+reading cut.Read (Err line_fault.Read) old next third new polls asked awaits = (refl, record { is_part = asked.polled; sent = refl })
+reading cut.Spent (Err line_fault.Spent) old next third new polls asked awaits = (refl, record { is_part = asked.polled; sent = refl })
+reading cut.End (Ok AtEnd) old next third new polls asked awaits = (refl, record { is_part = asked.polled; sent = refl })
+reading cut.NoMemory (Ok (Whole reply)) old next third new polls asked awaits = λ within. inl (refl, record { is_part = (asked.polled, within); sent = refl })
+reading why (Ok (Whole reply)) old next third new polls asked awaits = absurd awaits
+reading why (Ok Long) old next third new polls asked awaits = absurd awaits
+reading why (Ok AtEnd) old next third new polls asked awaits = absurd awaits
+reading why (Err fault) old next third new polls asked awaits = absurd awaits
 
-pub cut_hearing : (why : Cut) (answer : Result Given LineFault) (old next third new : Life) (polls : List SpawnCall) (result : Result ⊤ Cut)
-    → IsErrAnd result (λ told. told ≡ why) → IsAwaiting old next polls → Hears next (Err why) third answer
+pub cut_reading : (why : Cut) (answer : Result Given LineFault) (old next third new : Life) (polls : List SpawnCall) (result : Result ⊤ Cut)
+    → IsErrAnd result (λ told. told ≡ why) → IsAwaiting old next polls → Awaits next (Err why) third answer
     → Makes old result new (Some answer) (done_by polls (line_after old polls) [])
-cut_hearing why answer old next third new polls result is asked hears =
-    made_so old new (Some answer) (done_by polls (line_after old polls) []) why result is (hearing why answer old next third new polls asked hears)
+cut_reading why answer old next third new polls result is asked awaits =
+    made_so old new (Some answer) (done_by polls (line_after old polls) []) why result is (reading why answer old next third new polls asked awaits)
 
 -- ---- once a reply line came
 
 -- what the reply comes to is what was ordered, and the life after it
-record IsHeardAs (taken : Taken) (orders : Option Orders) (third : Life) : Type 0 where
+record IsOrderedAs (taken : Taken) (orders : Option Orders) (third : Life) : Type 0 where
   orders_are : orders ≡ orders_told taken.told
   life_is : third ≡ taken.life
 
-heard_whole : (old next third : Life) (polls : List SpawnCall) (orders : Option Orders) (reply : List ℕ) → IsAwaiting old next polls → Hears next (Ok orders) third (Ok (Whole reply))
-    → length reply ≤ REPLY_LIMIT → IsHeardAs (heard_in old polls reply) orders third
-heard_whole old next third polls orders reply asked hears within =
-    let is : take_line next reply ≡ heard_in old polls reply = ap (λ l. take_line l reply) asked.next_is ∙ sym (heard_short (awaiting old polls) reply within) in
-    record { orders_are = hears.0 ∙ ap (λ (t : Taken). orders_told t.told) is; life_is = hears.1 ∙ ap (λ (t : Taken). t.life) is }
+ordered_whole : (old next third : Life) (polls : List SpawnCall) (orders : Option Orders) (reply : List ℕ) → IsAwaiting old next polls → Awaits next (Ok orders) third (Ok (Whole reply))
+    → length reply ≤ REPLY_LIMIT → IsOrderedAs (taken_in old polls reply) orders third
+ordered_whole old next third polls orders reply asked awaits within =
+    let is : take_line next reply ≡ taken_in old polls reply = ap (λ l. take_line l reply) asked.next_is ∙ sym (short_taken (awaiting old polls) reply within) in
+    record { orders_are = awaits.0 ∙ ap (λ (t : Taken). orders_told t.told) is; life_is = awaits.1 ∙ ap (λ (t : Taken). t.life) is }
 
-heard_too_long : (old next third : Life) (polls : List SpawnCall) (orders : Option Orders) (reply : List ℕ) → IsAwaiting old next polls → Hears next (Ok orders) third (Ok Long)
-    → REPLY_LIMIT < length reply → IsHeardAs (heard_in old polls reply) orders third
-heard_too_long old next third polls orders reply asked hears long =
-    let is : record { life = awaiting old polls; told = Err fault.NotAReply } ≡ heard_in old polls reply = sym (heard_long (awaiting old polls) reply long) in
-    record { orders_are = hears.0 ∙ ap (λ (t : Taken). orders_told t.told) is; life_is = hears.1 ∙ asked.next_is ∙ ap (λ (t : Taken). t.life) is }
+ordered_too_long : (old next third : Life) (polls : List SpawnCall) (orders : Option Orders) (reply : List ℕ) → IsAwaiting old next polls → Awaits next (Ok orders) third (Ok Long)
+    → REPLY_LIMIT < length reply → IsOrderedAs (taken_in old polls reply) orders third
+ordered_too_long old next third polls orders reply asked awaits long =
+    let is : record { life = awaiting old polls; told = Err fault.NotAReply } ≡ taken_in old polls reply = sym (long_taken (awaiting old polls) reply long) in
+    record { orders_are = awaits.0 ∙ ap (λ (t : Taken). orders_told t.told) is; life_is = awaits.1 ∙ asked.next_is ∙ ap (λ (t : Taken). t.life) is }
 
 -- what was ordered are the reply's tasks
-tasks_heard : (taken : Taken) (orders : Option Orders) (third : Life) → IsHeardAs taken orders third → tasks_ordered orders ≡ tasks_told taken.told
-tasks_heard taken orders third so = ap tasks_ordered so.orders_are ∙ tasks_are taken.told
+tasks_taken : (taken : Taken) (orders : Option Orders) (third : Life) → IsOrderedAs taken orders third → tasks_ordered orders ≡ tasks_told taken.told
+tasks_taken taken orders third so = ap tasks_ordered so.orders_are ∙ tasks_are taken.told
 
 whole_by : (old next third new : Life) (polls acts : List SpawnCall) (orders : Option Orders) (reply : List ℕ) → IsAwaiting old next polls
-    → IsHeardAs (heard_in old polls reply) orders third → AreTold (tasks_ordered orders) acts → new ≡ life_after third acts
+    → IsOrderedAs (taken_in old polls reply) orders third → AreTold (tasks_ordered orders) acts → new ≡ life_after third acts
     → IsWhole old new reply (done_by polls (line_after old polls) acts)
 whole_by old next third new polls acts orders reply asked so acted new_is = record {
   is_round = record {
     polls = asked.polled;
-    acts = subst (λ (tasks : List SpawnTask). AreTold tasks acts) (tasks_heard (heard_in old polls reply) orders third so) acted;
+    acts = subst (λ (tasks : List SpawnTask). AreTold tasks acts) (tasks_taken (taken_in old polls reply) orders third so) acted;
   };
   sent = refl;
   life_is = new_is ∙ ap (λ l. life_after l acts) so.life_is;
@@ -144,13 +144,13 @@ whole_by old next third new polls acts orders reply asked so acted new_is = reco
 
 -- all that was ordered was done
 pub made_whole : (made : ⊤) (answer : Result Given LineFault) (old next third new : Life) (polls acts : List SpawnCall) (orders : Option Orders)
-    → IsAwaiting old next polls → Hears next (Ok orders) third answer → AreTold (tasks_ordered orders) acts → new ≡ life_after third acts
+    → IsAwaiting old next polls → Awaits next (Ok orders) third answer → AreTold (tasks_ordered orders) acts → new ≡ life_after third acts
     → Makes old (Ok made) new (Some answer) (done_by polls (line_after old polls) acts)
-made_whole made (Ok (Whole reply)) old next third new polls acts orders asked hears acted new_is =
-    λ within. whole_by old next third new polls acts orders reply asked (heard_whole old next third polls orders reply asked hears within) acted new_is
-made_whole made (Ok Long) old next third new polls acts orders asked hears acted new_is =
-    λ reply long. whole_by old next third new polls acts orders reply asked (heard_too_long old next third polls orders reply asked hears long) acted new_is
-made_whole made answer old next third new polls acts orders asked hears acted new_is = absurd hears
+made_whole made (Ok (Whole reply)) old next third new polls acts orders asked awaits acted new_is =
+    λ within. whole_by old next third new polls acts orders reply asked (ordered_whole old next third polls orders reply asked awaits within) acted new_is
+made_whole made (Ok Long) old next third new polls acts orders asked awaits acted new_is =
+    λ reply long. whole_by old next third new polls acts orders reply asked (ordered_too_long old next third polls orders reply asked awaits long) acted new_is
+made_whole made answer old next third new polls acts orders asked awaits acted new_is = absurd awaits
 
 -- of no tasks not all can be left
 none_cut : (acts : List SpawnCall) → AreCut [] acts → ⊥
@@ -158,16 +158,16 @@ none_cut acts rest = omega (arith, rest.1, ap length rest.2, length-append (map 
 
 -- memory ran out among what was ordered
 acting : (answer : Result Given LineFault) (old next third new : Life) (polls acts : List SpawnCall) (orders : Option Orders) → IsAwaiting old next polls
-    → Hears next (Ok orders) third answer → AreCut (tasks_ordered orders) acts → Makes old (Err cut.NoMemory) new (Some answer) (done_by polls (line_after old polls) acts)
-acting (Ok (Whole reply)) old next third new polls acts orders asked hears acted = λ within.
-    let so = heard_whole old next third polls orders reply asked hears within in
-    let left = subst (λ (tasks : List SpawnTask). AreCut tasks acts) (tasks_heard (heard_in old polls reply) orders third so) acted in
+    → Awaits next (Ok orders) third answer → AreCut (tasks_ordered orders) acts → Makes old (Err cut.NoMemory) new (Some answer) (done_by polls (line_after old polls) acts)
+acting (Ok (Whole reply)) old next third new polls acts orders asked awaits acted = λ within.
+    let so = ordered_whole old next third polls orders reply asked awaits within in
+    let left = subst (λ (tasks : List SpawnTask). AreCut tasks acts) (tasks_taken (taken_in old polls reply) orders third so) acted in
     inr (record { is_part = (asked.polled, left); sent = refl })
-acting (Ok Long) old next third new polls acts orders asked hears acted = absurd (none_cut acts (subst (λ (o : Option Orders). AreCut (tasks_ordered o) acts) hears.0 acted))
-acting answer old next third new polls acts orders asked hears acted = absurd hears
+acting (Ok Long) old next third new polls acts orders asked awaits acted = absurd (none_cut acts (subst (λ (o : Option Orders). AreCut (tasks_ordered o) acts) awaits.0 acted))
+acting answer old next third new polls acts orders asked awaits acted = absurd awaits
 
 pub cut_acting : (answer : Result Given LineFault) (old next third new : Life) (polls acts : List SpawnCall) (orders : Option Orders) (result : Result ⊤ Cut)
-    → IsErrAnd result (λ told. told ≡ cut.NoMemory) → IsAwaiting old next polls → Hears next (Ok orders) third answer → AreCut (tasks_ordered orders) acts
+    → IsErrAnd result (λ told. told ≡ cut.NoMemory) → IsAwaiting old next polls → Awaits next (Ok orders) third answer → AreCut (tasks_ordered orders) acts
     → Makes old result new (Some answer) (done_by polls (line_after old polls) acts)
-cut_acting answer old next third new polls acts orders result is asked hears acted =
-    made_so old new (Some answer) (done_by polls (line_after old polls) acts) cut.NoMemory result is (acting answer old next third new polls acts orders asked hears acted)
+cut_acting answer old next third new polls acts orders result is asked awaits acted =
+    made_so old new (Some answer) (done_by polls (line_after old polls) acts) cut.NoMemory result is (acting answer old next third new polls acts orders asked awaits acted)

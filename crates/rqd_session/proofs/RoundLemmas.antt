@@ -1,5 +1,5 @@
 -- Rounds after one another: what one round more adds, and the causes of its calls.
-use Rattle.std.proofs.Common.{◌≡◌, ◌+◌, ◌<◌, ◌≤◌, ◌⊎◌, inl, inr, ℕ, cond, List, [], ◌∷◌, ◌++◌, arith, refl, sym, ap, ◌∙◌, subst, length, sum_by, take, drop, append_assoc, append-nil, length-drop, take-append-drop}
+use Rattle.std.proofs.Common.{◌≡◌, ◌+◌, ◌<◌, ◌≤◌, ◌⊎◌, inl, inr, ℕ, suc, cond, List, [], ◌∷◌, ◌++◌, arith, refl, sym, ap, ◌∙◌, subst, length, sum_by, take, drop, append_assoc, append-nil, length-drop, take-append-drop}
 use Rattle.std.proofs.lemmas.List.{map-append}
 use Rattle.std.proofs.lemmas.List.Sums.{sum_by-append}
 use Rattle.cue_io.specs.Faults.{last_count}
@@ -31,6 +31,11 @@ calls_in-append (q ∷ rs) r =
 
 pub replies_in-append : (rs : List Round) (r : Round) → replies_in (rs ++ r ∷ []) ≡ replies_in rs ++ r.reply ∷ []
 replies_in-append rs r = map-append (λ (q : Round). q.reply) rs (r ∷ [])
+
+-- a reply a round
+pub replies_count : (rs : List Round) → length (replies_in rs ++ []) ≡ length rs
+replies_count [] = refl
+replies_count (r ∷ rs) = ap suc (replies_count rs)
 
 -- ---- causes
 

@@ -27,8 +27,8 @@ abbrev pub awaiting : Life → List SpawnCall → Life
 awaiting l polls = after_line (life_after l polls)
 
 -- what a reply line comes to; one that is too long for a reply comes to nothing
-abbrev pub heard : Life → List ℕ → Taken
-heard l reply = if nat_lt REPLY_LIMIT (length reply) then record { life = l; told = Err fault.NotAReply } else take_line l reply
+abbrev pub take_bounded : Life → List ℕ → Taken
+take_bounded l reply = if nat_lt REPLY_LIMIT (length reply) then record { life = l; told = Err fault.NotAReply } else take_line l reply
 
 -- the tasks that come of it
 abbrev pub tasks_told : Result Orders RqdFault → List SpawnTask
@@ -36,16 +36,16 @@ tasks_told (Ok orders) = tasks_of orders
 tasks_told (Err fault) = []
 
 -- what the reply of a round comes to
-abbrev pub heard_in : Life → List SpawnCall → List ℕ → Taken
-heard_in l polls reply = heard (awaiting l polls) reply
+abbrev pub taken_in : Life → List SpawnCall → List ℕ → Taken
+taken_in l polls reply = take_bounded (awaiting l polls) reply
 
 abbrev pub after_round : Life → Round → Life
-after_round l r = life_after (heard_in l r.polls r.reply).life r.acts
+after_round l r = life_after (taken_in l r.polls r.reply).life r.acts
 
 -- all that runs was polled, and all that was ordered was done
 pub record IsRound (l : Life) (r : Round) : Type 0 where
   pub polls : AreTold (polls_of l) r.polls
-  pub acts : AreTold (tasks_told (heard_in l r.polls r.reply).told) r.acts
+  pub acts : AreTold (tasks_told (taken_in l r.polls r.reply).told) r.acts
 
 -- ---- rounds after one another
 
@@ -77,7 +77,7 @@ pub data Part : Type 0 where
   Polling : List SpawnCall → Part
   Sending : List SpawnCall → List ℕ → Part
   Waiting : List SpawnCall → Part
-  Hearing : List SpawnCall → List ℕ → Part
+  Reading : List SpawnCall → List ℕ → Part
   Acting : List SpawnCall → List ℕ → List SpawnCall → Part
 
 -- less than all of the text, from its front
@@ -88,15 +88,15 @@ abbrev pub IsPart : Life → Part → Type 0
 IsPart l (Polling polls) = AreCut (polls_of l) polls
 IsPart l (Sending polls wrote) = AreTold (polls_of l) polls × IsFront (line_after l polls) wrote
 IsPart l (Waiting polls) = AreTold (polls_of l) polls
-IsPart l (Hearing polls reply) = AreTold (polls_of l) polls × (length reply ≤ REPLY_LIMIT)
-IsPart l (Acting polls reply acts) = AreTold (polls_of l) polls × AreCut (tasks_told (heard_in l polls reply).told) acts
+IsPart l (Reading polls reply) = AreTold (polls_of l) polls × (length reply ≤ REPLY_LIMIT)
+IsPart l (Acting polls reply acts) = AreTold (polls_of l) polls × AreCut (tasks_told (taken_in l polls reply).told) acts
 
 -- what it sent
 abbrev pub sent_by : Life → Part → List ℕ
 sent_by l (Polling polls) = []
 sent_by l (Sending polls wrote) = wrote
 sent_by l (Waiting polls) = line_after l polls
-sent_by l (Hearing polls reply) = line_after l polls
+sent_by l (Reading polls reply) = line_after l polls
 sent_by l (Acting polls reply acts) = line_after l polls
 
 -- the spawner's calls
@@ -104,11 +104,11 @@ abbrev pub calls_by : Part → List SpawnCall
 calls_by (Polling polls) = polls
 calls_by (Sending polls wrote) = polls
 calls_by (Waiting polls) = polls
-calls_by (Hearing polls reply) = polls
+calls_by (Reading polls reply) = polls
 calls_by (Acting polls reply acts) = polls ++ acts
 
 -- the reply line that it took, if any
 abbrev pub replies_by : Part → List (List ℕ)
-replies_by (Hearing polls reply) = reply ∷ []
+replies_by (Reading polls reply) = reply ∷ []
 replies_by (Acting polls reply acts) = reply ∷ []
 replies_by part = []

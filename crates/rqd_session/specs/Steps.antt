@@ -1,5 +1,7 @@
 -- What one round does, by what the reader of reply lines gave in it.
 use Rattle.std.specs.Prelude.{ℕ, ◌≡◌, ◌<◌, ◌≤◌, ◌⊎◌, ◌++◌, ◌∷◌, List, [], length, Option, None, Some, Result, Ok, Err, ⊤}
+use Rattle.command_line.specs.declared.status.Status.{Status}
+use Rattle.command_line.specs.declared.status.Status.TheVariants as exit
 use Rattle.cue_io.specs.Output.{Adds, AddsPart}
 use Rattle.cue_io.specs.Reader.{Given, Whole, Long, AtEnd, Held, Moves}
 use Rattle.cue_io.specs.declared.line.LineFault.{LineFault}
@@ -14,7 +16,7 @@ use Rattle.rqd_launcher.specs.declared.call.SpawnTask.{SpawnTask}
 use Rattle.rqd_launcher.specs.Carries.{tasks_of}
 use Rattle.rqd_session.specs.declared.cut.Cut.{Cut}
 use Rattle.rqd_session.specs.declared.cut.Cut.TheVariants as cut
-use Rattle.rqd_session.specs.Rounds.{Round, Part, Polling, Sending, Waiting, Hearing, Acting, IsPart, IsRound, after_round, line_after, sent_by}
+use Rattle.rqd_session.specs.Rounds.{Round, Part, Polling, Sending, Waiting, Reading, Acting, IsPart, IsRound, after_round, line_after, sent_by}
 
 -- what the reader gave in a round, where it came so far
 abbrev pub Gave : Type 0
@@ -46,7 +48,7 @@ RanOutEarly old done = (done.acts ≡ []) × (IsCutAt old (Polling done.polls) d
 
 -- memory ran out once this reply line was there
 abbrev pub RanOutLate : Life → List ℕ → Done → Type 0
-RanOutLate old reply done = ((done.acts ≡ []) × IsCutAt old (Hearing done.polls reply) done) ⊎ IsCutAt old (Acting done.polls reply done.acts) done
+RanOutLate old reply done = ((done.acts ≡ []) × IsCutAt old (Reading done.polls reply) done) ⊎ IsCutAt old (Acting done.polls reply done.acts) done
 
 -- no reply line came
 abbrev pub IsLeftWaiting : Life → Done → Type 0
@@ -70,19 +72,19 @@ orders_told (Ok orders) = Some orders
 orders_told (Err fault) = None
 
 -- what a line ordered, or memory ran out and nothing has changed
-abbrev pub IsHeard : Life → Taken → Result (Option Orders) Cut → Life → Type 0
-IsHeard old taken (Ok orders) new = (orders ≡ orders_told taken.told) × (new ≡ taken.life)
-IsHeard old taken (Err cut.NoMemory) new = new ≡ old
-IsHeard old taken (Err other) new = ⊥
+abbrev pub IsOrdered : Life → Taken → Result (Option Orders) Cut → Life → Type 0
+IsOrdered old taken (Ok orders) new = (orders ≡ orders_told taken.told) × (new ≡ taken.life)
+IsOrdered old taken (Err cut.NoMemory) new = new ≡ old
+IsOrdered old taken (Err other) new = ⊥
 
 -- What came of awaiting a reply. A line that is too long orders nothing. Where no line came nothing has changed.
-abbrev pub Hears : Life → Result (Option Orders) Cut → Life → Result Given LineFault → Type 0
-Hears old result new (Ok (Whole reply)) = IsHeard old (take_line old reply) result new
-Hears old (Ok orders) new (Ok Long) = (orders ≡ None) × (new ≡ old)
-Hears old (Err cut.End) new (Ok AtEnd) = new ≡ old
-Hears old (Err cut.Read) new (Err line_fault.Read) = new ≡ old
-Hears old (Err cut.Spent) new (Err line_fault.Spent) = new ≡ old
-Hears old result new answer = ⊥
+abbrev pub Awaits : Life → Result (Option Orders) Cut → Life → Result Given LineFault → Type 0
+Awaits old result new (Ok (Whole reply)) = IsOrdered old (take_line old reply) result new
+Awaits old (Ok orders) new (Ok Long) = (orders ≡ None) × (new ≡ old)
+Awaits old (Err cut.End) new (Ok AtEnd) = new ≡ old
+Awaits old (Err cut.Read) new (Err line_fault.Read) = new ≡ old
+Awaits old (Err cut.Spent) new (Err line_fault.Spent) = new ≡ old
+Awaits old result new answer = ⊥
 
 -- the tasks of what was ordered, if anything
 abbrev pub tasks_ordered : Option Orders → List SpawnTask
@@ -90,12 +92,12 @@ tasks_ordered None = []
 tasks_ordered (Some orders) = tasks_of orders
 
 -- the status of a call whose last round was cut off
-abbrev pub status_of : Cut → ℕ
-status_of cut.Read = 4
-status_of cut.Write = 5
-status_of cut.NoMemory = 7
-status_of cut.Spent = 8
-status_of cut.End = 10
+abbrev pub status_of : Cut → Status
+status_of cut.Read = exit.ReadFailed
+status_of cut.Write = exit.WriteFailed
+status_of cut.NoMemory = exit.NoMemory
+status_of cut.Spent = exit.Spent
+status_of cut.End = exit.InputEnded
 
 -- what the reader gave and took of the source; where it wasn't asked, both stay
 abbrev pub GaveSo : Option (List ℕ) → Option (List ℕ) → Held → Gave → Held → Type 0

@@ -8,4 +8,4 @@ mod run;
 mod words;
 
 pub use program::run_program;
-pub use run::{Status, run_rqd};
+pub use run::run_rqd;

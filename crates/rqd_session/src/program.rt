@@ -2,36 +2,32 @@
 
 ghost use Rattle.std.specs.Prelude.{Some};
 ghost use Rattle.cue_io.specs.Growth.{Grows};
-ghost use Rattle.dialer.specs.Dials.{target_at};
-ghost use Rattle.rqd_launcher.specs.Carries.{HaveCauses};
-ghost use Rattle.rqd_session.specs.Programs.{HasCalledOver, IsRun, IsRunAt, Run};
-ghost use Rattle.rqd_session.specs.Runs.{Call};
+ghost use Rattle.dialer.specs.Dials.{given_back, target_at};
+ghost use Rattle.rqd_session.specs.Programs.{IsRun, IsRunAt, Run, spawning};
 
-use crate::run::{NO_MEMORY, Status, WRONG_WORDS, run_rqd};
-use cue_io::{Sink, Source};
+use crate::run::run_rqd;
+use command_line::Status;
 use dialer::{DialFault, Dialer, target_of};
 use farm_types::Text;
 use rqd_launcher::{Rest, Spawner};
 use std::alloc::Global;
 
-const NO_CONNECTION: Status = 9;
-
-/// Runs the daemon for the words after its name: an address, a port, and the words of `run_rqd`. It connects before it reads those.
+/// Runs the daemon for the words after its name: an address, a port, and the words of `run_rqd`. It connects before it reads those, and gives the connection
+/// back as the call left it.
 pub fn run_program<D: Dialer, P: Spawner, R: Rest>(
     alloc: Global,
     words: &[Text],
     dialer: &mut D,
     spawner: &mut P,
     rest: &mut R,
-) -> Status
-    // Where it connected to, what was taken, sent and done, and why the status is this one.
-    ensures { (run : Run) × IsRun words.now result run
-        × Grows (D.dialled dialer.old) (D.dialled dialer.new) run.dialled
-        × Grows (P.calls spawner.old) (P.calls spawner.new) run.call.told
-        × HaveCauses run.call.told (P.faults spawner.old) (P.faults spawner.new) }
+) -> (Status, Option<(D::In, D::Out)>)
+    // Where it connected to, what was taken, sent and done over that connection, and why the status is this one.
+    ensures { (run : Run) × IsRun words.now result.0 (given_back D.In.left D.In.faults D.Out.written D.Out.faults result.1)
+        (spawning (P.calls spawner.old) (P.faults spawner.old)) (spawning (P.calls spawner.new) (P.faults spawner.new)) run
+        × Grows (D.dialled dialer.old) (D.dialled dialer.new) run.dialled }
 {
     let Some((address, port, more)) = target_of(words) else {
-        return WRONG_WORDS;
+        return (Status::WrongWords, None);
     };
     run_connected(alloc, address, port, more, dialer, spawner, rest)
 }
@@ -45,33 +41,20 @@ fn run_connected<D: Dialer, P: Spawner, R: Rest>(
     dialer: &mut D,
     spawner: &mut P,
     rest: &mut R,
-) -> Status
-    ensures { (run : Run) × IsRunAt (Some (target_at address.now words.now port)) result run
-        × Grows (D.dialled dialer.old) (D.dialled dialer.new) run.dialled
-        × Grows (P.calls spawner.old) (P.calls spawner.new) run.call.told
-        × HaveCauses run.call.told (P.faults spawner.old) (P.faults spawner.new) }
+) -> (Status, Option<(D::In, D::Out)>)
+    ensures { (run : Run) × IsRunAt (Some (target_at address.now words.now port)) result.0
+        (given_back D.In.left D.In.faults D.Out.written D.Out.faults result.1)
+        (spawning (P.calls spawner.old) (P.faults spawner.old)) (spawning (P.calls spawner.new) (P.faults spawner.new)) run
+        × Grows (D.dialled dialer.old) (D.dialled dialer.new) run.dialled }
 {
     match dialer.dial(address, port) {
-        Ok((source, sink)) => run_over(alloc, words, source, sink, spawner, rest),
-        Err(DialFault::Failed) => NO_CONNECTION,
-        Err(DialFault::NoMemory) => NO_MEMORY,
+        Ok((source, sink)) => {
+            let mut source = source;
+            let mut sink = sink;
+            let status = run_rqd(alloc, words, &mut source, &mut sink, spawner, rest);
+            (status, Some((source, sink)))
+        }
+        Err(DialFault::Failed) => (Status::NoConnection, None),
+        Err(DialFault::NoMemory) => (Status::NoMemory, None),
     }
-}
-
-// Runs the call over a connection.
-fn run_over<S: Source + Drop, W: Sink + Drop, P: Spawner, R: Rest>(
-    alloc: Global,
-    words: &[Text],
-    source: S,
-    sink: W,
-    spawner: &mut P,
-    rest: &mut R,
-) -> Status
-    ensures { (call : Call) × HasCalledOver (record { left = S.left source; written = W.written sink }) words.now result call
-        × Grows (P.calls spawner.old) (P.calls spawner.new) call.told
-        × HaveCauses call.told (P.faults spawner.old) (P.faults spawner.new) }
-{
-    let mut source = source;
-    let mut sink = sink;
-    run_rqd(alloc, words, &mut source, &mut sink, spawner, rest)
 }

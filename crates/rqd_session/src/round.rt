@@ -11,7 +11,7 @@ ghost use Rattle.rqd_core.specs.Replies.{take_line};
 ghost use Rattle.cue_io.specs.Growth.{Grows};
 ghost use Rattle.rqd_launcher.specs.Carries.{Carries, HaveCauses};
 ghost use Rattle.rqd_launcher.specs.declared.call.SpawnCall.{SpawnCall};
-ghost use Rattle.rqd_session.specs.Steps.{Done, Gave, GaveSo, Hears, IsHeard, IsSent, Makes, tasks_ordered};
+ghost use Rattle.rqd_session.specs.Steps.{Done, Gave, GaveSo, Awaits, IsOrdered, IsSent, Makes, tasks_ordered};
 
 use crate::cut::Cut;
 use cue_io::{Line, LineFault, LineReader, Sink, Source, write_all};
@@ -42,7 +42,7 @@ pub(crate) fn run_round<S: Source, W: Sink, P: Spawner, R: Rest>(
 {
     poll_all(alloc, rqd, spawner)?;
     send_line(alloc, rqd, sink)?;
-    let orders = hear(alloc, rqd, reader, source)?;
+    let orders = await_reply(alloc, rqd, reader, source)?;
     act(alloc, rqd, orders, spawner)?;
     rest.rest();
     Ok(())
@@ -71,14 +71,14 @@ fn with_newline(text: Text) -> Result<Text, AllocError>
 }
 
 // Takes a reply line, and says what it orders, if anything.
-fn hear<S: Source>(
+fn await_reply<S: Source>(
     alloc: Global,
     rqd: &mut Rqd,
     reader: &mut LineReader,
     source: &mut S,
 ) -> Result<Option<Orders>, Cut>
-    ensures heard { (answer : Result Given LineFault) × Moves (S.left source.old) (S.left source.new) reader.old answer reader.new
-        × Hears rqd.old result rqd.new answer }
+    ensures ordered { (answer : Result Given LineFault) × Moves (S.left source.old) (S.left source.new) reader.old answer reader.new
+        × Awaits rqd.old result rqd.new answer }
     ensures started { IfOk result (λ orders. IfSome orders (λ o. AreStarted o.starts rqd.new.running)) }
     ensures cause { IsErrOf result Cut.Read → HasRisen (S.faults source.old) (S.faults source.new) }
     ensures rises { S.faults source.old ≤ S.faults source.new }
@@ -94,7 +94,7 @@ fn hear<S: Source>(
 
 // What a line orders, if anything.
 fn take_line(alloc: Global, rqd: &mut Rqd, line: &[u8]) -> Result<Option<Orders>, Cut>
-    ensures heard { IsHeard rqd.old (take_line rqd.old line.now) result rqd.new }
+    ensures ordered { IsOrdered rqd.old (take_line rqd.old line.now) result rqd.new }
     ensures started { IfOk result (λ orders. IfSome orders (λ o. AreStarted o.starts rqd.new.running)) }
 {
     match rqd.take_reply(alloc, line) {

@@ -4,9 +4,8 @@ ghost use Rattle.std.specs.Prelude.{◌≡◌, is_some, option_map, IfOk};
 ghost use Rattle.farm_lines.specs.Request.{alloc_of_name};
 ghost use Rattle.rqd_session.specs.Words.{amount_of, are_names, asked_of, asked_words, rounds_of};
 
-use farm_lines::{read_cores, split_at_point};
+use farm_lines::{is_number, number_of, read_cores, split_at_point};
 use farm_types::{Cores, Kb, Text, is_name, is_tag};
-use number_words::{is_number, number_of};
 use rqd_core::RqdConfig;
 use std::alloc::{AllocError, Global};
 

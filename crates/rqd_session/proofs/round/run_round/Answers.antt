@@ -3,7 +3,7 @@ use Rattle.std.proofs.Common.{[], refl, None, Some}
 use Rattle.cue_io.specs.Output.{Adds-none}
 use Rattle.cue_io.specs.Growth.{Grows-append, Grows-none}
 use Rattle.rqd_session.specs.Rounds.{line_after}
-use Rattle.rqd_session.proofs.MadeLemmas.{cut_acting, cut_hearing, cut_polling, cut_sending, done_by, is_awaiting, line_sent, made_whole}
+use Rattle.rqd_session.proofs.MadeLemmas.{cut_acting, cut_reading, cut_polling, cut_sending, done_by, is_awaiting, line_sent, made_whole}
 use Rattle.rqd_session.proofs.RoundLemmas.{HaveCauses-append, HaveCauses-none}
 use Rattle.rqd_session.proofs.round.run_round.Goals as goal
 
@@ -41,15 +41,15 @@ pub returns-in_err-orders-clause-made : goal.returns-in_err-orders-clause-made
 returns-in_err-orders-clause-made g c =
     let told = c.in_ok-poll_all.ensures in
     let sent = c.in_ok-send_line.ensures.sent in
-    let heard = c.in_err-orders.ensures.heard in
+    let reply = c.in_err-orders.ensures.ordered in
     let calls = g.P.Spawner.calls c.poll_all.new.spawner in
     let faults = g.P.Spawner.faults c.poll_all.new.spawner in
     let asked = is_awaiting c.args.rqd.now c.poll_all.new.rqd c.send_line.new.rqd told.0 told.1.done told.1.life_is sent.0 in (
-      Some heard.0,
+      Some reply.0,
       done_by told.0 (line_after c.args.rqd.now told.0) [],
-      cut_hearing _ heard.0 c.args.rqd.now c.send_line.new.rqd c.hear.new.rqd c.hear.new.rqd told.0 c.from_residual-in_err-orders.result
-          c.from_residual-in_err-orders.ensures.1 asked heard.2,
-      heard.1,
+      cut_reading _ reply.0 c.args.rqd.now c.send_line.new.rqd c.await_reply.new.rqd c.await_reply.new.rqd told.0 c.from_residual-in_err-orders.result
+          c.from_residual-in_err-orders.ensures.1 asked reply.2,
+      reply.1,
       line_sent c.args.rqd.now c.poll_all.new.rqd told.0 (g.W.Sink.written c.args.sink.now) (g.W.Sink.written c.send_line.new.sink) told.1.life_is sent.1,
       Grows-append (g.P.Spawner.calls c.args.spawner.now) calls calls told.0 [] told.2 (Grows-none calls),
       HaveCauses-append told.0 [] (g.P.Spawner.faults c.args.spawner.now) faults faults told.1.causes (HaveCauses-none faults),
@@ -59,14 +59,14 @@ pub returns-in_err-act-clause-made : goal.returns-in_err-act-clause-made
 returns-in_err-act-clause-made g c =
     let told = c.in_ok-poll_all.ensures in
     let sent = c.in_ok-send_line.ensures.sent in
-    let heard = c.in_ok-orders.ensures.heard in
+    let reply = c.in_ok-orders.ensures.ordered in
     let acts = c.in_err-act.ensures in
     let asked = is_awaiting c.args.rqd.now c.poll_all.new.rqd c.send_line.new.rqd told.0 told.1.done told.1.life_is sent.0 in (
-      Some heard.0,
+      Some reply.0,
       done_by told.0 (line_after c.args.rqd.now told.0) acts.0,
-      cut_acting heard.0 c.args.rqd.now c.send_line.new.rqd c.hear.new.rqd c.act.new.rqd told.0 acts.0 c.in_ok-orders.orders c.from_residual-in_err-act.result
-          c.from_residual-in_err-act.ensures.1 asked heard.2 acts.1.done,
-      heard.1,
+      cut_acting reply.0 c.args.rqd.now c.send_line.new.rqd c.await_reply.new.rqd c.act.new.rqd told.0 acts.0 c.in_ok-orders.orders c.from_residual-in_err-act.result
+          c.from_residual-in_err-act.ensures.1 asked reply.2 acts.1.done,
+      reply.1,
       line_sent c.args.rqd.now c.poll_all.new.rqd told.0 (g.W.Sink.written c.args.sink.now) (g.W.Sink.written c.send_line.new.sink) told.1.life_is sent.1,
       Grows-append (g.P.Spawner.calls c.args.spawner.now) (g.P.Spawner.calls c.poll_all.new.spawner) (g.P.Spawner.calls c.act.new.spawner) told.0 acts.0 told.2 acts.2,
       HaveCauses-append told.0 acts.0 (g.P.Spawner.faults c.args.spawner.now) (g.P.Spawner.faults c.poll_all.new.spawner) (g.P.Spawner.faults c.act.new.spawner) told.1.causes
@@ -77,13 +77,13 @@ pub returns-clause-made : goal.returns-clause-made
 returns-clause-made g c =
     let told = c.in_ok-poll_all.ensures in
     let sent = c.in_ok-send_line.ensures.sent in
-    let heard = c.in_ok-orders.ensures.heard in
+    let reply = c.in_ok-orders.ensures.ordered in
     let acts = c.in_ok-act.ensures in
     let asked = is_awaiting c.args.rqd.now c.poll_all.new.rqd c.send_line.new.rqd told.0 told.1.done told.1.life_is sent.0 in (
-      Some heard.0,
+      Some reply.0,
       done_by told.0 (line_after c.args.rqd.now told.0) acts.0,
-      made_whole tt heard.0 c.args.rqd.now c.send_line.new.rqd c.hear.new.rqd c.act.new.rqd told.0 acts.0 c.in_ok-orders.orders asked heard.2 acts.1.done acts.1.life_is,
-      heard.1,
+      made_whole tt reply.0 c.args.rqd.now c.send_line.new.rqd c.await_reply.new.rqd c.act.new.rqd told.0 acts.0 c.in_ok-orders.orders asked reply.2 acts.1.done acts.1.life_is,
+      reply.1,
       line_sent c.args.rqd.now c.poll_all.new.rqd told.0 (g.W.Sink.written c.args.sink.now) (g.W.Sink.written c.send_line.new.sink) told.1.life_is sent.1,
       Grows-append (g.P.Spawner.calls c.args.spawner.now) (g.P.Spawner.calls c.poll_all.new.spawner) (g.P.Spawner.calls c.act.new.spawner) told.0 acts.0 told.2 acts.2,
       HaveCauses-append told.0 acts.0 (g.P.Spawner.faults c.args.spawner.now) (g.P.Spawner.faults c.poll_all.new.spawner) (g.P.Spawner.faults c.act.new.spawner) told.1.causes

@@ -5,7 +5,7 @@ use Rattle.cue_io.specs.Input.{Takes-none}
 use Rattle.cue_io.specs.Output.{Adds-none}
 use Rattle.cue_io.specs.Growth.{Grows-none}
 use Rattle.rqd_session.specs.Rounds.{Round}
-use Rattle.rqd_session.specs.Runs.{Call, Ends, ends}
+use Rattle.rqd_session.specs.Runs.{Call, Surroundings, surroundings}
 use Rattle.rqd_session.proofs.CallLemmas.{call_with, cut_more, made_more, made_none, moved_more}
 use Rattle.rqd_session.proofs.EndLemmas.{all_made, cut_off, no_call, read_of, write_of}
 use Rattle.rqd_session.proofs.RoundLemmas.{HaveCauses-none}
@@ -33,11 +33,11 @@ loop-round-preserved g c =
     let call : Call = c.loop-round.invariant.0 in
     let now = c.loop-round.invariant.1 in
     let step = c.in-Ok.ensures.made in
-    let before : Ends = ends (g.S.Source.left c.args.source.now) (g.S.Source.faults c.args.source.now) (g.W.Sink.written c.args.sink.now) (g.W.Sink.faults c.args.sink.now)
+    let before : Surroundings = surroundings (g.S.Source.left c.args.source.now) (g.S.Source.faults c.args.source.now) (g.W.Sink.written c.args.sink.now) (g.W.Sink.faults c.args.sink.now)
     (g.P.Spawner.calls c.args.spawner.now) (g.P.Spawner.faults c.args.spawner.now) in
-    let mid : Ends = ends (g.S.Source.left c.loop-round.source) (g.S.Source.faults c.loop-round.source) (g.W.Sink.written c.loop-round.sink) (g.W.Sink.faults c.loop-round.sink)
+    let mid : Surroundings = surroundings (g.S.Source.left c.loop-round.source) (g.S.Source.faults c.loop-round.source) (g.W.Sink.written c.loop-round.sink) (g.W.Sink.faults c.loop-round.sink)
     (g.P.Spawner.calls c.loop-round.spawner) (g.P.Spawner.faults c.loop-round.spawner) in
-    let after : Ends = ends (g.S.Source.left c.run_round.new.source) (g.S.Source.faults c.run_round.new.source) (g.W.Sink.written c.run_round.new.sink)
+    let after : Surroundings = surroundings (g.S.Source.left c.run_round.new.source) (g.S.Source.faults c.run_round.new.source) (g.W.Sink.written c.run_round.new.sink)
     (g.W.Sink.faults c.run_round.new.sink) (g.P.Spawner.calls c.run_round.new.spawner) (g.P.Spawner.faults c.run_round.new.spawner) in
     let more = made_more c.args.rqd.now c.loop-round.rqd c.run_round.new.rqd call c.loop-round.reader c.run_round.new.reader mid.left after.left step.1 now.made tt step.0 step.2 step.3 in
     let rounds : List Round = call.rounds ++ more.1 ∷ [] in (
@@ -56,11 +56,11 @@ returns-in-Err g c =
     let call : Call = c.loop-round.invariant.0 in
     let now = c.loop-round.invariant.1 in
     let step = c.in-Err.ensures.made in
-    let before : Ends = ends (g.S.Source.left c.args.source.now) (g.S.Source.faults c.args.source.now) (g.W.Sink.written c.args.sink.now) (g.W.Sink.faults c.args.sink.now)
+    let before : Surroundings = surroundings (g.S.Source.left c.args.source.now) (g.S.Source.faults c.args.source.now) (g.W.Sink.written c.args.sink.now) (g.W.Sink.faults c.args.sink.now)
     (g.P.Spawner.calls c.args.spawner.now) (g.P.Spawner.faults c.args.spawner.now) in
-    let mid : Ends = ends (g.S.Source.left c.loop-round.source) (g.S.Source.faults c.loop-round.source) (g.W.Sink.written c.loop-round.sink) (g.W.Sink.faults c.loop-round.sink)
+    let mid : Surroundings = surroundings (g.S.Source.left c.loop-round.source) (g.S.Source.faults c.loop-round.source) (g.W.Sink.written c.loop-round.sink) (g.W.Sink.faults c.loop-round.sink)
     (g.P.Spawner.calls c.loop-round.spawner) (g.P.Spawner.faults c.loop-round.spawner) in
-    let after : Ends = ends (g.S.Source.left c.run_round.new.source) (g.S.Source.faults c.run_round.new.source) (g.W.Sink.written c.run_round.new.sink)
+    let after : Surroundings = surroundings (g.S.Source.left c.run_round.new.source) (g.S.Source.faults c.run_round.new.source) (g.W.Sink.written c.run_round.new.sink)
     (g.W.Sink.faults c.run_round.new.sink) (g.P.Spawner.calls c.run_round.new.spawner) (g.P.Spawner.faults c.run_round.new.spawner) in
     let early : c.loop-round._round < c.args.rounds = search (rules, arith) in
     let fewer : length call.rounds < c.args.rounds = omega (arith, early, now.count) in
@@ -82,9 +82,9 @@ pub returns-clause-call : goal.returns-clause-call
 returns-clause-call g c =
     let call : Call = c.loop-round.invariant.0 in
     let now = c.loop-round.invariant.1 in
-    let before : Ends = ends (g.S.Source.left c.args.source.now) (g.S.Source.faults c.args.source.now) (g.W.Sink.written c.args.sink.now) (g.W.Sink.faults c.args.sink.now)
+    let before : Surroundings = surroundings (g.S.Source.left c.args.source.now) (g.S.Source.faults c.args.source.now) (g.W.Sink.written c.args.sink.now) (g.W.Sink.faults c.args.sink.now)
     (g.P.Spawner.calls c.args.spawner.now) (g.P.Spawner.faults c.args.spawner.now) in
-    let after : Ends = ends (g.S.Source.left c.loop-round.source) (g.S.Source.faults c.loop-round.source) (g.W.Sink.written c.loop-round.sink) (g.W.Sink.faults c.loop-round.sink)
+    let after : Surroundings = surroundings (g.S.Source.left c.loop-round.source) (g.S.Source.faults c.loop-round.source) (g.W.Sink.written c.loop-round.sink) (g.W.Sink.faults c.loop-round.sink)
     (g.P.Spawner.calls c.loop-round.spawner) (g.P.Spawner.faults c.loop-round.spawner) in
     let all : c.loop-round._round ≡ c.args.rounds = search (rules, arith) in
     (call, all_made c.args.rqd.now c.loop-round.rqd c.args.rounds before after call c.loop-round.reader now.moved now.made (now.count ∙ all))
