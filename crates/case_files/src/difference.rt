@@ -118,7 +118,7 @@ fn ended_difference(
     ended: &Ended,
 ) -> Result<Option<String>, AllocError> {
     let (source, sink) = (&ended.source, &ended.sink);
-    if let Some(found) = status_difference(alloc, case.status, ended.status, source, sink)? {
+    if let Some(found) = status_difference(alloc, case.status, ended.status.code(), source, sink)? {
         return Ok(Some(found));
     }
     let failed_calls = ended.keeper.faults();

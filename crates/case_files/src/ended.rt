@@ -2,9 +2,10 @@
 
 use crate::case::Case;
 use crate::store::keeper_of;
+use command_line::Status;
 use cue_io::{MemoryClock, MemorySink, MemorySource};
 use farm_keeper::{MemoryKeeper, Row};
-use session::{Status, run_cuebot};
+use session::run_cuebot;
 use std::alloc::{AllocError, Global};
 
 /// A session that ended, and what it ran over.

@@ -6,12 +6,10 @@ use crate::pieces::{cut_before, first_other, line_at, without_line};
 use crate::row_difference::list_difference;
 use crate::store::{Left, rows_with};
 use case_text::{line_difference, shown};
+use command_line::Status;
 use farm_keeper::Row;
-use session::Status;
 use std::alloc::{AllocError, Global};
 use std::str;
-
-const STORE: Status = 3;
 
 // The refusal of a line that the store failed.
 const REFUSAL: &[u8] = b"{\"code\":15,\"ok\":false,\"why\":\"store\"}";
@@ -51,11 +49,12 @@ fn fault_difference(
         return Ok(Some(format!(in alloc; "{faults} calls failed")?));
     }
     let left = Left::of(alloc, &mut ended.keeper, 1)?;
-    if ended.status == STORE {
+    if ended.status == Status::StoreFailed {
         return unopened_difference(alloc, case, rows, &ended, &left);
     }
-    if ended.status != case.status {
-        return Ok(Some(format!(in alloc; "the status is {}", ended.status)?));
+    let status = ended.status.code();
+    if status != case.status {
+        return Ok(Some(format!(in alloc; "the status is {status}")?));
     }
     opened_difference(alloc, case, rows, call, ended.sink.written(), &left)
 }
@@ -199,5 +198,5 @@ fn stop_difference(alloc: Global, case: &Case, left: &Left) -> Result<Option<Str
 // Whether a session opens over the rows.
 fn is_farm(alloc: Global, case: &Case, rows: &[Row]) -> Result<bool, AllocError> {
     let ended = run(alloc, case, rows, &[], &[])?;
-    Ok(ended.status == 0)
+    Ok(ended.status == Status::Done)
 }

@@ -1,6 +1,7 @@
 -- A round, candidate by candidate.
-use Rattle.std.proofs.Common.{◌≡◌, ℕ, suc, ◌+◌, ◌-◌, ◌<◌, ◌≤◌, true, List, [], ◌∷◌, ◌++◌, length, length-append, get_or, drop, take, append_assoc, append-nil, drop-cons, refl, sym, ap, subst, ◌∙◌, arith}
+use Rattle.std.proofs.Common.{◌≡◌, ℕ, suc, ◌+◌, ◌-◌, ◌<◌, true, List, [], ◌∷◌, ◌++◌, length, length-append, get_or, drop, take, append_assoc, append-nil, drop-cons, Result, IsErrAnd, refl, sym, ap, subst, ◌∙◌, arith}
 use Rattle.std.proofs.Math.Seq.{take-append_seam}
+use Rattle.std.proofs.lemmas.Result.{err_from_is_err_and}
 use Rattle.farm_types.specs.declared.dispatch.Candidate.{Candidate}
 use Rattle.farm_types.specs.declared.dispatch.Cut.{Cut}
 use Rattle.farm_types.specs.declared.dispatch.Cut.TheVariants as cut
@@ -11,10 +12,12 @@ use Rattle.farm_types.specs.Dispatch.{book_entry, round_from}
 use Rattle.farm_types.specs.Farm.{Farm}
 use Rattle.farm_types.specs.Run.{run_of}
 use Rattle.farm_types.specs.Step.{after}
+use Rattle.recorder.specs.Faults.{is_of_store, is_store_fault}
+use Rattle.recorder.specs.Recording.{ChangesNone, IsUnstoredBooking}
 use Rattle.recorder.specs.declared.refusal.RecordFault.{RecordFault}
 use Rattle.recorder.specs.declared.refusal.RecordFault.TheVariants as fault
 use Rattle.dispatch_plan.specs.declared.walked.Walked.{Walked}
-use Rattle.dispatch_plan.specs.Rounds.{Ends, EndsBy, FailsToOffer, IsOffered}
+use Rattle.dispatch_plan.specs.Rounds.{EndsBy, FailsToOffer, HasWalked, IsOffered, cut_of, is_store_cut}
 use Rattle.dispatch_plan.proofs.Booked.{begins}
 
 -- of a round of all these candidates these bookings are made so far, and so many bookings and these candidates are left
@@ -23,9 +26,6 @@ pub record IsUnderWay (old : Farm) (moment : ℕ) (all : List Candidate) (left :
   pub counted : left + length booked ≡ BOOKINGS_EACH
   pub made : now ≡ run_of old booked
   pub goes_on : booked ++ round_from left now moment rest ≡ round_from BOOKINGS_EACH old moment all
-
-pub no_less : (a b c : ℕ) → a ≤ b → b ≤ c → a ≤ c
-no_less a b c low high = omega arith
 
 -- an item and those behind it
 next_item : {X : Type 0} (xs : List X) (i : ℕ) (x : X) → i < length xs → x ≡ get_or xs i x → drop i xs ≡ x ∷ drop (i + 1) xs
@@ -37,6 +37,22 @@ next_item {X = X} xs i x within is =
 runs_on : (f : Farm) (done more : List Entry) → run_of f (done ++ more) ≡ run_of (run_of f done) more
 runs_on f [] more = refl
 runs_on f (e ∷ done) more = runs_on (after f e) done more
+
+-- where no entry changes a row, none behind the first ones does
+none_behind : (f : Farm) (done more : List Entry) → ChangesNone f (done ++ more) → ChangesNone (run_of f done) more
+none_behind f [] more none = none
+none_behind f (e ∷ done) more none = none_behind (after f e) done more none.1
+
+-- a fault that is passed on
+pub passed_on : {T : Type 0} (why : RecordFault) (r : Result T RecordFault) → IsErrAnd r (λ told. told ≡ why) → is_of_store why ≡ is_store_fault r
+passed_on why r err =
+    let p = err_from_is_err_and r err in
+    sym (ap is_store_fault p.1 ∙ ap is_of_store p.2)
+
+-- the store ends a round where the fault is its own
+pub store_cut : (why : RecordFault) (walked : Walked) → walked.cut ≡ cut_of why → is_of_store why ≡ is_store_cut walked.cut
+store_cut fault.Store walked is = sym (ap is_store_cut is)
+store_cut fault.NoMemory walked is = sym (ap is_store_cut is)
 
 -- at a fault the farm is as before
 same_at : (left : ℕ) (f : Farm) (c : Candidate) (why : RecordFault) (new : Farm) → FailsToOffer left f c why new → new ≡ f
@@ -67,6 +83,19 @@ module _ (old : Farm) (moment : ℕ) (all : List Candidate) (left : ℕ) (f : Fa
       → IsOffered left f moment c left_then new → IsUnderWay old moment all left_then new (drop (i + 1) all)
   then_offered i within is so new left_then offered = one_offered (drop (i + 1) all) left_then new (at_hand i within is so) offered
 
+  unstored_next : (later : List Candidate) (so : IsUnderWay old moment all left f (c ∷ later)) → ChangesNone old round → 0 < left
+      → IsUnstoredBooking f c.slot c.host moment
+  unstored_next later so none some may =
+      let rest : ChangesNone f (round_from left f moment (c ∷ later)) =
+      subst (λ (g : Farm). ChangesNone g (round_from left f moment (c ∷ later))) (sym so.made)
+      (none_behind old so.booked (round_from left f moment (c ∷ later)) (subst (ChangesNone old) (sym so.goes_on) none)) in
+      (subst (ChangesNone f) (begins f left c moment some may later) rest).0
+
+  -- where the round changes no row, the booking of the candidate at hand changes none
+  pub unstored_at : (i : ℕ) → i < length all → c ≡ get_or all i c → IsUnderWay old moment all left f (drop i all) → ChangesNone old round
+      → 0 < left → IsUnstoredBooking f c.slot c.host moment
+  unstored_at i within is so none some = unstored_next (drop (i + 1) all) (at_hand i within is so) none some
+
   first_ones : (rest : List Candidate) (so : IsUnderWay old moment all left f rest) → so.booked ≡ take (length so.booked) round
   first_ones rest so = sym (ap (take (length so.booked)) (sym so.goes_on) ∙ take-append_seam so.booked (round_from left f moment rest))
 
@@ -85,26 +114,31 @@ module _ (old : Farm) (moment : ℕ) (all : List Candidate) (left : ℕ) (f : Fa
 
   module _ (walked : Walked) (told : walked.booked ≡ BOOKINGS_EACH - left) where
     -- the round ended so after the bookings that were made so far
-    ended : (rest : List Candidate) (so : IsUnderWay old moment all left f rest) (by : Cut) (new : Farm) → walked.cut ≡ by → EndsBy old round by (length so.booked) new → Ends old round walked new
+    ended : (rest : List Candidate) (so : IsUnderWay old moment all left f rest) (by : Cut) (new : Farm) → walked.cut ≡ by → EndsBy old round by (length so.booked) new → HasWalked old round walked new
     ended rest so by new cut_is ends =
         let many : walked.booked ≡ length so.booked = told ∙ omega (arith, so.counted) in
         subst (λ (k : ℕ). EndsBy old round walked.cut k new) (sym many) (subst (λ (c : Cut). EndsBy old round c (length so.booked) new) (sym cut_is) ends)
 
     -- all candidates were offered
-    pub then_ends : walked.cut ≡ cut.Whole → IsUnderWay old moment all left f [] → Ends old round walked f
+    pub then_ends : walked.cut ≡ cut.Whole → IsUnderWay old moment all left f [] → HasWalked old round walked f
     then_ends cut_is so =
         let is : so.booked ≡ round = sym (append-nil so.booked) ∙ so.goes_on in
         ended [] so cut.Whole f cut_is (ap (λ (es : List Entry). length es) is, so.made ∙ ap (run_of old) is)
 
     module _ (i : ℕ) (within : i < length all) (is : c ≡ get_or all i c) (so : IsUnderWay old moment all left f (drop i all)) (new : Farm) where
       -- the store failed at the candidate at hand
-      pub then_refused : (why : RecordFault) → why ≡ fault.Store → walked.cut ≡ cut.Store → FailsToOffer left f c why new → Ends old round walked new
+      pub then_refused : (why : RecordFault) → why ≡ fault.Store → walked.cut ≡ cut.Store → FailsToOffer left f c why new → HasWalked old round walked new
       then_refused why store cut_is fails =
           let there = at_hand i within is so in
           let failed : FailsToOffer left f c fault.Store new = subst (λ (w : RecordFault). FailsToOffer left f c w new) store fails in
           ended (c ∷ drop (i + 1) all) there cut.Store new cut_is (one_missing (drop (i + 1) all) there failed.0 failed.1, stopped (c ∷ drop (i + 1) all) new there failed.2)
 
       -- memory ran out at the candidate at hand
-      pub then_cut : (why : RecordFault) → walked.cut ≡ cut.Memory → FailsToOffer left f c why new → Ends old round walked new
+      pub then_cut : (why : RecordFault) → walked.cut ≡ cut.Memory → FailsToOffer left f c why new → HasWalked old round walked new
       then_cut why cut_is fails =
           ended (drop i all) so cut.Memory new cut_is (omega (arith, all_of (drop i all) so), stopped (drop i all) new so (same_at left f c why new fails))
+
+      -- a fault ended it there
+      pub then_stopped : (why : RecordFault) → walked.cut ≡ cut_of why → FailsToOffer left f c why new → HasWalked old round walked new
+      then_stopped fault.Store cut_is fails = then_refused fault.Store refl cut_is fails
+      then_stopped fault.NoMemory cut_is fails = then_cut fault.NoMemory cut_is fails

@@ -3,7 +3,6 @@
 ghost use Rattle.std.specs.Prelude.{◌≡◌, ◌≤◌, length, slice_get, IfOk, Some};
 ghost use Rattle.std.specs.List.{flat_map};
 ghost use Rattle.std.specs.Vec.{vec_capacity};
-ghost use Rattle.farm_types.specs.Booking.{takes_frames};
 ghost use Rattle.farm_types.specs.Dispatch.{plan_for};
 ghost use Rattle.farm_types.specs.declared.limits.TheConstants.{CANDIDATES_EACH};
 ghost use Rattle.dispatch_law.specs.ByIndex.{ranks_in_show, show_of};
@@ -13,8 +12,7 @@ use crate::offers::offer_show;
 use crate::subs::{show_of, subs_in_order};
 use farm_core::Farm;
 use farm_types::{
-    CANDIDATES_EACH, Candidate, HostNo, HostRow, HostState, Items, LEAST_CORES, LEAST_MEMORY,
-    LockState, SubRow,
+    CANDIDATES_EACH, Candidate, HostNo, HostRow, Items, LEAST_CORES, LEAST_MEMORY, SubRow,
 };
 use std::alloc::{AllocError, Global};
 
@@ -41,7 +39,7 @@ fn candidates(
     ensures { IfOk result (λ plan. plan.items ≡ plan_for farm.now host) }
 {
     farm.kept();
-    if !takes_frames(row) {
+    if !row.takes_frames() {
         return Ok(Vec::new(alloc));
     }
     if !has_least_free(farm, host, row) {
@@ -51,13 +49,6 @@ fn candidates(
     let mut plan = Vec::with_capacity(alloc, CANDIDATES_EACH as usize)?;
     offer_subs(farm, host, subs.as_slice(), &mut plan);
     Ok(plan)
-}
-
-// Whether the host is up and open.
-fn takes_frames(row: &HostRow) -> bool
-    ensures { result ≡ takes_frames row.now }
-{
-    matches!(row.state, HostState::Up) && matches!(row.lock, LockState::Unlocked)
 }
 
 // Whether the host has the least amounts of a layer free.

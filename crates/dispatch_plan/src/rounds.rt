@@ -1,12 +1,11 @@
 //! The round of bookings that follows a report.
 
-ghost use Rattle.std.specs.Prelude.{◌≡◌, ◌≤◌, ◌-◌, IfErr, IfOk};
-ghost use Rattle.std.specs.Result.{IsErrOf};
-ghost use Rattle.farm_types.specs.declared.dispatch.Cut.TheVariants as cut;
-ghost use Rattle.farm_types.specs.Dispatch.{round_from};
-ghost use Rattle.farm_keeper.specs.Faults.{HasRisen};
-ghost use Rattle.recorder.specs.declared.refusal.RecordFault.TheVariants as fault;
-ghost use Rattle.dispatch_plan.specs.Rounds.{Ends, FailsToOffer, IsOffered, IsRound};
+ghost use Rattle.std.specs.Prelude.{◌≡◌, ◌≤◌, ◌<◌, ◌-◌, IfErr, IfOk};
+ghost use Rattle.farm_types.specs.Dispatch.{round_for, round_from};
+ghost use Rattle.farm_keeper.specs.Keeping.{Continues};
+ghost use Rattle.recorder.specs.Faults.{is_store_fault};
+ghost use Rattle.recorder.specs.Recording.{ChangesNone, IsUnstoredBooking};
+ghost use Rattle.dispatch_plan.specs.Rounds.{FailsToOffer, HasWalked, IsOffered, IsRound, cut_of, is_store_cut};
 
 use crate::planning::plan;
 use crate::walked::Walked;
@@ -25,9 +24,8 @@ pub fn round<K: Keeper>(
 ) -> Walked
     ensures round { IsRound recorder.old.farm host moment result recorder.new.farm }
     ensures few { result.booked ≤ BOOKINGS_EACH }
-    ensures told { K.tells recorder.new.keeper → K.tells recorder.old.keeper }
-    ensures cause { result.cut ≡ cut.Store → HasRisen (K.faults recorder.old.keeper) (K.faults recorder.new.keeper) }
-    ensures rises { K.faults recorder.old.keeper ≤ K.faults recorder.new.keeper }
+    ensures keeper { Continues K.tells K.faults recorder.old.keeper recorder.new.keeper (is_store_cut result.cut) }
+    ensures same { ChangesNone recorder.old.farm (round_for recorder.old.farm host moment) → recorder.new.keeper ≡ recorder.old.keeper }
 {
     match plan(alloc, recorder.read(), host) {
         Ok(candidates) => book_in_turn(alloc, recorder, moment, candidates.as_slice()),
@@ -42,21 +40,33 @@ fn book_in_turn<K: Keeper>(
     moment: u64,
     candidates: &[Candidate],
 ) -> Walked
-    ensures round { Ends recorder.old.farm (round_from BOOKINGS_EACH recorder.old.farm moment candidates.now) result recorder.new.farm }
+    ensures round { HasWalked recorder.old.farm (round_from BOOKINGS_EACH recorder.old.farm moment candidates.now) result recorder.new.farm }
     ensures few { result.booked ≤ BOOKINGS_EACH }
-    ensures told { K.tells recorder.new.keeper → K.tells recorder.old.keeper }
-    ensures cause { result.cut ≡ cut.Store → HasRisen (K.faults recorder.old.keeper) (K.faults recorder.new.keeper) }
-    ensures rises { K.faults recorder.old.keeper ≤ K.faults recorder.new.keeper }
+    ensures keeper { Continues K.tells K.faults recorder.old.keeper recorder.new.keeper (is_store_cut result.cut) }
+    ensures same { ChangesNone recorder.old.farm (round_from BOOKINGS_EACH recorder.old.farm moment candidates.now)
+        → recorder.new.keeper ≡ recorder.old.keeper }
 {
     let mut left = BOOKINGS_EACH;
     for candidate in candidates {
         left = match offer(alloc, recorder, left, candidate, moment) {
             Ok(left) => left,
-            Err(RecordFault::Store) => return walked(Cut::Store, left),
-            Err(RecordFault::NoMemory) => return walked(Cut::Memory, left),
+            Err(fault) => return cut_by(fault, left),
         };
     }
     walked(Cut::Whole, left)
+}
+
+// How a round went that a fault ended with so many bookings left.
+fn cut_by(fault: RecordFault, left: u32) -> Walked
+    requires { left ≤ BOOKINGS_EACH }
+    ensures cut { result.cut ≡ cut_of fault }
+    ensures booked { result.booked ≡ BOOKINGS_EACH - left }
+    ensures few { result.booked ≤ BOOKINGS_EACH }
+{
+    match fault {
+        RecordFault::Store => walked(Cut::Store, left),
+        RecordFault::NoMemory => walked(Cut::Memory, left),
+    }
 }
 
 // How a round went that so many bookings are left of.
@@ -82,13 +92,29 @@ fn offer<K: Keeper>(
 ) -> Result<u32, RecordFault>
     ensures went { IfOk result (λ left_then. IsOffered left recorder.old.farm moment candidate.now left_then recorder.new.farm) }
     ensures failed { IfErr result (λ why. FailsToOffer left recorder.old.farm candidate.now why recorder.new.farm) }
-    ensures told { K.tells recorder.new.keeper → K.tells recorder.old.keeper }
-    ensures cause { IsErrOf result fault.Store → HasRisen (K.faults recorder.old.keeper) (K.faults recorder.new.keeper) }
-    ensures rises { K.faults recorder.old.keeper ≤ K.faults recorder.new.keeper }
+    ensures keeper { Continues K.tells K.faults recorder.old.keeper recorder.new.keeper (is_store_fault result) }
+    ensures same { (0 < left → IsUnstoredBooking recorder.old.farm candidate.now.slot candidate.now.host moment) → recorder.new.keeper ≡ recorder.old.keeper }
 {
     if left == 0 {
         return Ok(0);
     }
+    offer_due(alloc, recorder, left, candidate, moment)
+}
+
+// Books the candidate where it still may be booked, and says how many bookings are left then.
+fn offer_due<K: Keeper>(
+    alloc: Global,
+    recorder: &mut PlainRecorder<K>,
+    left: u32,
+    candidate: &Candidate,
+    moment: u64,
+) -> Result<u32, RecordFault>
+    requires { 0 < left }
+    ensures went { IfOk result (λ left_then. IsOffered left recorder.old.farm moment candidate.now left_then recorder.new.farm) }
+    ensures failed { IfErr result (λ why. FailsToOffer left recorder.old.farm candidate.now why recorder.new.farm) }
+    ensures keeper { Continues K.tells K.faults recorder.old.keeper recorder.new.keeper (is_store_fault result) }
+    ensures same { IsUnstoredBooking recorder.old.farm candidate.now.slot candidate.now.host moment → recorder.new.keeper ≡ recorder.old.keeper }
+{
     if recorder.book(alloc, candidate.slot, candidate.host, moment)? {
         Ok(left - 1)
     } else {

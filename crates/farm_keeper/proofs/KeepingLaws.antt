@@ -1,19 +1,51 @@
--- What a stop leaves of any keeper, from call to call.
-use Rattle.std.proofs.Common.{◌≡◌, List, [], ◌∷◌, ◌++◌, inl, inr}
-use Rattle.std.specs.Prelude.{◌⊎◌}
+-- How any keeper goes on from call to call, and what a stop leaves of it.
+use Rattle.std.proofs.Common.{◌≡◌, ◌<◌, ◌≤◌, ◌+◌, ◌∙◌, ℕ, Bool, false, List, [], ◌∷◌, ◌++◌, inl, inr, refl, ap, subst, arith}
+use Rattle.std.specs.Prelude.{◌⊎◌, min}
+use Rattle.std.proofs.lemmas.Bool.{cases_lt}
 use Rattle.std.specs.List.{Any}
 use Rattle.std.proofs.lemmas.List.Elements.{Contains-append_left}
 use Rattle.std.proofs.lemmas.List.Quantifiers.{Any-push}
 use Rattle.farm_keeper.specs.declared.row.Batch.{Batch}
 use Rattle.farm_keeper.specs.Rows.{Rows, after}
-use Rattle.farm_keeper.specs.Keeping.{HasKept, Keeps, LeavesTaken, MayLeave, MayRemain, Takes}
+use Rattle.farm_keeper.specs.Faults.{HasRisen, incremented, incremented_if, last_count}
+use Rattle.farm_keeper.specs.Keeping.{Continues, HasKept, HoldsWith, Keeps, LeavesSome, LeavesTaken, MayLeave, MayRemain}
+
+-- ---- how it goes on
+
+-- a keeper that isn't asked
+pub Continues-same : {K : Type 0} (tells : K → Type 0) (faults : K → ℕ) (k : K) → Continues tells faults k k false
+Continues-same tells faults k = record { told = λ now. now; counted = refl }
+
+-- what failed is as it is said
+pub Continues-as : {K : Type 0} (tells : K → Type 0) (faults : K → ℕ) (before now : K) (failed said : Bool) → failed ≡ said → Continues tells faults before now failed
+    → Continues tells faults before now said
+Continues-as tells faults before now failed said is goes = subst (Continues tells faults before now) is goes
+
+-- one call after another in which the store didn't fail
+pub Continues-then : {K : Type 0} (tells : K → Type 0) (faults : K → ℕ) (before mid now : K) (failed : Bool) → Continues tells faults before mid false
+    → Continues tells faults mid now failed → Continues tells faults before now failed
+Continues-then tells faults before mid now failed first second = record {
+  told = λ tells_now. first.told (second.told tells_now);
+  counted = second.counted ∙ ap (incremented_if failed) first.counted;
+}
+
+risen : (old new : ℕ) → new ≡ min (old + 1) last_count → (old < last_count) ⊎ (last_count ≤ old) → HasRisen old new
+risen old new is (inl below) = inl (omega (arith, is))
+risen old new is (inr full) = inr (omega (arith, is))
+
+-- where the store failed, the count went up
+pub HasRisen-incremented : (old new : ℕ) → new ≡ incremented old → HasRisen old new
+HasRisen-incremented old new is = risen old new is (cases_lt old last_count)
+
+-- ---- what a stop leaves
 
 -- after an Ok of a commit
 pub HasKept-taken : (batch : Batch) (holds holds' left' : Rows → Type 0) (rows : Rows) → holds rows
-    → Takes batch holds holds' → LeavesTaken batch holds left' → HasKept holds' left' (after batch rows) []
-HasKept-taken batch holds holds' left' rows held takes leaves = record {
+    → HoldsWith batch holds holds' → LeavesTaken batch holds left' → LeavesSome left' → HasKept holds' left' (after batch rows) []
+HasKept-taken batch holds holds' left' rows held takes leaves some = record {
   held = takes rows held;
   remains = λ other now. inl (leaves rows held other now);
+  some = some;
 }
 
 any_left : (P : Batch → Type 0) (xs ys : List Batch) → Any P xs → Any P (xs ++ ys)
@@ -36,17 +68,19 @@ either f (inr c) = inr c
 
 -- after an Err of a commit
 pub HasKept-refused : (batch : Batch) (holds left holds' left' : Rows → Type 0) (rows : Rows) (refused : List Batch)
-    → HasKept holds left rows refused → Keeps holds holds' → MayLeave batch holds left left'
+    → HasKept holds left rows refused → Keeps holds holds' → MayLeave batch holds left left' → LeavesSome left'
     → HasKept holds' left' rows (refused ++ batch ∷ [])
-HasKept-refused batch holds left holds' left' rows refused kept keeps leaves = record {
+HasKept-refused batch holds left holds' left' rows refused kept keeps leaves some = record {
   held = keeps rows kept.held;
   remains = λ other now. remains_new batch rows refused other (either (kept.remains other) (leaves rows kept.held other now));
+  some = some;
 }
 
 -- after a load
 pub HasKept-loaded : (holds left holds' left' : Rows → Type 0) (rows : Rows) (refused : List Batch)
-    → HasKept holds left rows refused → Keeps holds holds' → Keeps left' left → HasKept holds' left' rows refused
-HasKept-loaded holds left holds' left' rows refused kept keeps leaves = record {
+    → HasKept holds left rows refused → Keeps holds holds' → Keeps left' left → LeavesSome left' → HasKept holds' left' rows refused
+HasKept-loaded holds left holds' left' rows refused kept keeps leaves some = record {
   held = keeps rows kept.held;
   remains = λ other now. kept.remains other (leaves other now);
+  some = some;
 }

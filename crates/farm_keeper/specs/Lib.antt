@@ -4,3 +4,4 @@ pub mod Keeping
 pub mod Memory
 pub mod Codes
 pub mod Places
+pub mod Remains

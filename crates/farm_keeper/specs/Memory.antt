@@ -6,7 +6,7 @@ use Rattle.farm_keeper.specs.declared.row.Row.{Row}
 use Rattle.farm_keeper.specs.declared.row.Batch.{Batch}
 use Rattle.farm_keeper.specs.declared.fault.KeeperFault.{KeeperFault}
 use Rattle.farm_keeper.specs.declared.fault.KeeperFault.TheVariants.{Failed, NoMemory}
-use Rattle.farm_keeper.specs.Faults.{counted}
+use Rattle.farm_keeper.specs.Faults.{incremented}
 use Rattle.farm_keeper.specs.Rows.{Rows, Lists, after}
 
 -- the calls that are to fail, by their number from 1, and the calls and the faults so far
@@ -21,15 +21,15 @@ new_plan fails = record { fails = fails; calls = 0; faults = 0 }
 
 -- whether the next call is to fail
 abbrev pub is_to_fail : Plan → Bool
-is_to_fail plan = list_any (λ call. call == counted plan.calls) plan.fails
+is_to_fail plan = list_any (λ call. call == incremented plan.calls) plan.fails
 
 -- one more call
 abbrev pub after_call : Plan → Plan
-after_call plan = record plan { calls = counted plan.calls }
+after_call plan = record plan { calls = incremented plan.calls }
 
 -- one more fault
 abbrev pub with_fault : Plan → Plan
-with_fault plan = record plan { faults = counted plan.faults }
+with_fault plan = record plan { faults = incremented plan.faults }
 
 -- a keeper: its rows, the batches refused since the last Ok of a commit, and its calls
 pub record Kept : Type 0 where

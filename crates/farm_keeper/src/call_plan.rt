@@ -1,5 +1,5 @@
 //! Which calls of a keeper in memory fail.
-ghost use Rattle.std.specs.Prelude.{◌≡◌, ◌≤◌, IfOk};
+ghost use Rattle.std.specs.Prelude.{◌≡◌, IfOk};
 ghost use Rattle.farm_keeper.specs.Memory.{Plan, after_call, is_to_fail, new_plan, with_fault};
 
 use std::alloc::{AllocError, Global};
@@ -55,8 +55,7 @@ impl CallPlan {
 
     /// Counts a fault.
     pub fn fault(&mut self)
-        ensures after { self.new ≡ with_fault self.old }
-        ensures rises { self.old.faults ≤ self.new.faults }
+        ensures { self.new ≡ with_fault self.old }
     {
         self.faults = self.faults.saturating_add(1);
     }

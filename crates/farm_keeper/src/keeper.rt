@@ -7,14 +7,13 @@ use std::alloc::Global;
 
 /// A keeper of rows. `holds` says which rows it holds, and `left` which rows a stop at this moment may leave. Both say
 /// nothing false whatever the store does; where the store has been true so far, which `tells` says, what is loaded is
-/// what it holds. It counts its faults.
+/// what it holds, a stop leaves some rows, and rows that it holds alone are among those that a stop may leave. It counts
+/// its faults: one more at each call that is Failed, and none at any other.
 pub trait Keeper {
-    ghost use Rattle.std.specs.Prelude.{◌≡◌, ℕ, ◌≤◌, IfOk, OnOk, OnErr};
-    ghost use Rattle.std.specs.Result.{IsErrOf};
-    ghost use Rattle.farm_keeper.specs.declared.fault.KeeperFault.TheVariants.{Failed};
-    ghost use Rattle.farm_keeper.specs.Faults.{HasRisen};
+    ghost use Rattle.std.specs.Prelude.{ℕ, IfOk, OnOk, OnErr};
+    ghost use Rattle.farm_keeper.specs.Faults.{is_failed};
     ghost use Rattle.farm_keeper.specs.Rows.{Rows, Lists};
-    ghost use Rattle.farm_keeper.specs.Keeping.{Keeps, Takes, LeavesTaken, MayLeave};
+    ghost use Rattle.farm_keeper.specs.Keeping.{Continues, HoldsOnly, HoldsWith, Keeps, LeavesSome, LeavesTaken, MayLeave};
 
     ghost tells: { Self → Type 0 };
 
@@ -24,24 +23,25 @@ pub trait Keeper {
 
     ghost faults: { Self → ℕ };
 
-    /// The rows, by kind and then by id. What is held stays. The call is Failed only where the count of faults rises in it.
+    /// The rows, by kind and then by id. What is held stays, and a stop leaves nothing that it couldn't leave before.
     fn load(&mut self, alloc: Global) -> Result<Items<Row>, KeeperFault>
-        ensures told { tells self.new → tells self.old }
+        ensures keeper { Continues tells faults self.old self.new (is_failed result) }
         ensures listed { IfOk result (λ list. tells self.new → (rows : Rows) → holds self.old rows → Lists list rows) }
         ensures kept { Keeps (holds self.old) (holds self.new) }
-        ensures left { Keeps (left self.new) (left self.old) }
-        ensures cause { IsErrOf result Failed → HasRisen (faults self.old) (faults self.new) }
-        ensures rises { faults self.old ≤ faults self.new };
+        ensures left { Keeps (left self.new) (left self.old) };
 
     /// Makes all puts and deletes of the batch, or none. After an Ok a stop leaves the rows with the batch and nothing
-    /// else; after an Err it leaves what could be left before, or the rows with the batch. The call is Failed only where
-    /// the count of faults rises in it.
+    /// else; after an Err it leaves what could be left before, or the rows with the batch.
     fn commit(&mut self, alloc: Global, batch: &Batch) -> Result<(), KeeperFault>
-        ensures told { tells self.new → tells self.old }
-        ensures taken { OnOk result (Takes batch.now (holds self.old) (holds self.new)) }
+        ensures keeper { Continues tells faults self.old self.new (is_failed result) }
+        ensures taken { OnOk result (HoldsWith batch.now (holds self.old) (holds self.new)) }
         ensures kept { OnErr result (Keeps (holds self.old) (holds self.new)) }
         ensures left_ok { OnOk result (LeavesTaken batch.now (holds self.old) (left self.new)) }
-        ensures left_err { OnErr result (MayLeave batch.now (holds self.old) (left self.old) (left self.new)) }
-        ensures cause { IsErrOf result Failed → HasRisen (faults self.old) (faults self.new) }
-        ensures rises { faults self.old ≤ faults self.new };
+        ensures left_err { OnErr result (MayLeave batch.now (holds self.old) (left self.old) (left self.new)) };
+
+    // A stop leaves some rows, also after a call that failed.
+    ghost leaves: { (k : Self) → tells k → LeavesSome (left k) };
+
+    // It may leave the rows that are held, where it is these alone.
+    ghost leaves_held: { (k : Self) (rows : Rows) → tells k → HoldsOnly (holds k) rows → left k rows };
 }

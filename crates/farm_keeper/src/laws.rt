@@ -5,7 +5,7 @@ ghost use Rattle.std.specs.List.Sorted.{IsStrictlySortedBy};
 ghost use Rattle.std.specs.FinMap.{get};
 ghost use Rattle.farm_keeper.specs.declared.row.Batch.{Batch};
 ghost use Rattle.farm_keeper.specs.declared.row.Row.{Row};
-ghost use Rattle.farm_keeper.specs.Keeping.{HasKept, Keeps, LeavesTaken, MayLeave, Takes};
+ghost use Rattle.farm_keeper.specs.Keeping.{HasKept, HoldsOnly, HoldsWith, Keeps, LeavesSome, LeavesTaken, MayLeave};
 ghost use Rattle.farm_keeper.specs.Rows.{Key, Lists, NamesEachOnce, Rows, after, is_among, key_cmp, key_of, keys_of, rows_from};
 
 use crate::keeper::Keeper;
@@ -27,17 +27,19 @@ pub fn rows_have_one_list()
     ensures listed { (list : List Row) → IsStrictlySortedBy key_cmp (map key_of list) → Lists list (rows_from list) }
 {}
 
-/// What a stop leaves of any keeper, from what each of its calls says: the rows, or the rows with one batch whose commit was
-/// refused since the last Ok of a commit.
+/// What a stop leaves of any keeper that tells, from what each of its calls says: the rows, or the rows with one batch whose
+/// commit was refused since the last Ok of a commit, and always one of these. Where it holds rows alone, a stop may leave these.
 pub fn stops_leave_one_batch<K: Keeper>(earlier: &K, later: &K)
-    ensures taken { (batch : Batch) (rows : Rows) → K.holds earlier.now rows
-        → Takes batch (K.holds earlier.now) (K.holds later.now) → LeavesTaken batch (K.holds earlier.now) (K.left later.now)
+    ensures taken { (batch : Batch) (rows : Rows) → K.tells later.now → K.holds earlier.now rows
+        → HoldsWith batch (K.holds earlier.now) (K.holds later.now) → LeavesTaken batch (K.holds earlier.now) (K.left later.now)
         → HasKept (K.holds later.now) (K.left later.now) (after batch rows) [] }
-    ensures refused { (batch : Batch) (rows : Rows) (refused : List Batch)
+    ensures refused { (batch : Batch) (rows : Rows) (refused : List Batch) → K.tells later.now
         → HasKept (K.holds earlier.now) (K.left earlier.now) rows refused → Keeps (K.holds earlier.now) (K.holds later.now)
         → MayLeave batch (K.holds earlier.now) (K.left earlier.now) (K.left later.now)
         → HasKept (K.holds later.now) (K.left later.now) rows (refused ++ batch ∷ []) }
-    ensures loaded { (rows : Rows) (refused : List Batch)
+    ensures loaded { (rows : Rows) (refused : List Batch) → K.tells later.now
         → HasKept (K.holds earlier.now) (K.left earlier.now) rows refused → Keeps (K.holds earlier.now) (K.holds later.now)
         → Keeps (K.left later.now) (K.left earlier.now) → HasKept (K.holds later.now) (K.left later.now) rows refused }
+    ensures some { K.tells later.now → LeavesSome (K.left later.now) }
+    ensures held { (rows : Rows) → K.tells later.now → HoldsOnly (K.holds later.now) rows → K.left later.now rows }
 {}

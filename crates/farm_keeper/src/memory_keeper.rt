@@ -1,11 +1,9 @@
 //! A keeper in memory.
-ghost use Rattle.std.specs.Prelude.{◌≡◌, ◌≤◌, ⊤, IfOk, OnOk, OnErr};
-ghost use Rattle.std.specs.Result.{IsErrOf};
-ghost use Rattle.farm_keeper.specs.declared.fault.KeeperFault.TheVariants.{Failed};
-ghost use Rattle.farm_keeper.specs.Faults.{HasRisen};
+ghost use Rattle.std.specs.Prelude.{◌≡◌, ⊤, IfOk, OnOk, OnErr};
+ghost use Rattle.farm_keeper.specs.Faults.{is_failed};
 ghost use Rattle.farm_keeper.specs.Rows.{Rows, Lists};
-ghost use Rattle.farm_keeper.specs.Keeping.{Keeps, Takes, LeavesTaken, MayLeave, MayRemain};
-ghost use Rattle.farm_keeper.specs.Memory.{Commits, Loads, committed, new_keeper, refused_with};
+ghost use Rattle.farm_keeper.specs.Keeping.{Continues, HoldsWith, Keeps, LeavesTaken, MayLeave, MayRemain};
+ghost use Rattle.farm_keeper.specs.Memory.{Commits, Kept, Loads, committed, new_keeper, refused_with};
 
 use crate::call_plan::CallPlan;
 use crate::fault::KeeperFault;
@@ -76,7 +74,6 @@ impl MemoryKeeper {
     fn refuse(&mut self, alloc: Global, batch: &Batch) -> Result<(), AllocError>
         ensures ok { OnOk result (self.new ≡ refused_with batch.now self.old) }
         ensures err { OnErr result (self.new ≡ self.old) }
-        ensures rises { self.old.plan.faults ≤ self.new.plan.faults }
     {
         self.refused.push(batch.copy(alloc)?)?;
         self.plan.fault();
@@ -106,13 +103,17 @@ impl Keeper for MemoryKeeper {
 
     ghost faults = { λ k. k.plan.faults };
 
+    ghost use Rattle.farm_keeper.specs.Remains.{leaves, leaves_held};
+
+    ghost leaves = { λ k tells. leaves k };
+
+    ghost leaves_held = { λ k rows tells only. leaves_held k rows only };
+
     fn load(&mut self, alloc: Global) -> Result<Items<Row>, KeeperFault>
-        ensures told { ⊤ → ⊤ }
+        ensures keeper { Continues (λ (_ : Kept). ⊤) (λ (k : Kept). k.plan.faults) self.old self.new (is_failed result) }
         ensures listed { IfOk result (λ list. ⊤ → (rows : Rows) → rows ≡ self.old.rows → Lists list rows) }
         ensures kept { Keeps (λ rows. rows ≡ self.old.rows) (λ rows. rows ≡ self.new.rows) }
         ensures left { Keeps (MayRemain self.new.rows self.new.refused) (MayRemain self.old.rows self.old.refused) }
-        ensures cause { IsErrOf result Failed → HasRisen self.old.plan.faults self.new.plan.faults }
-        ensures rises { self.old.plan.faults ≤ self.new.plan.faults }
 
         // exactly what a call answers and leaves
         ensures exact { Loads self.old result self.new }
@@ -125,13 +126,11 @@ impl Keeper for MemoryKeeper {
     }
 
     fn commit(&mut self, alloc: Global, batch: &Batch) -> Result<(), KeeperFault>
-        ensures told { ⊤ → ⊤ }
-        ensures taken { OnOk result (Takes batch.now (λ rows. rows ≡ self.old.rows) (λ rows. rows ≡ self.new.rows)) }
+        ensures keeper { Continues (λ (_ : Kept). ⊤) (λ (k : Kept). k.plan.faults) self.old self.new (is_failed result) }
+        ensures taken { OnOk result (HoldsWith batch.now (λ rows. rows ≡ self.old.rows) (λ rows. rows ≡ self.new.rows)) }
         ensures kept { OnErr result (Keeps (λ rows. rows ≡ self.old.rows) (λ rows. rows ≡ self.new.rows)) }
         ensures left_ok { OnOk result (LeavesTaken batch.now (λ rows. rows ≡ self.old.rows) (MayRemain self.new.rows self.new.refused)) }
         ensures left_err { OnErr result (MayLeave batch.now (λ rows. rows ≡ self.old.rows) (MayRemain self.old.rows self.old.refused) (MayRemain self.new.rows self.new.refused)) }
-        ensures cause { IsErrOf result Failed → HasRisen self.old.plan.faults self.new.plan.faults }
-        ensures rises { self.old.plan.faults ≤ self.new.plan.faults }
 
         // exactly what a call answers and leaves
         ensures exact { Commits batch.now self.old result self.new }

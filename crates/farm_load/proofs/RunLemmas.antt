@@ -4,7 +4,8 @@ use Rattle.std.specs.Prelude.{count_by}
 use Rattle.std.specs.List.{All}
 use Rattle.std.proofs.lemmas.List.Elements.{All-nil, All-push}
 use Rattle.std.proofs.lemmas.List.Sums.{sum_by-append, sum_by_push}
-use Rattle.farm_keeper.specs.Faults.{HasRisen, last_count}
+use Rattle.farm_keeper.specs.Faults.{HasRisen, incremented_if, last_count}
+use Rattle.farm_keeper.proofs.KeepingLaws.{HasRisen-incremented}
 use Rattle.farm_types.specs.declared.attempt.Attempt.{Attempt}
 use Rattle.farm_types.specs.declared.entry.Entry.{Entry}
 use Rattle.farm_types.specs.declared.limits.TheConstants.{BOOKINGS_EACH}
@@ -13,7 +14,7 @@ use Rattle.farm_types.specs.Run.{counted, counted_by, run_of}
 use Rattle.farm_types.specs.Step.{after, at_moment, moment_of}
 use Rattle.farm_lines.specs.declared.limits.TheConstants.{LAUNCHES_EACH}
 use Rattle.farm_lines.specs.Transcript.{Mark, is_store_mark}
-use Rattle.line_answers.specs.LineAnswers.{HasCause, bookings_in, is_booking, is_calm}
+use Rattle.line_answers.specs.LineAnswers.{bookings_in, is_booking, is_calm}
 use Rattle.farm_load.specs.declared.counts.Counts.{Counts}
 use Rattle.farm_load.specs.declared.load_end.LoadEnd.TheVariants.{NoMemory}
 use Rattle.farm_load.specs.declared.load_host.LoadHost.{LoadHost}
@@ -41,20 +42,25 @@ marks_more n l (m ∷ ms) mark are may = (are.0, are.1, are.2, marks_more n (loa
 abbrev weight : Mark → ℕ
 weight mark = cond (is_store_mark mark) 1 0
 
-causes_by : (marks old mid new : ℕ) (b : Bool) → (b ≡ true → HasRisen mid new) → mid ≤ new → (old + marks ≤ mid) ⊎ (last_count ≤ mid)
-    → (old + (marks + cond b 1 0) ≤ new) ⊎ (last_count ≤ new)
-causes_by marks old mid new false cause rises (inl so_far) = inl (omega arith)
-causes_by marks old mid new true cause rises (inl so_far) = one_more (cause refl)
-  where
-    one_more : HasRisen mid new → (old + (marks + 1) ≤ new) ⊎ (last_count ≤ new)
-    one_more (inl rose) = inl (omega arith)
-    one_more (inr full) = inr full
-causes_by marks old mid new b cause rises (inr full) = inr (omega arith)
+-- where a count that went up is
+next_by : (old new : ℕ) → new ≡ incremented_if true old → HasRisen old new → (new ≡ old + 1) ⊎ (new ≡ last_count)
+next_by old new is (inl rose) = inl (omega (arith, is, rose))
+next_by old new is (inr full) = inr (omega (arith, is, full))
 
-cause_more : (marks : List Mark) (mark : Mark) (old mid new : ℕ) → HaveCause marks old mid → HasCause mark mid new → mid ≤ new → HaveCause (marks ++ mark ∷ []) old new
-cause_more marks mark old mid new causes cause rises =
-    subst (λ (k : ℕ). (old + k ≤ new) ⊎ (last_count ≤ new)) (sym (sum_by_push weight marks mark))
-    (causes_by (count_by is_store_mark marks) old mid new (is_store_mark mark) cause rises causes)
+one_more : (marks old mid new : ℕ) → mid ≡ old + marks → (new ≡ mid + 1) ⊎ (new ≡ last_count) → (new ≡ old + (marks + 1)) ⊎ (new ≡ last_count)
+one_more marks old mid new so_far (inl more) = inl (omega (arith, so_far, more))
+one_more marks old mid new so_far (inr full) = inr full
+
+causes_by : (marks old mid new : ℕ) (b : Bool) → new ≡ incremented_if b mid → (mid ≡ old + marks) ⊎ (mid ≡ last_count) → (new ≡ old + (marks + cond b 1 0)) ⊎ (new ≡ last_count)
+causes_by marks old mid new false count_is (inl so_far) = inl (omega (arith, count_is, so_far))
+causes_by marks old mid new true count_is (inl so_far) = one_more marks old mid new so_far (next_by mid new count_is (HasRisen-incremented mid new count_is))
+causes_by marks old mid new false count_is (inr full) = inr (count_is ∙ full)
+causes_by marks old mid new true count_is (inr full) = inr (omega (arith, count_is, full))
+
+cause_more : (marks : List Mark) (mark : Mark) (old mid new : ℕ) → HaveCause marks old mid → new ≡ incremented_if (is_store_mark mark) mid → HaveCause (marks ++ mark ∷ []) old new
+cause_more marks mark old mid new causes count_is =
+    subst (λ (k : ℕ). (new ≡ old + k) ⊎ (new ≡ last_count)) (sym (sum_by_push weight marks mark))
+    (causes_by (count_by is_store_mark marks) old mid new (is_store_mark mark) count_is causes)
 
 -- ---- counts of two runs, one after the other
 
@@ -111,9 +117,6 @@ begins n old hosts faults is =
 some_behind : (others : List LoadHost) (h : LoadHost) → 0 < length (others ++ h ∷ [])
 some_behind others h = omega (arith, length-append others (h ∷ []))
 
-pub no_less : (a b c : ℕ) → a ≤ b → b ≤ c → a ≤ c
-no_less a b c first second = omega arith
-
 -- ---- one report more
 
 module _ (n : ℕ) (old f : Farm) (reports : ℕ) (h : LoadHost) (others : List LoadHost) (counts : Counts) (faults mid now : ℕ)
@@ -130,8 +133,8 @@ module _ (n : ℕ) (old f : Farm) (reports : ℕ) (h : LoadHost) (others : List 
   are_more : MayStandAt n here (h ∷ others) mark → AreMarks n (load_start old) (r.marks ++ mark ∷ [])
   are_more may = marks_more n (load_start old) r.marks mark r.are_marks (subst (MayFollow n mark) (sym r.load_is) (going, left, may))
 
-  causes : HasCause mark mid now → mid ≤ now → HaveCause (r.marks ++ mark ∷ []) faults now
-  causes cause rises = cause_more r.marks mark faults mid now r.cause cause rises
+  causes : now ≡ incremented_if (is_store_mark mark) mid → HaveCause (r.marks ++ mark ∷ []) faults now
+  causes count_is = cause_more r.marks mark faults mid now r.cause count_is
 
   is_run : f ≡ run_of old r.recorded
   is_run = subst (λ (l : Load). l.farm ≡ run_of old l.recorded) r.load_is (load_farm n old r.marks)
@@ -144,11 +147,11 @@ module _ (n : ℕ) (old f : Farm) (reports : ℕ) (h : LoadHost) (others : List 
   attempts_more : (attempts : ℕ) → attempts ≡ counts.attempts + bookings_in made → attempts ≡ bookings_in (r.recorded ++ made)
   attempts_more attempts is = is ∙ ap (λ (k : ℕ). k + bookings_in made) r.attempts ∙ sym (bookings_append r.recorded made)
 
-pub goes_on : {T E : Type 0} (n : ℕ) (old f : Farm) (reports : ℕ) (hosts : List LoadHost) (counts : Counts) (faults mid now : ℕ) (x : T) (new : Farm) (hosts_now : List LoadHost)
+pub goes_on : {T E : Type 0} (n : ℕ) (old f : Farm) (reports : ℕ) (hosts : List LoadHost) (counts : Counts) (faults mid now : ℕ) (goes : Bool → Type 0) (x : T) (new : Farm) (hosts_now : List LoadHost)
     (counts_now : Counts) → IsRunning n old f reports hosts counts faults mid → has_finished f ≡ false → reports < most_reports
-    → TakesTurn {T = T} {E = E} n f reports hosts counts (Ok x) new hosts_now counts_now mid now → mid ≤ now → IsRunning n old new (reports + 1) hosts_now counts_now faults now
-goes_on n old f reports [] counts faults mid now x new hosts_now counts_now r going left t rises = absurd t.may_stand
-goes_on n old f reports (h ∷ others) counts faults mid now x new hosts_now counts_now r going left t rises =
+    → TakesTurn {T = T} {E = E} n f reports hosts counts (Ok x) new hosts_now counts_now goes → ((b : Bool) → goes b → now ≡ incremented_if b mid) → IsRunning n old new (reports + 1) hosts_now counts_now faults now
+goes_on n old f reports [] counts faults mid now goes x new hosts_now counts_now r going left t told = absurd t.may_stand
+goes_on n old f reports (h ∷ others) counts faults mid now goes x new hosts_now counts_now r going left t told =
     let entries = made n old f reports h others counts faults mid now r going left t.mark in
     record {
       marks = r.marks ++ t.mark ∷ [];
@@ -159,7 +162,7 @@ goes_on n old f reports (h ∷ others) counts faults mid now x new hosts_now cou
       are_marks = are_more n old f reports h others counts faults mid now r going left t.mark t.may_stand;
       long = omega (arith, r.long, length-append r.marks (t.mark ∷ []));
       calm = All-push (λ (mark : Mark). is_calm mark ≡ true) r.marks t.mark r.calm t.turns.calm;
-      cause = causes n old f reports h others counts faults mid now r going left t.mark t.cause rises;
+      cause = causes n old f reports h others counts faults mid now r going left t.mark (told (is_store_mark t.mark) t.keeper);
       some = subst (λ (hs : List LoadHost). 0 < length hs) (sym t.turns.hosts_are) (some_behind others _);
       formed = t.turns.formed;
       attempts = attempts_more n old f reports h others counts faults mid now r going left t.mark counts_now.attempts t.turns.counted.attempts;
@@ -170,16 +173,20 @@ goes_on n old f reports (h ∷ others) counts faults mid now x new hosts_now cou
 
 -- ---- how a run ends
 
+-- memory ran out before the first report
+pub nothing_run : (n : ℕ) (f : Farm) (faults : ℕ) → RunsLoad n f NoMemory f faults faults
+nothing_run n f faults = record { marks = []; are_marks = tt; farm_is = refl; cause = inl (omega arith); ends = tt }
+
 -- memory ran out at a report
-pub breaks_off : {T E : Type 0} (n : ℕ) (old f : Farm) (reports : ℕ) (hosts : List LoadHost) (counts : Counts) (faults mid now : ℕ) (result : Result T E) (new : Farm)
+pub breaks_off : {T E : Type 0} (n : ℕ) (old f : Farm) (reports : ℕ) (hosts : List LoadHost) (counts : Counts) (faults mid now : ℕ) (goes : Bool → Type 0) (result : Result T E) (new : Farm)
     (hosts_now : List LoadHost) (counts_now : Counts) → IsRunning n old f reports hosts counts faults mid → has_finished f ≡ false → reports < most_reports
-    → TakesTurn {T = T} {E = E} n f reports hosts counts result new hosts_now counts_now mid now → mid ≤ now → RunsLoad n old NoMemory new faults now
-breaks_off n old f reports [] counts faults mid now result new hosts_now counts_now r going left t rises = absurd t.may_stand
-breaks_off n old f reports (h ∷ others) counts faults mid now result new hosts_now counts_now r going left t rises =
+    → TakesTurn {T = T} {E = E} n f reports hosts counts result new hosts_now counts_now goes → ((b : Bool) → goes b → now ≡ incremented_if b mid) → RunsLoad n old NoMemory new faults now
+breaks_off n old f reports [] counts faults mid now goes result new hosts_now counts_now r going left t told = absurd t.may_stand
+breaks_off n old f reports (h ∷ others) counts faults mid now goes result new hosts_now counts_now r going left t told =
     record {
       marks = r.marks ++ t.mark ∷ [];
       are_marks = are_more n old f reports h others counts faults mid now r going left t.mark t.may_stand;
       farm_is = t.farm_is ∙ sym (ap (λ (l : Load). l.farm) (load_more n old f reports h others counts faults mid now r going left t.mark));
-      cause = causes n old f reports h others counts faults mid now r going left t.mark t.cause rises;
+      cause = causes n old f reports h others counts faults mid now r going left t.mark (told (is_store_mark t.mark) t.keeper);
       ends = tt;
     }

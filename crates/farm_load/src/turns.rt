@@ -2,6 +2,7 @@
 
 ghost use Rattle.std.specs.Prelude.{◌≡◌, ◌≤◌, ◌<◌, IfOk, false, length};
 ghost use Rattle.farm_types.specs.Formed.{IsFormed};
+ghost use Rattle.farm_keeper.specs.Keeping.{Continues};
 ghost use Rattle.farm_lines.specs.Asked.{heard_entry};
 ghost use Rattle.farm_lines.specs.declared.limits.TheConstants.{LAUNCHES_EACH};
 ghost use Rattle.line_answers.specs.LineAnswers.{is_short, tells_memory};
@@ -32,10 +33,8 @@ pub(crate) fn take_turn<K: Keeper>(
     counts: &mut Counts,
 ) -> Result<(), AllocError>
     requires { IsReady hosts.old.items counts.old reports }
-    ensures turn { TakesTurn n recorder.old.farm reports hosts.old.items counts.old result recorder.new.farm hosts.new.items counts.new
-        (K.faults recorder.old.keeper) (K.faults recorder.new.keeper) }
-    ensures told { K.tells recorder.new.keeper → K.tells recorder.old.keeper }
-    ensures rises { K.faults recorder.old.keeper ≤ K.faults recorder.new.keeper }
+    ensures { TakesTurn n recorder.old.farm reports hosts.old.items counts.old result recorder.new.farm hosts.new.items counts.new
+        (Continues K.tells K.faults recorder.old.keeper recorder.new.keeper) }
 {
     let Some(host) = hosts.pop_front() else {
         unreachable!()
@@ -60,10 +59,8 @@ fn host_turn<K: Keeper>(
     requires left { reports < most_reports }
     requires formed { IsFormedHost host.now }
     requires room { HasRoom counts.old }
-    ensures turn { HasReported n recorder.old.farm (load_report n (round_after reports) host.now) (round_after reports) counts.old result recorder.new.farm counts.new
-        (K.faults recorder.old.keeper) (K.faults recorder.new.keeper) }
-    ensures told { K.tells recorder.new.keeper → K.tells recorder.old.keeper }
-    ensures rises { K.faults recorder.old.keeper ≤ K.faults recorder.new.keeper }
+    ensures { HasReported n recorder.old.farm (load_report n (round_after reports) host.now) (round_after reports) counts.old result recorder.new.farm counts.new
+        (Continues K.tells K.faults recorder.old.keeper recorder.new.keeper) }
 {
     let round = reports / HOSTS + 1;
     let report = report_of(alloc, n, round, host)?;
@@ -82,20 +79,18 @@ fn take_counted<K: Keeper>(
     requires formed { IsFormed (heard_entry report moment) }
     requires few { length report.done ≤ LAUNCHES_EACH }
     requires room { HasRoom counts.old }
-    ensures turn { HasReported n recorder.old.farm report moment counts.old result recorder.new.farm counts.new (K.faults recorder.old.keeper) (K.faults recorder.new.keeper) }
-    ensures told { K.tells recorder.new.keeper → K.tells recorder.old.keeper }
-    ensures rises { K.faults recorder.old.keeper ≤ K.faults recorder.new.keeper }
+    ensures { HasReported n recorder.old.farm report moment counts.old result recorder.new.farm counts.new (Continues K.tells K.faults recorder.old.keeper recorder.new.keeper) }
 {
     let failing = failures(recorder.read(), n, &report, moment);
     let taken = take_report(alloc, recorder, report, moment);
     recorder.read().kept();
     counts.attempts += u64::from(taken.booked);
-    counts.failed += counted(&taken.reply, failing);
+    counts.failed += failures_told(&taken.reply, failing);
     launched_by(alloc, taken.reply)
 }
 
 // The failures of a report: none where it wasn't taken.
-fn counted(reply: &Reply, failing: u64) -> u64
+fn failures_told(reply: &Reply, failing: u64) -> u64
     ensures { result ≡ failures_told reply.now failing }
 {
     match reply {

@@ -1,5 +1,5 @@
 -- The answer to a line, by cases.
-use Rattle.std.proofs.Common.{◌≡◌, ℕ, ◌<◌, ◌≤◌, ◌^◌, cond, List, [], ◌∷◌, ◌++◌, length, refl, sym, ap, ◌∙◌, subst, None, Result, Ok, Err, inl, inr}
+use Rattle.std.proofs.Common.{◌≡◌, ℕ, Bool, true, false, ◌<◌, ◌≤◌, ◌^◌, cond, List, [], ◌∷◌, ◌++◌, length, refl, sym, ap, ◌∙◌, subst, Option, None, Result, Ok, Err, inl, inr}
 use Rattle.std.proofs.lemmas.Bool.{le-ltb, lt-ltb, false≢true}
 use Rattle.farm_types.specs.declared.entry.Act.{Act}
 use Rattle.farm_types.specs.declared.entry.Act.TheVariants as act
@@ -19,7 +19,6 @@ use Rattle.farm_lines.specs.declared.request.RequestFault.TheVariants as fault
 use Rattle.farm_core.specs.Change.{after_change}
 use Rattle.farm_core.specs.Change.{Makes, Prepares}
 use Rattle.farm_core.specs.declared.change.Change.{Change}
-use Rattle.farm_keeper.specs.Faults.{HasRisen}
 use Rattle.farm_places.specs.declared.fault.PrepareFault.{PrepareFault}
 use Rattle.farm_places.specs.declared.fault.PrepareFault.TheVariants as prepare
 use Rattle.farm_types.specs.EntryAnswers.{answer_of}
@@ -32,12 +31,12 @@ use Rattle.farm_types.specs.Step.{HasCondition, refusal_of, after}
 use Rattle.farm_lines.specs.Asked.{IsFormedAsked, asked_of, entry_at, heard_entry}
 use Rattle.farm_lines.specs.Transcript.{Mark, Plain, Memory, Store, Answered, answer_to, asked_answer, entry_answer, list_reply, only_reply, request_answer, unless_memory}
 use Rattle.report_codec.specs.Reads.{Fails}
-use Rattle.recorder.specs.Recording.{ChangesRows, IsOfEntry}
+use Rattle.recorder.specs.Recording.{ChangesNone, ChangesRows, IsOfEntry, IsUnstored}
 use Rattle.line_answers.specs.Asking.{IsNoBooking, IsUnbooked}
-use Rattle.line_answers.specs.LineAnswers.{AnswersAsked, AnswersEntry, AnswersLine, AnswersReport, IsAnswer, IsMarked, IsMarkedAnswer, IsRecorded, IsUnprepared, MayStore, MayStoreEntry, fault_reply}
+use Rattle.line_answers.specs.LineAnswers.{AnswersAsked, AnswersEntry, AnswersLine, AnswersReport, IsAnswer, IsMarked, IsMarkedAnswer, IsRecorded, IsUnprepared, MayStore, MayStoreEntry, fault_reply, reported}
 use Rattle.line_answers.specs.declared.reply_line.ReplyLine.{ReplyLine}
 use Rattle.line_answers.specs.declared.reply_line.ReplyLine.TheVariants as reply_line
-use Rattle.line_answers.specs.Lines.{IsLineOf, shown}
+use Rattle.line_answers.specs.Lines.{IsLineOf, is_store_line, shown}
 use Rattle.farm_lines.specs.declared.limits.TheConstants.{LINE_LIMIT}
 
 -- a line within the limit is answered by what it asks
@@ -53,42 +52,41 @@ long_answer f line moment mark h =
     ap (λ b. cond b (only_reply reply.TooLong) (unless_memory mark (request_answer f moment mark (request_of line)))) (lt-ltb LINE_LIMIT (length line) h)
 
 -- what is answered by a mark is answered by it in other words
-retold : (f new : Farm) (text : List ℕ) (before now : ℕ) (one other : Mark → Answered) (may later : Mark → Type 0)
+retold : (f new : Farm) (text : List ℕ) (goes : Bool → Type 0) (one other : Mark → Answered) (may later : Mark → Type 0)
     → ((mark : Mark) → one mark ≡ other mark) → ((mark : Mark) → may mark → later mark)
-    → IsMarkedAnswer f one may new text before now → IsMarkedAnswer f other later new text before now
-retold f new text before now one other may later same stands answered = record {
+    → IsMarkedAnswer f one may new text goes → IsMarkedAnswer f other later new text goes
+retold f new text goes one other may later same stands answered = record {
   mark = answered.mark;
   answer = subst (λ (a : Answered). IsAnswer f a new text) (same answered.mark) answered.answer;
   may_stand = stands answered.mark answered.may_stand;
-  cause = answered.cause;
+  keeper = answered.keeper;
 }
 
 -- a line is answered by what is asked
-pub answered_line : (f : Farm) (line : List ℕ) (moment : ℕ) (new : Farm) (text : List ℕ) (before now : ℕ) (what : Request) → length line ≤ LINE_LIMIT
-    → request_of line ≡ Ok what → AnswersAsked f (asked_of what) moment new text before now → AnswersLine f line moment new text before now
-answered_line f line moment new text before now what fits asks answered =
-    retold f new text before now (λ mark. unless_memory mark (asked_answer f moment mark (asked_of what))) (answer_to f line moment) (MayStore f moment (asked_of what))
+pub answered_line : (f : Farm) (line : List ℕ) (moment : ℕ) (new : Farm) (text : List ℕ) (goes : Bool → Type 0) (what : Request) → length line ≤ LINE_LIMIT
+    → request_of line ≡ Ok what → AnswersAsked f (asked_of what) moment new text goes → AnswersLine f line moment new text goes
+answered_line f line moment new text goes what fits asks answered =
+    retold f new text goes (λ mark. unless_memory mark (asked_answer f moment mark (asked_of what))) (answer_to f line moment) (MayStore f moment (asked_of what))
     (IsMarked f line moment)
     (λ mark. sym (line_within f line moment mark fits ∙ ap (λ r. unless_memory mark (request_answer f moment mark r)) asks)) (λ mark may is. (what, asks, may)) answered
 
 -- ---- a reply alone
 
 -- memory ran out before anything was recorded
-pub unreplied : (f : Farm) (text : List ℕ) (before now : ℕ) (answers : Mark → Answered) (may : Mark → Type 0) → may Memory → text ≡ reply_text reply.NoMemory ++ 10 ∷ []
-    → IsMarkedAnswer f (λ mark. unless_memory mark (answers mark)) may f text before now
-unreplied f text before now answers may stands line =
-    record { mark = Memory; answer = record { farm = refl; text = line }; may_stand = stands; cause = λ is. absurd (false≢true is) }
+pub unreplied : (f : Farm) (text : List ℕ) (goes : Bool → Type 0) → goes false → (answers : Mark → Answered) (may : Mark → Type 0) → may Memory → text ≡ reply_text reply.NoMemory ++ 10 ∷ []
+    → IsMarkedAnswer f (λ mark. unless_memory mark (answers mark)) may f text goes
+unreplied f text goes still answers may stands line = record { mark = Memory; answer = record { farm = refl; text = line }; may_stand = stands; keeper = still }
 
 -- what is only replied, or that memory ran out
-pub replied : (f : Farm) (told : Reply) (text : List ℕ) (before now : ℕ) (answers : Mark → Answered) (may : Mark → Type 0) → may Plain → may Memory
-    → answers Plain ≡ only_reply told → IsLineOf told text → IsMarkedAnswer f (λ mark. unless_memory mark (answers mark)) may f text before now
-replied f told text before now answers may plain memory is (inl e) = record {
+pub replied : (f : Farm) (told : Reply) (text : List ℕ) (goes : Bool → Type 0) → goes false → (answers : Mark → Answered) (may : Mark → Type 0) → may Plain → may Memory
+    → answers Plain ≡ only_reply told → IsLineOf told text → IsMarkedAnswer f (λ mark. unless_memory mark (answers mark)) may f text goes
+replied f told text goes still answers may plain memory is (inl e) = record {
   mark = Plain;
   answer = subst (λ (a : Answered). IsAnswer f a f text) (sym is) (record { farm = refl; text = e });
   may_stand = plain;
-  cause = λ store. absurd (false≢true store);
+  keeper = still;
 }
-replied f told text before now answers may plain memory is (inr e) = unreplied f text before now answers may memory e
+replied f told text goes still answers may plain memory is (inr e) = unreplied f text goes still answers may memory e
 
 -- ---- a malformed line
 
@@ -97,24 +95,24 @@ no_memory : (text : List ℕ) → IsLineOf reply.NoMemory text → text ≡ repl
 no_memory text (inl e) = e
 no_memory text (inr e) = e
 
-faulted : (f : Farm) (moment : ℕ) (found : RequestFault) (read : Result Request RequestError) (text : List ℕ) (before now : ℕ) (may : Mark → Type 0) → may Plain → may Memory
-    → Fails found read → IsLineOf (fault_reply found) text → IsMarkedAnswer f (λ mark. unless_memory mark (request_answer f moment mark read)) may f text before now
-faulted f moment (fault.BadLine field) read text before now may plain memory fails line =
-    replied f (reply.BadLine field) text before now (λ mark. request_answer f moment mark read) may plain memory (ap (request_answer f moment Plain) fails) line
-faulted f moment (fault.BadRange layer found) read text before now may plain memory fails line =
-    replied f (reply.BadRange layer found) text before now (λ mark. request_answer f moment mark read) may plain memory (ap (request_answer f moment Plain) fails) line
-faulted f moment (fault.BadAmount field) read text before now may plain memory fails line =
-    replied f (reply.BadAmount field) text before now (λ mark. request_answer f moment mark read) may plain memory (ap (request_answer f moment Plain) fails) line
-faulted f moment fault.NoMemory read text before now may plain memory fails line =
-    unreplied f text before now (λ mark. request_answer f moment mark read) may memory (no_memory text line)
+faulted : (f : Farm) (moment : ℕ) (found : RequestFault) (read : Result Request RequestError) (text : List ℕ) (goes : Bool → Type 0) → goes false → (may : Mark → Type 0) → may Plain → may Memory
+    → Fails found read → IsLineOf (fault_reply found) text → IsMarkedAnswer f (λ mark. unless_memory mark (request_answer f moment mark read)) may f text goes
+faulted f moment (fault.BadLine field) read text goes still may plain memory fails line =
+    replied f (reply.BadLine field) text goes still (λ mark. request_answer f moment mark read) may plain memory (ap (request_answer f moment Plain) fails) line
+faulted f moment (fault.BadRange layer found) read text goes still may plain memory fails line =
+    replied f (reply.BadRange layer found) text goes still (λ mark. request_answer f moment mark read) may plain memory (ap (request_answer f moment Plain) fails) line
+faulted f moment (fault.BadAmount field) read text goes still may plain memory fails line =
+    replied f (reply.BadAmount field) text goes still (λ mark. request_answer f moment mark read) may plain memory (ap (request_answer f moment Plain) fails) line
+faulted f moment fault.NoMemory read text goes still may plain memory fails line =
+    unreplied f text goes still (λ mark. request_answer f moment mark read) may memory (no_memory text line)
 
 -- its reply tells the fault, or that memory ran out
-pub faulted_line : (f : Farm) (line : List ℕ) (moment : ℕ) (found : RequestFault) (text : List ℕ) (before now : ℕ) → length line ≤ LINE_LIMIT
-    → Fails found (request_of line) → IsLineOf (fault_reply found) text → AnswersLine f line moment f text before now
-faulted_line f line moment found text before now fits fails told =
-    retold f f text before now (λ mark. unless_memory mark (request_answer f moment mark (request_of line))) (answer_to f line moment) (IsMarked f line moment) (IsMarked f line moment)
+pub faulted_line : (f : Farm) (line : List ℕ) (moment : ℕ) (found : RequestFault) (text : List ℕ) (goes : Bool → Type 0) → goes false → length line ≤ LINE_LIMIT
+    → Fails found (request_of line) → IsLineOf (fault_reply found) text → AnswersLine f line moment f text goes
+faulted_line f line moment found text goes still fits fails told =
+    retold f f text goes (λ mark. unless_memory mark (request_answer f moment mark (request_of line))) (answer_to f line moment) (IsMarked f line moment) (IsMarked f line moment)
     (λ mark. sym (line_within f line moment mark fits)) (λ mark may. may)
-    (faulted f moment found (request_of line) text before now (IsMarked f line moment) (λ is. absurd (false≢true is)) (λ is. absurd (false≢true is)) fails told)
+    (faulted f moment found (request_of line) text goes still (IsMarked f line moment) (λ is. absurd (false≢true is)) (λ is. absurd (false≢true is)) fails told)
 
 -- ---- a request of one entry
 
@@ -132,14 +130,14 @@ pub report_formed : (moment : ℕ) (what : Asked) (report : Report) → moment <
 report_formed moment what report low is formed = record { moment_within = low; act_formed = subst IsFormedAsked is formed }
 
 -- a report is answered as one
-pub answered_report : (f new : Farm) (moment : ℕ) (text : List ℕ) (before now : ℕ) (what : Asked) (report : Report) → what ≡ asked.Report report
-    → AnswersReport f report moment new text before now → AnswersAsked f what moment new text before now
-answered_report f new moment text before now what report is answered = subst (λ (a : Asked). AnswersAsked f a moment new text before now) (sym is) answered
+pub answered_report : (f new : Farm) (moment : ℕ) (text : List ℕ) (goes : Bool → Type 0) (what : Asked) (report : Report) → what ≡ asked.Report report
+    → AnswersReport f report moment new text goes → AnswersAsked f what moment new text goes
+answered_report f new moment text goes what report is answered = subst (λ (a : Asked). AnswersAsked f a moment new text goes) (sym is) answered
 
 -- an act is answered by its entry
-pub answered_act : (f new : Farm) (moment : ℕ) (text : List ℕ) (before now : ℕ) (what : Asked) (does : Act) → what ≡ asked.Act does
-    → AnswersEntry f (entry_at moment does) new text before now → AnswersAsked f what moment new text before now
-answered_act f new moment text before now what does is answered = subst (λ (a : Asked). AnswersAsked f a moment new text before now) (sym is) answered
+pub answered_act : (f new : Farm) (moment : ℕ) (text : List ℕ) (goes : Bool → Type 0) (what : Asked) (does : Act) → what ≡ asked.Act does
+    → AnswersEntry f (entry_at moment does) new text goes → AnswersAsked f what moment new text goes
+answered_act f new moment text goes what does is answered = subst (λ (a : Asked). AnswersAsked f a moment new text goes) (sym is) answered
 
 -- an act's entry is within its forms and limits, and has what it asks for
 pub act_formed : (moment : ℕ) (what : Asked) (does : Act) → moment < 2 ^ 64 → what ≡ asked.Act does → IsFormedAsked what → IsFormed (entry_at moment does)
@@ -156,57 +154,79 @@ pub listed_refusal : (listed : Result ListReply Refusal) (why : Refusal) (text :
 listed_refusal listed why text is line = subst (λ (l : Result ListReply Refusal). IsLineOf (list_reply l) text) (sym is) line
 
 -- a list is only replied to, by what is read of the farm
-pub answered_list : (f read : Farm) (moment : ℕ) (text : List ℕ) (before now : ℕ) (what : Asked) (query : Query) → what ≡ asked.List query → read ≡ f
-    → IsLineOf (list_reply (list_of read query)) text → AnswersAsked f what moment f text before now
-answered_list f read moment text before now what query is same line =
-    subst (λ (a : Asked). AnswersAsked f a moment f text before now) (sym is) (
-    replied f (list_reply (list_of f query)) text before now (λ mark. asked_answer f moment mark (asked.List query)) (MayStore f moment (asked.List query)) refl refl refl
+pub answered_list : (f read : Farm) (moment : ℕ) (text : List ℕ) (goes : Bool → Type 0) → goes false → (what : Asked) (query : Query) → what ≡ asked.List query → read ≡ f
+    → IsLineOf (list_reply (list_of read query)) text → AnswersAsked f what moment f text goes
+answered_list f read moment text goes still what query is same line =
+    subst (λ (a : Asked). AnswersAsked f a moment f text goes) (sym is) (
+    replied f (list_reply (list_of f query)) text goes still (λ mark. asked_answer f moment mark (asked.List query)) (MayStore f moment (asked.List query)) refl refl refl
     (subst (λ (g : Farm). IsLineOf (list_reply (list_of g query)) text) same line)
     )
 
 -- no change was prepared for the entry
-pub unprepared_entry : (f : Farm) (e : Entry) (found : PrepareFault) (text : List ℕ) (before now : ℕ) → Prepares f e (Err found) → IsUnprepared found text
-    → AnswersEntry f e f text before now
-unprepared_entry f e (prepare.Refused why) text before now refuses line =
-    replied f (reply.Refused why) text before now (λ mark. entry_answer f e mark (refusal_of f e)) (MayStoreEntry f e) tt tt (ap (entry_answer f e Plain) refuses) line
-unprepared_entry f e prepare.NoMemory text before now fails line = unreplied f text before now (λ mark. entry_answer f e mark (refusal_of f e)) (MayStoreEntry f e) tt line
+pub unprepared_entry : (f : Farm) (e : Entry) (found : PrepareFault) (text : List ℕ) (goes : Bool → Type 0) → goes false → Prepares f e (Err found) → IsUnprepared found text
+    → AnswersEntry f e f text goes
+unprepared_entry f e (prepare.Refused why) text goes still refuses line =
+    replied f (reply.Refused why) text goes still (λ mark. entry_answer f e mark (refusal_of f e)) (MayStoreEntry f e) tt tt (ap (entry_answer f e Plain) refuses) line
+unprepared_entry f e prepare.NoMemory text goes still fails line = unreplied f text goes still (λ mark. entry_answer f e mark (refusal_of f e)) (MayStoreEntry f e) tt line
 
 -- the farm took the entry
-taken_entry : (f new : Farm) (e : Entry) (text : List ℕ) (before now : ℕ) → refusal_of f e ≡ None → new ≡ after f e
-    → text ≡ reply_text (ok_reply e.act (answer_of f e)) ++ 10 ∷ [] → AnswersEntry f e new text before now
-taken_entry f new e text before now accepts is line = record {
+taken_entry : (f new : Farm) (e : Entry) (text : List ℕ) (goes : Bool → Type 0) → goes false → refusal_of f e ≡ None → new ≡ after f e
+    → text ≡ reply_text (ok_reply e.act (answer_of f e)) ++ 10 ∷ [] → AnswersEntry f e new text goes
+taken_entry f new e text goes still accepts is line = record {
   mark = Plain;
   answer = subst (λ (a : Answered). IsAnswer f a new text) (sym (ap (entry_answer f e Plain) accepts)) (record { farm = is; text = line });
   may_stand = tt;
-  cause = λ store. absurd (false≢true store);
+  keeper = still;
 }
 
 -- the store failed at the entry
-failed_entry : (f : Farm) (e : Entry) (text : List ℕ) (before now : ℕ) → refusal_of f e ≡ None → ChangesRows f (after f e) → text ≡ reply_text reply.Store ++ 10 ∷ []
-    → HasRisen before now → AnswersEntry f e f text before now
-failed_entry f e text before now accepts changes line risen = record {
+failed_entry : (f : Farm) (e : Entry) (text : List ℕ) (goes : Bool → Type 0) → refusal_of f e ≡ None → ChangesRows f (after f e) → text ≡ reply_text reply.Store ++ 10 ∷ []
+    → goes true → AnswersEntry f e f text goes
+failed_entry f e text goes accepts changes line failed = record {
   mark = Store;
   answer = subst (λ (a : Answered). IsAnswer f a f text) (sym (ap (entry_answer f e Store) accepts)) (record { farm = refl; text = line });
   may_stand = record { accepted = accepts; changes = changes };
-  cause = λ store. risen;
+  keeper = failed;
 }
 
 -- a change of the entry was recorded, or the store failed or memory ran out for it
-pub recorded_entry : (f new : Farm) (e : Entry) (change : Change) (written : List ℕ) (told : ReplyLine) (before now : ℕ) → Makes f e change
+pub recorded_entry : (f new : Farm) (e : Entry) (change : Change) (written : List ℕ) (told : ReplyLine) (goes : Bool → Type 0) → Makes f e change
     → written ≡ reply_text (ok_reply e.act (answer_of f e)) ++ 10 ∷ [] → IsRecorded f (after_change f change) written new told
-    → (told ≡ reply_line.Store → HasRisen before now) → AnswersEntry f e new (shown told) before now
-recorded_entry f new e change written (reply_line.Written line) before now makes is recorded cause =
-    taken_entry f new e line before now makes.accepted (recorded.0 ∙ makes.farm) (recorded.1 ∙ is)
-recorded_entry f new e change written reply_line.Store before now makes is recorded cause =
-    subst (λ (g : Farm). AnswersEntry f e g (shown reply_line.Store) before now) (sym recorded.0)
-    (failed_entry f e (shown reply_line.Store) before now makes.accepted (subst (ChangesRows f) makes.farm recorded.1) refl (cause refl))
-recorded_entry f new e change written reply_line.NoMemory before now makes is recorded cause =
-    subst (λ (g : Farm). AnswersEntry f e g (shown reply_line.NoMemory) before now) (sym recorded.1)
-    (unreplied f (shown reply_line.NoMemory) before now (λ mark. entry_answer f e mark (refusal_of f e)) (MayStoreEntry f e) tt refl)
-recorded_entry f new e change written reply_line.TooLong before now makes is recorded cause =
-    subst (λ (g : Farm). AnswersEntry f e g (shown reply_line.TooLong) before now) (sym recorded.1)
-    (unreplied f (shown reply_line.TooLong) before now (λ mark. entry_answer f e mark (refusal_of f e)) (MayStoreEntry f e) tt (ap shown recorded.0))
+    → goes (is_store_line told) → AnswersEntry f e new (shown told) goes
+recorded_entry f new e change written (reply_line.Written line) goes makes is recorded keeper =
+    taken_entry f new e line goes keeper makes.accepted (recorded.0 ∙ makes.farm) (recorded.1 ∙ is)
+recorded_entry f new e change written reply_line.Store goes makes is recorded keeper =
+    subst (λ (g : Farm). AnswersEntry f e g (shown reply_line.Store) goes) (sym recorded.0)
+    (failed_entry f e (shown reply_line.Store) goes makes.accepted (subst (ChangesRows f) makes.farm recorded.1) refl keeper)
+recorded_entry f new e change written reply_line.NoMemory goes makes is recorded keeper =
+    subst (λ (g : Farm). AnswersEntry f e g (shown reply_line.NoMemory) goes) (sym recorded.1)
+    (unreplied f (shown reply_line.NoMemory) goes keeper (λ mark. entry_answer f e mark (refusal_of f e)) (MayStoreEntry f e) tt refl)
+recorded_entry f new e change written reply_line.TooLong goes makes is recorded keeper =
+    subst (λ (g : Farm). AnswersEntry f e g (shown reply_line.TooLong) goes) (sym recorded.1)
+    (unreplied f (shown reply_line.TooLong) goes keeper (λ mark. entry_answer f e mark (refusal_of f e)) (MayStoreEntry f e) tt (ap shown recorded.0))
 
 -- the change of an entry that is no booking is that of a legal entry
 pub entry_made : (f : Farm) (e : Entry) (change : Change) → HasCondition f e.act → IsFormed e → Makes f e change → IsOfEntry f e change
 entry_made f e change condition formed makes = record { legal = record { formed = formed; accepted = makes.accepted; condition = condition }; makes = makes }
+
+-- ---- what changes no row
+
+-- an entry that the farm takes is all that is recorded for it, so that it leaves each row
+pub leaves_rows : (f : Farm) (e : Entry) → ChangesNone f (entry_answer f e Plain (refusal_of f e)).entries → IsUnstored f e
+leaves_rows f e none accepts = (subst (λ (o : Option Refusal). ChangesNone f (entry_answer f e Plain o).entries) accepts none).0
+
+-- an act that changes no row
+pub unstored_act : (f : Farm) (moment : ℕ) (what : Asked) (does : Act) → what ≡ asked.Act does → ChangesNone f (asked_answer f moment Plain what).entries
+    → IsUnstored f (entry_at moment does)
+unstored_act f moment what does is none = leaves_rows f (entry_at moment does) (subst (λ (a : Asked). ChangesNone f (asked_answer f moment Plain a).entries) is none)
+
+-- a report that changes none
+pub unstored_report : (f : Farm) (moment : ℕ) (what : Asked) (report : Report) → what ≡ asked.Report report → ChangesNone f (asked_answer f moment Plain what).entries
+    → ChangesNone f (reported f report moment Plain).entries
+unstored_report f moment what report is none = subst (λ (a : Asked). ChangesNone f (asked_answer f moment Plain a).entries) is none
+
+-- a line that changes none
+pub unstored_line : (f : Farm) (line : List ℕ) (moment : ℕ) (what : Request) → length line ≤ LINE_LIMIT → request_of line ≡ Ok what
+    → ChangesNone f (answer_to f line moment Plain).entries → ChangesNone f (asked_answer f moment Plain (asked_of what)).entries
+unstored_line f line moment what fits asks none =
+    subst (λ (a : Answered). ChangesNone f a.entries) (line_within f line moment Plain fits ∙ ap (request_answer f moment Plain) asks) none

@@ -14,7 +14,7 @@ use Rattle.farm_lines.specs.Request.{RequestError, request_of}
 use Rattle.farm_types.specs.Step.{refusal_of, after}
 use Rattle.farm_lines.specs.Asked.{asked_of, entry_at, heard_entry}
 use Rattle.farm_lines.specs.Transcript.{Mark, Plain, LatePlain, answer_to, marked_answer, accepted_answer, asked_answer, entry_answer, report_answer, request_answer, unless_memory, only_reply}
-use Rattle.line_answers.specs.Outcomes.{WalksWhole, IsTaken, HasWholeRound, IsAnsweredFully}
+use Rattle.line_answers.specs.Outcomes.{WalksWhole, IsAccepted, HasWholeRound, IsAnsweredFully}
 use Rattle.line_answers.proofs.AnswerLemmas.{line_within, long_answer}
 use Rattle.line_answers.proofs.ReportLemmas.{accepted_is, host_of}
 use Rattle.farm_lines.specs.declared.limits.TheConstants.{LINE_LIMIT}
@@ -27,7 +27,7 @@ whole_entries f host report heard round Plain whole = refl
 whole_entries f host report heard round LatePlain whole = refl
 whole_entries f host report heard round mark whole = absurd whole
 
-pub whole_round : (f : Farm) (line : List ℕ) (moment : ℕ) (mark : Mark) (report : Report) → WalksWhole mark → IsTaken f line moment report
+pub whole_round : (f : Farm) (line : List ℕ) (moment : ℕ) (mark : Mark) (report : Report) → WalksWhole mark → IsAccepted f line moment report
     → HasWholeRound f line moment mark report
 whole_round f line moment mark report whole taken =
     let found = host_of f report moment (host_named f report.host) refl taken.accepted in

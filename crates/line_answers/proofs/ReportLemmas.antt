@@ -3,10 +3,9 @@ use Rattle.std.proofs.Common.{◌≡◌, ℕ, ◌<◌, ◌≤◌, arith, Bool, t
 use Rattle.std.proofs.Common.{true≢false}
 use Rattle.std.proofs.lemmas.Bool.{false≢true}
 use Rattle.std.proofs.lemmas.Result.{err_from_is_err_and}
-use Rattle.std.specs.Prelude.{is_some}
-use Rattle.std.specs.Result.{IsErrOf}
+use Rattle.std.specs.Prelude.{is_some, ◌⊎◌}
 use Rattle.dispatch_plan.specs.declared.walked.Walked.{Walked}
-use Rattle.dispatch_plan.specs.Rounds.{EndsBy, IsRound}
+use Rattle.dispatch_plan.specs.Rounds.{EndsBy, IsRound, is_store_cut}
 use Rattle.farm_types.specs.declared.entry.Act.{Act}
 use Rattle.farm_types.specs.declared.entry.Act.TheVariants as act
 use Rattle.farm_types.specs.declared.attempt.Attempt.{Attempt}
@@ -22,7 +21,6 @@ use Rattle.farm_lines.specs.declared.asked.Asked.TheVariants as asked
 use Rattle.farm_core.specs.Change.{Makes, Prepares, after_change}
 use Rattle.farm_core.specs.declared.change.Change.{Change}
 use Rattle.farm_changes.specs.Change.{HasHeard}
-use Rattle.farm_keeper.specs.Faults.{HasRisen}
 use Rattle.farm_places.specs.declared.fault.PrepareFault.{PrepareFault}
 use Rattle.farm_places.specs.declared.fault.PrepareFault.TheVariants as prepare
 use Rattle.farm_types.specs.DependActs.{or_else}
@@ -32,15 +30,15 @@ use Rattle.farm_lines.specs.Reply.{reply_text, report_reply}
 use Rattle.farm_types.specs.Run.{run_of}
 use Rattle.farm_types.specs.Step.{HasCondition, refusal_of, after, host_refusal}
 use Rattle.farm_lines.specs.Asked.{heard_entry, heard_of}
-use Rattle.farm_lines.specs.Transcript.{Mark, Plain, Memory, Store, CutAfter, StoreAfter, LatePlain, LateCut, LateStore, Answered, accepted_answer, marked_answer, only_reply, report_answer, unless_memory}
+use Rattle.farm_lines.specs.Transcript.{Mark, Plain, Memory, Store, CutAfter, StoreAfter, LatePlain, LateCut, LateStore, Answered, accepted_answer, is_store_mark, marked_answer, only_reply, report_answer, unless_memory}
 use Rattle.recorder.specs.declared.refusal.CommitRefusal.{CommitRefusal}
 use Rattle.recorder.specs.declared.refusal.CommitRefusal.TheVariants as refusal
 use Rattle.recorder.specs.declared.refusal.RecordFault.{RecordFault}
 use Rattle.recorder.specs.declared.refusal.RecordFault.TheVariants as fault
-use Rattle.recorder.specs.Faults.{of_prepare, of_record}
-use Rattle.recorder.specs.Recording.{ChangesRows, FailsToRecord}
-use Rattle.line_answers.specs.LineAnswers.{AnswersReport, HasCause, Hears, MayCutRound, MayStore, TakesReport, TakesRound, bookings_in, is_calm, reported, tells_memory, unrecorded_reply}
-use Rattle.line_answers.specs.Lines.{IsLineOf}
+use Rattle.recorder.specs.Faults.{is_by_store, is_of_store, is_store_refusal, of_prepare, of_record}
+use Rattle.recorder.specs.Recording.{ChangesNone, ChangesRows, FailsToRecord, IsUnstored}
+use Rattle.line_answers.specs.LineAnswers.{AnswersReport, Hears, MayCutRound, MayStore, TakesReport, TakesRound, bookings_in, is_calm, reported, tells_memory, unrecorded_reply}
+use Rattle.line_answers.specs.Lines.{IsLineOf, IsLineOfTaken, is_store_reply}
 use Rattle.line_answers.specs.declared.taken.Taken.{Taken}
 use Rattle.line_answers.specs.Reports.{IsHeard, IsTold}
 use Rattle.line_answers.proofs.AnswerLemmas.{unreplied}
@@ -81,13 +79,6 @@ made_told f e change is makes = told_by f e.act change.act.heard is makes.heard
 told_as : (found : CommitRefusal) (r : Result ℕ CommitRefusal) → IsErrAnd r (λ told. told ≡ found) → r ≡ Err found
 told_as found r err = let p = err_from_is_err_and r err in p.1 ∙ ap Err p.2
 
-abbrev is_store : Result ℕ CommitRefusal → Bool
-is_store (Err refusal.Store) = true
-is_store other = false
-
-not_store : (r found : Result ℕ CommitRefusal) → r ≡ found → is_store found ≡ false → r ≡ Err refusal.Store → ⊥
-not_store r found is other store = false≢true (sym (ap is_store is ∙ other) ∙ ap is_store store)
-
 refused_as : (f : Farm) (e : Entry) (why : PrepareFault) → Prepares f e (Err why) → Hears f e (Err (of_prepare why)) f
 refused_as f e (prepare.Refused why) refuses = (refuses, refl)
 refused_as f e prepare.NoMemory fails = refl
@@ -96,13 +87,13 @@ refused_as f e prepare.NoMemory fails = refl
 pub unprepared : (f : Farm) (e : Entry) (why : PrepareFault) (r : Result ℕ CommitRefusal) → IsErrAnd r (λ told. told ≡ of_prepare why) → Prepares f e (Err why) → Hears f e r f
 unprepared f e why r err is = subst (λ (q : Result ℕ CommitRefusal). Hears f e q f) (sym (told_as (of_prepare why) r err)) (refused_as f e why is)
 
-prepared_not : (why : PrepareFault) → is_store (Err (of_prepare why)) ≡ false
+prepared_not : (why : PrepareFault) → is_by_store (of_prepare why) ≡ false
 prepared_not (prepare.Refused why) = refl
 prepared_not prepare.NoMemory = refl
 
 -- and preparing tells of no store
-pub never_store : (why : PrepareFault) (r : Result ℕ CommitRefusal) → IsErrAnd r (λ told. told ≡ of_prepare why) → r ≡ Err refusal.Store → ⊥
-never_store why r err = not_store r (Err (of_prepare why)) (told_as (of_prepare why) r err) (prepared_not why)
+pub never_store : (why : PrepareFault) (r : Result ℕ CommitRefusal) → IsErrAnd r (λ told. told ≡ of_prepare why) → is_store_refusal r ≡ false
+never_store why r err = ap is_store_refusal (told_as (of_prepare why) r err) ∙ prepared_not why
 
 -- the change was recorded
 pub was_heard : (f new : Farm) (e : Entry) (change : Change) (host : ℕ) → Makes f e change → change.act.heard ≡ Some host → new ≡ after_change f change
@@ -119,13 +110,13 @@ pub unheard : (f new : Farm) (e : Entry) (change : Change) (why : RecordFault) (
 unheard f new e change why r err makes fails =
     subst (λ (q : Result ℕ CommitRefusal). Hears f e q new) (sym (told_as (of_record why) r err)) (failed_as f new e change why makes fails)
 
-store_of : (why : RecordFault) (r : Result ℕ CommitRefusal) → r ≡ Err (of_record why) → r ≡ Err refusal.Store → why ≡ fault.Store
-store_of fault.Store r is store = refl
-store_of fault.NoMemory r is store = absurd (not_store r (Err refusal.NoMemory) is refl store)
+store_of : (why : RecordFault) → is_of_store why ≡ is_by_store (of_record why)
+store_of fault.Store = refl
+store_of fault.NoMemory = refl
 
--- the store failed where that is told
-pub store_told : (why : RecordFault) (r : Result ℕ CommitRefusal) → IsErrAnd r (λ told. told ≡ of_record why) → r ≡ Err refusal.Store → why ≡ fault.Store
-store_told why r err = store_of why r (told_as (of_record why) r err)
+-- the store failed where that is told, and only there
+pub store_told : (why : RecordFault) (r : Result ℕ CommitRefusal) → IsErrAnd r (λ told. told ≡ of_record why) → is_of_store why ≡ is_store_refusal r
+store_told why r err = store_of why ∙ sym (ap is_store_refusal (told_as (of_record why) r err))
 
 -- ---- what is answered to it
 
@@ -154,43 +145,34 @@ accepted_is f report moment host mark accepts named =
     (ap (report_answer f report moment mark) accepts ∙ ap (accepted_answer f report moment mark) named)
 
 -- nothing was recorded, and this is replied
-unchanged : (f : Farm) (report : Report) (moment : ℕ) (mark : Mark) (taken : Taken) (before now : ℕ) → reported f report moment mark ≡ only_reply taken.reply → taken.booked ≡ 0
-    → (tells_memory taken.reply ≡ false → is_calm mark ≡ true) → MayStore f moment (asked.Report report) mark → HasCause mark before now
-    → TakesReport f report moment f taken before now
-unchanged f report moment mark taken before now is none calm may cause = record {
+unchanged : (f : Farm) (report : Report) (moment : ℕ) (mark : Mark) (taken : Taken) (goes : Bool → Type 0) → reported f report moment mark ≡ only_reply taken.reply → taken.booked ≡ 0
+    → (tells_memory taken.reply ≡ false → is_calm mark ≡ true) → MayStore f moment (asked.Report report) mark → goes (is_store_mark mark)
+    → TakesReport f report moment f taken goes
+unchanged f report moment mark taken goes is none calm may keeper = record {
   mark = mark;
   farm = sym (ap (λ (a : Answered). run_of f a.entries) is);
   reply = sym (ap (λ (a : Answered). a.reply) is);
   booked = none ∙ sym (ap (λ (a : Answered). bookings_in a.entries) is);
   calm = calm;
   may_stand = may;
-  cause = cause;
+  keeper = keeper;
 }
 
--- memory didn't run out for the reply
-never_cause : (before now : ℕ) → false ≡ true → HasRisen before now
-never_cause before now store = absurd (false≢true store)
-
 -- it wasn't recorded
-pub unrecorded_report : (f new : Farm) (report : Report) (moment : ℕ) (why : CommitRefusal) (taken : Taken) (before now : ℕ)
+pub unrecorded_report : (f new : Farm) (report : Report) (moment : ℕ) (why : CommitRefusal) (taken : Taken) (goes : Bool → Type 0)
     → Hears f (heard_entry report moment) (Err why) new → taken.reply ≡ unrecorded_reply why → taken.booked ≡ 0
-    → (IsErrOf {T = ℕ} (Err why) refusal.Store → HasRisen before now) → TakesReport f report moment new taken before now
-unrecorded_report f new report moment (refusal.Refused why) taken before now heard is none cause =
-    subst (λ (g : Farm). TakesReport f report moment g taken before now) (sym heard.1)
-    (unchanged f report moment Plain taken before now (ap (report_answer f report moment Plain) heard.0 ∙ ap only_reply (sym is)) none (λ calm. refl) tt (never_cause before now))
-unrecorded_report f new report moment refusal.Store taken before now heard is none cause =
+    → goes (is_by_store why) → TakesReport f report moment new taken goes
+unrecorded_report f new report moment (refusal.Refused why) taken goes heard is none keeper =
+    subst (λ (g : Farm). TakesReport f report moment g taken goes) (sym heard.1)
+    (unchanged f report moment Plain taken goes (ap (report_answer f report moment Plain) heard.0 ∙ ap only_reply (sym is)) none (λ calm. refl) tt keeper)
+unrecorded_report f new report moment refusal.Store taken goes heard is none keeper =
     let found = host_of f report moment (host_named f report.host) refl heard.0 in
-    subst (λ (g : Farm). TakesReport f report moment g taken before now) (sym heard.2)
-    (unchanged f report moment Store taken before now (accepted_is f report moment found.0 Store heard.0 found.1 ∙ ap only_reply (sym is)) none (λ calm. refl)
-    (record { accepted = heard.0; changes = heard.1 }) (λ store. cause refl))
-unrecorded_report f new report moment refusal.NoMemory taken before now heard is none cause =
-    subst (λ (g : Farm). TakesReport f report moment g taken before now) (sym heard)
-    (unchanged f report moment Memory taken before now (ap only_reply (sym is)) none (λ calm. absurd (false≢true (sym calm ∙ ap tells_memory is))) tt (never_cause before now))
-
--- a count that rose from a later one rose
-risen_since : (before since now : ℕ) → before ≤ since → HasRisen since now → HasRisen before now
-risen_since before since now low (inl more) = inl (omega (arith, low, more))
-risen_since before since now low (inr full) = inr full
+    subst (λ (g : Farm). TakesReport f report moment g taken goes) (sym heard.2)
+    (unchanged f report moment Store taken goes (accepted_is f report moment found.0 Store heard.0 found.1 ∙ ap only_reply (sym is)) none (λ calm. refl)
+    (record { accepted = heard.0; changes = heard.1 }) keeper)
+unrecorded_report f new report moment refusal.NoMemory taken goes heard is none keeper =
+    subst (λ (g : Farm). TakesReport f report moment g taken goes) (sym heard)
+    (unchanged f report moment Memory taken goes (ap only_reply (sym is)) none (λ calm. absurd (false≢true (sym calm ∙ ap tells_memory is))) tt keeper)
 
 -- a mark of the round stands for the report
 round_may : (f next : Farm) (report : Report) (moment host : ℕ) → refusal_of f (heard_entry report moment) ≡ None → host_named f report.host ≡ Some host
@@ -203,9 +185,9 @@ round_may f next report moment host accepts named is (LateStore k) may =
 round_may f next report moment host accepts named is mark may = tt
 
 -- what the round makes is what the report makes
-pub taken_report : (f next new : Farm) (report : Report) (moment host : ℕ) (taken : Taken) (before since now : ℕ) → Hears f (heard_entry report moment) (Ok host) next
-    → before ≤ since → TakesRound next host report moment new taken since now → TakesReport f report moment new taken before now
-taken_report f next new report moment host taken before since now heard low walked =
+pub taken_report : (f next new : Farm) (report : Report) (moment host : ℕ) (taken : Taken) (goes since : Bool → Type 0) → Hears f (heard_entry report moment) (Ok host) next
+    → ((failed : Bool) → since failed → goes failed) → TakesRound next host report moment new taken since → TakesReport f report moment new taken goes
+taken_report f next new report moment host taken goes since heard on walked =
     let round = round_for next host moment in
     let made = marked_answer f host report (heard_entry report moment) round walked.mark in
     let is : reported f report moment walked.mark ≡ made =
@@ -218,7 +200,7 @@ taken_report f next new report moment host taken before since now heard low walk
       booked = walked.booked f (heard_entry report moment) refl ∙ sym (ap (λ (a : Answered). bookings_in a.entries) is);
       calm = walked.calm;
       may_stand = round_may f next report moment host heard.0 heard.1 heard.2 walked.mark walked.may_stand;
-      cause = λ store. risen_since before since now low (walked.cause store);
+      keeper = on (is_store_mark walked.mark) walked.keeper;
     }
 
 -- ---- the round's marks
@@ -236,81 +218,81 @@ told_from old f new host report heard round ended told walked e is = is ∙ ap (
 not_calm : {P : Type 0} (told other : Reply) → told ≡ other → tells_memory other ≡ true → tells_memory told ≡ false → P
 not_calm told other is tells calm = absurd (false≢true (sym calm ∙ (ap tells_memory is ∙ tells)))
 
-module _ (old : Farm) (host : ℕ) (report : Report) (moment : ℕ) (new : Farm) (taken : Taken) (before now : ℕ) where
+module _ (old : Farm) (host : ℕ) (report : Report) (moment : ℕ) (new : Farm) (taken : Taken) (goes : Bool → Type 0) where
   abbrev round : List Entry
   round = round_for old host moment
 
-  replied_by : (ended : Cut) → EndsBy old round ended taken.booked new → (ended ≡ cut.Store → HasRisen before now) → taken.reply ≡ report_reply new host report ended
-      → TakesRound old host report moment new taken before now
-  replied_by cut.Whole walked cause is = record {
+  replied_by : (ended : Cut) → EndsBy old round ended taken.booked new → goes (is_store_cut ended) → taken.reply ≡ report_reply new host report ended
+      → TakesRound old host report moment new taken goes
+  replied_by cut.Whole walked keeper is = record {
     mark = Plain;
     farm = λ f heard e. walked_from old f new heard round walked.1 e;
     reply = λ f heard e. told_from old f new host report heard round cut.Whole taken.reply walked.1 e is;
     booked = λ f heard other. booked_whole old host moment heard taken.booked other walked.0;
     calm = λ calm. refl;
     may_stand = tt;
-    cause = never_cause before now;
+    keeper = keeper;
   }
-  replied_by cut.Store walked cause is = record {
+  replied_by cut.Store walked keeper is = record {
     mark = StoreAfter taken.booked;
     farm = λ f heard e. walked_from old f new heard (take taken.booked round) walked.1 e;
     reply = λ f heard e. told_from old f new host report heard (take taken.booked round) cut.Store taken.reply walked.1 e is;
     booked = λ f heard other. booked_front old host moment heard taken.booked other (omega (arith, walked.0));
     calm = λ calm. refl;
     may_stand = walked.0;
-    cause = λ store. cause refl;
+    keeper = keeper;
   }
-  replied_by cut.Memory walked cause is = record {
+  replied_by cut.Memory walked keeper is = record {
     mark = CutAfter taken.booked;
     farm = λ f heard e. walked_from old f new heard (take taken.booked round) walked.1 e;
     reply = λ f heard e. told_from old f new host report heard (take taken.booked round) cut.Memory taken.reply walked.1 e is;
     booked = λ f heard other. booked_front old host moment heard taken.booked other walked.0;
     calm = not_calm taken.reply (report_reply new host report cut.Memory) is refl;
     may_stand = tt;
-    cause = never_cause before now;
+    keeper = keeper;
   }
 
-  unreplied_by : (ended : Cut) → EndsBy old round ended taken.booked new → (ended ≡ cut.Store → HasRisen before now) → taken.reply ≡ reply.NoMemory
-      → TakesRound old host report moment new taken before now
-  unreplied_by cut.Whole walked cause is = record {
+  unreplied_by : (ended : Cut) → EndsBy old round ended taken.booked new → goes (is_store_cut ended) → taken.reply ≡ reply.NoMemory
+      → TakesRound old host report moment new taken goes
+  unreplied_by cut.Whole walked keeper is = record {
     mark = LatePlain;
     farm = λ f heard e. walked_from old f new heard round walked.1 e;
     reply = λ f heard e. is;
     booked = λ f heard other. booked_whole old host moment heard taken.booked other walked.0;
     calm = not_calm taken.reply reply.NoMemory is refl;
     may_stand = tt;
-    cause = never_cause before now;
+    keeper = keeper;
   }
-  unreplied_by cut.Store walked cause is = record {
+  unreplied_by cut.Store walked keeper is = record {
     mark = LateStore taken.booked;
     farm = λ f heard e. walked_from old f new heard (take taken.booked round) walked.1 e;
     reply = λ f heard e. is;
     booked = λ f heard other. booked_front old host moment heard taken.booked other (omega (arith, walked.0));
     calm = not_calm taken.reply reply.NoMemory is refl;
     may_stand = walked.0;
-    cause = λ store. cause refl;
+    keeper = keeper;
   }
-  unreplied_by cut.Memory walked cause is = record {
+  unreplied_by cut.Memory walked keeper is = record {
     mark = LateCut taken.booked;
     farm = λ f heard e. walked_from old f new heard (take taken.booked round) walked.1 e;
     reply = λ f heard e. is;
     booked = λ f heard other. booked_front old host moment heard taken.booked other walked.0;
     calm = not_calm taken.reply reply.NoMemory is refl;
     may_stand = tt;
-    cause = never_cause before now;
+    keeper = keeper;
   }
 
   -- the round that was walked is what was taken
   ends_as : (walked : Walked) → taken.booked ≡ walked.booked → IsRound old host moment walked new → EndsBy old round walked.cut taken.booked new
   ends_as walked booked ends = subst (λ (k : ℕ). EndsBy old round walked.cut k new) (sym booked) ends
 
-  pub round_replied : (walked : Walked) → IsRound old host moment walked new → (walked.cut ≡ cut.Store → HasRisen before now) → taken.booked ≡ walked.booked
-      → taken.reply ≡ report_reply new host report walked.cut → TakesRound old host report moment new taken before now
-  round_replied walked ends cause booked is = replied_by walked.cut (ends_as walked booked ends) cause is
+  pub round_replied : (walked : Walked) → IsRound old host moment walked new → goes (is_store_cut walked.cut) → taken.booked ≡ walked.booked
+      → taken.reply ≡ report_reply new host report walked.cut → TakesRound old host report moment new taken goes
+  round_replied walked ends keeper booked is = replied_by walked.cut (ends_as walked booked ends) keeper is
 
-  pub round_unreplied : (walked : Walked) → IsRound old host moment walked new → (walked.cut ≡ cut.Store → HasRisen before now) → taken.booked ≡ walked.booked
-      → taken.reply ≡ reply.NoMemory → TakesRound old host report moment new taken before now
-  round_unreplied walked ends cause booked is = unreplied_by walked.cut (ends_as walked booked ends) cause is
+  pub round_unreplied : (walked : Walked) → IsRound old host moment walked new → goes (is_store_cut walked.cut) → taken.booked ≡ walked.booked
+      → taken.reply ≡ reply.NoMemory → TakesRound old host report moment new taken goes
+  round_unreplied walked ends keeper booked is = unreplied_by walked.cut (ends_as walked booked ends) keeper is
 
 -- ---- the line of its reply
 
@@ -323,23 +305,34 @@ late_mark (CutAfter k) = LateCut k
 late_mark (StoreAfter k) = LateStore k
 late_mark late = late
 
--- the same is recorded, and memory is told
-record IsLate (f : Farm) (host : ℕ) (report : Report) (moment : ℕ) (heard : Entry) (bookings : List Entry) (mark : Mark) (before now : ℕ) : Type 0 where
+-- the same is recorded, and memory is told; and it is a mark of the store still, unless the reply told that the store failed
+record IsLate (f : Farm) (host : ℕ) (report : Report) (moment : ℕ) (heard : Entry) (bookings : List Entry) (mark : Mark) : Type 0 where
   entries : (marked_answer f host report heard bookings (late_mark mark)).entries ≡ (marked_answer f host report heard bookings mark).entries
   reply : (marked_answer f host report heard bookings (late_mark mark)).reply ≡ reply.NoMemory
   may_stand : MayStore f moment (asked.Report report) mark → MayStore f moment (asked.Report report) (late_mark mark)
-  cause : HasCause mark before now → HasCause (late_mark mark) before now
+  store : is_store_reply (marked_answer f host report heard bookings mark).reply ≡ false → is_store_mark mark ≡ is_store_mark (late_mark mark)
 
-is_late : (f : Farm) (host : ℕ) (report : Report) (moment : ℕ) (heard : Entry) (bookings : List Entry) (mark : Mark) (before now : ℕ)
-    → IsLate f host report moment heard bookings mark before now
-is_late f host report moment heard bookings Plain before now = record { entries = refl; reply = refl; may_stand = λ may. tt; cause = λ cause. cause }
-is_late f host report moment heard bookings Memory before now = record { entries = refl; reply = refl; may_stand = λ may. tt; cause = λ cause. cause }
-is_late f host report moment heard bookings Store before now = record { entries = refl; reply = refl; may_stand = λ may. tt; cause = λ cause. never_cause before now }
-is_late f host report moment heard bookings (CutAfter k) before now = record { entries = refl; reply = refl; may_stand = λ may. tt; cause = λ cause. cause }
-is_late f host report moment heard bookings (StoreAfter k) before now = record { entries = refl; reply = refl; may_stand = λ may. may; cause = λ cause. cause }
-is_late f host report moment heard bookings LatePlain before now = record { entries = refl; reply = refl; may_stand = λ may. tt; cause = λ cause. cause }
-is_late f host report moment heard bookings (LateCut k) before now = record { entries = refl; reply = refl; may_stand = λ may. tt; cause = λ cause. cause }
-is_late f host report moment heard bookings (LateStore k) before now = record { entries = refl; reply = refl; may_stand = λ may. may; cause = λ cause. cause }
+is_late : (f : Farm) (host : ℕ) (report : Report) (moment : ℕ) (heard : Entry) (bookings : List Entry) (mark : Mark) → IsLate f host report moment heard bookings mark
+is_late f host report moment heard bookings Plain = record { entries = refl; reply = refl; may_stand = λ may. tt; store = λ other. refl }
+is_late f host report moment heard bookings Memory = record { entries = refl; reply = refl; may_stand = λ may. tt; store = λ other. refl }
+is_late f host report moment heard bookings Store = record { entries = refl; reply = refl; may_stand = λ may. tt; store = λ other. absurd (false≢true (sym other)) }
+is_late f host report moment heard bookings (CutAfter k) = record { entries = refl; reply = refl; may_stand = λ may. tt; store = λ other. refl }
+is_late f host report moment heard bookings (StoreAfter k) = record { entries = refl; reply = refl; may_stand = λ may. may; store = λ other. refl }
+is_late f host report moment heard bookings LatePlain = record { entries = refl; reply = refl; may_stand = λ may. tt; store = λ other. refl }
+is_late f host report moment heard bookings (LateCut k) = record { entries = refl; reply = refl; may_stand = λ may. tt; store = λ other. refl }
+is_late f host report moment heard bookings (LateStore k) = record { entries = refl; reply = refl; may_stand = λ may. may; store = λ other. refl }
+
+-- no mark of the store stands at a report that is refused
+refused_mark : (f : Farm) (report : Report) (moment : ℕ) (mark : Mark) (why : Refusal) → refusal_of f (heard_entry report moment) ≡ Some why
+    → MayStore f moment (asked.Report report) mark → is_store_mark mark ≡ false
+refused_mark f report moment Plain why refused may = refl
+refused_mark f report moment Memory why refused may = refl
+refused_mark f report moment Store why refused may = absurd (true≢false (ap is_some (sym refused ∙ may.accepted)))
+refused_mark f report moment (CutAfter k) why refused may = refl
+refused_mark f report moment (StoreAfter k) why refused may = absurd (true≢false (ap is_some (sym refused ∙ may.accepted)))
+refused_mark f report moment LatePlain why refused may = refl
+refused_mark f report moment (LateCut k) why refused may = refl
+refused_mark f report moment (LateStore k) why refused may = absurd (true≢false (ap is_some (sym refused ∙ may.accepted)))
 
 -- a report that is refused records nothing, whatever the mark
 refused_nothing : (f : Farm) (report : Report) (moment : ℕ) (mark : Mark) (why : Refusal) → refusal_of f (heard_entry report moment) ≡ Some why
@@ -350,22 +343,22 @@ refused_nothing f report moment mark why refused = ap (λ (o : Option Refusal). 
     by Memory = refl
     by mark = refl
 
-module _ (f new : Farm) (report : Report) (moment : ℕ) (text : List ℕ) (taken : Taken) (before now : ℕ) (took : TakesReport f report moment new taken before now)
-    (memory : text ≡ reply_text reply.NoMemory ++ 10 ∷ []) where
+module _ (f new : Farm) (report : Report) (moment : ℕ) (text : List ℕ) (taken : Taken) (goes : Bool → Type 0) (took : TakesReport f report moment new taken goes)
+    (memory : text ≡ reply_text reply.NoMemory ++ 10 ∷ []) (other : is_store_reply taken.reply ≡ false) where
   -- memory ran out before anything was recorded
-  late_refused : (why : Refusal) → refusal_of f (heard_entry report moment) ≡ Some why → AnswersReport f report moment new text before now
+  late_refused : (why : Refusal) → refusal_of f (heard_entry report moment) ≡ Some why → AnswersReport f report moment new text goes
   late_refused why refused =
       let same : new ≡ f = took.farm ∙ ap (run_of f) (refused_nothing f report moment took.mark why refused) in
-      subst (λ (g : Farm). AnswersReport f report moment g text before now) (sym same)
-      (unreplied f text before now (λ mark. report_answer f report moment mark (refusal_of f (heard_entry report moment))) (MayStore f moment (asked.Report report)) tt memory)
+      subst (λ (g : Farm). AnswersReport f report moment g text goes) (sym same)
+      (unreplied f text goes (subst goes (refused_mark f report moment took.mark why refused took.may_stand) took.keeper) (λ mark. report_answer f report moment mark (refusal_of f (heard_entry report moment))) (MayStore f moment (asked.Report report)) tt memory)
 
   -- memory ran out for the reply alone
-  late_accepted : refusal_of f (heard_entry report moment) ≡ None → AnswersReport f report moment new text before now
+  late_accepted : refusal_of f (heard_entry report moment) ≡ None → AnswersReport f report moment new text goes
   late_accepted accepted =
       let host = host_of f report moment (host_named f report.host) refl accepted in
       let heard = heard_entry report moment in
       let bookings = round_for (after f heard) host.0 moment in
-      let late = is_late f host.0 report moment heard bookings took.mark before now in
+      let late = is_late f host.0 report moment heard bookings took.mark in
       let is : reported f report moment took.mark ≡ marked_answer f host.0 report heard bookings took.mark = accepted_is f report moment host.0 took.mark accepted host.1 in
       let lately : reported f report moment (late_mark took.mark) ≡ marked_answer f host.0 report heard bookings (late_mark took.mark) =
       accepted_is f report moment host.0 (late_mark took.mark) accepted host.1 in
@@ -376,21 +369,52 @@ module _ (f new : Farm) (report : Report) (moment : ℕ) (text : List ℕ) (take
           text = memory ∙ ap (λ (told : Reply). reply_text told ++ 10 ∷ []) (sym late.reply ∙ sym (ap (λ (a : Answered). a.reply) lately));
         };
         may_stand = late.may_stand took.may_stand;
-        cause = late.cause took.cause;
+        keeper = subst goes (late.store (ap is_store_reply (sym (ap (λ (a : Answered). a.reply) is) ∙ sym took.reply) ∙ other)) took.keeper;
       }
 
-  late_by : (why : Option Refusal) → refusal_of f (heard_entry report moment) ≡ why → AnswersReport f report moment new text before now
+  late_by : (why : Option Refusal) → refusal_of f (heard_entry report moment) ≡ why → AnswersReport f report moment new text goes
   late_by None accepted = late_accepted accepted
   late_by (Some why) refused = late_refused why refused
 
--- the line is that of what is replied, or memory ran out for it
-pub told_report : (f new : Farm) (report : Report) (moment : ℕ) (text : List ℕ) (taken : Taken) (before now : ℕ) → TakesReport f report moment new taken before now
-    → IsLineOf taken.reply text → AnswersReport f report moment new text before now
-told_report f new report moment text taken before now took (inl line) = record {
+-- the line of any other reply than that the store failed
+pub line_of_other : (told : Reply) (text : List ℕ) → (told ≡ reply.Store → ⊥) → IsLineOf told text → IsLineOfTaken told text
+line_of_other reply.Store text other is = absurd (other refl)
+line_of_other told text other is = is
+
+-- memory ran out for a line alone that doesn't tell of the store
+line_told : (told : Reply) (text : List ℕ) → IsLineOfTaken told text
+    → (text ≡ reply_text told ++ 10 ∷ []) ⊎ ((text ≡ reply_text reply.NoMemory ++ 10 ∷ []) × (is_store_reply told ≡ false))
+line_told reply.Store text is = inl is
+line_told told text (inl is) = inl is
+line_told told text (inr memory) = inr (memory, refl)
+
+by_line : (f new : Farm) (report : Report) (moment : ℕ) (text : List ℕ) (taken : Taken) (goes : Bool → Type 0) → TakesReport f report moment new taken goes
+    → (text ≡ reply_text taken.reply ++ 10 ∷ []) ⊎ ((text ≡ reply_text reply.NoMemory ++ 10 ∷ []) × (is_store_reply taken.reply ≡ false))
+    → AnswersReport f report moment new text goes
+by_line f new report moment text taken goes took (inl line) = record {
   mark = took.mark;
   answer = record { farm = took.farm; text = line ∙ ap (λ (told : Reply). reply_text told ++ 10 ∷ []) took.reply };
   may_stand = took.may_stand;
-  cause = took.cause;
+  keeper = took.keeper;
 }
-told_report f new report moment text taken before now took (inr memory) =
-    late_by f new report moment text taken before now took memory (refusal_of f (heard_entry report moment)) refl
+by_line f new report moment text taken goes took (inr memory) =
+    late_by f new report moment text taken goes took memory.0 memory.1 (refusal_of f (heard_entry report moment)) refl
+
+-- the line is that of what is replied, or memory ran out for it
+pub told_report : (f new : Farm) (report : Report) (moment : ℕ) (text : List ℕ) (taken : Taken) (goes : Bool → Type 0) → TakesReport f report moment new taken goes
+    → IsLineOfTaken taken.reply text → AnswersReport f report moment new text goes
+told_report f new report moment text taken goes took line = by_line f new report moment text taken goes took (line_told taken.reply text line)
+
+-- ---- what changes no row
+
+-- its entry, and the round that follows it
+pub unstored_round : (f next : Farm) (report : Report) (moment host : ℕ) → Hears f (heard_entry report moment) (Ok host) next
+    → ChangesNone f (reported f report moment Plain).entries → ChangesNone next (round_for next host moment)
+unstored_round f next report moment host heard none =
+    subst (λ (g : Farm). ChangesNone g (round_for g host moment)) (sym heard.2)
+    (subst (λ (a : Answered). ChangesNone f a.entries) (accepted_is f report moment host Plain heard.0 (heard.1)) none).1
+
+pub unstored_heard : (f : Farm) (report : Report) (moment : ℕ) → ChangesNone f (reported f report moment Plain).entries → IsUnstored f (heard_entry report moment)
+unstored_heard f report moment none accepts =
+    let host = host_of f report moment (host_named f report.host) refl accepts in
+    (subst (λ (a : Answered). ChangesNone f a.entries) (accepted_is f report moment host.0 Plain accepts host.1) none).0

@@ -20,7 +20,6 @@ use Rattle.line_answers.specs.declared.reply_line.ReplyLine.TheVariants.{Written
 use Rattle.line_answers.specs.declared.reply_line.ReplyLine.TheVariants as reply_line
 use Rattle.line_answers.specs.Lines.{IsLineOf}
 use Rattle.line_answers.specs.declared.taken.Taken.{Taken}
-use Rattle.farm_keeper.specs.Faults.{HasRisen}
 use Rattle.recorder.specs.declared.refusal.CommitRefusal.{CommitRefusal}
 use Rattle.recorder.specs.declared.refusal.CommitRefusal.TheVariants as commit
 use Rattle.recorder.specs.Recording.{ChangesRows}
@@ -69,42 +68,38 @@ MayStore f moment (asked.Act does) mark = MayStoreEntry f (entry_at moment does)
 MayStore f moment (asked.List query) mark = is_store_mark mark ≡ false
 MayStore f moment (asked.Report report) mark = Unit {0}
 
--- a mark of the store stands only where the count of the keeper's faults rose
-abbrev pub HasCause : Mark → ℕ → ℕ → Type 0
-HasCause mark before now = is_store_mark mark ≡ true → HasRisen before now
-
 -- The line asks something that may meet a mark of the store, where it has one.
 abbrev pub IsMarked : Farm → List ℕ → ℕ → Mark → Type 0
 IsMarked f line moment mark = is_store_mark mark ≡ true → (what : Request) × (request_of line ≡ Ok what) × MayStore f moment (asked_of what) mark
 
 -- ---- answers
 
--- what was answered by a mark that may stand there and has its cause
-pub record IsMarkedAnswer (old : Farm) (answers : Mark → Answered) (may : Mark → Type 0) (new : Farm) (line : List ℕ) (before now : ℕ) : Type 0 where
+-- what was answered by a mark that may stand there; and so the keeper goes on, by whether that is a mark of the store
+pub record IsMarkedAnswer (old : Farm) (answers : Mark → Answered) (may : Mark → Type 0) (new : Farm) (line : List ℕ) (goes : Bool → Type 0) : Type 0 where
   pub mark : Mark
   pub answer : IsAnswer old (answers mark) new line
   pub may_stand : may mark
-  pub cause : HasCause mark before now
+  pub keeper : goes (is_store_mark mark)
 
 -- the line was answered
-abbrev pub AnswersLine : Farm → List ℕ → ℕ → Farm → List ℕ → ℕ → ℕ → Type 0
-AnswersLine old line moment new text before now = IsMarkedAnswer old (answer_to old line moment) (IsMarked old line moment) new text before now
+abbrev pub AnswersLine : Farm → List ℕ → ℕ → Farm → List ℕ → (Bool → Type 0) → Type 0
+AnswersLine old line moment new text goes = IsMarkedAnswer old (answer_to old line moment) (IsMarked old line moment) new text goes
 
 -- what is asked was answered
-abbrev pub AnswersAsked : Farm → Asked → ℕ → Farm → List ℕ → ℕ → ℕ → Type 0
-AnswersAsked old what moment new text before now =
-    IsMarkedAnswer old (λ mark. unless_memory mark (asked_answer old moment mark what)) (MayStore old moment what) new text before now
+abbrev pub AnswersAsked : Farm → Asked → ℕ → Farm → List ℕ → (Bool → Type 0) → Type 0
+AnswersAsked old what moment new text goes =
+    IsMarkedAnswer old (λ mark. unless_memory mark (asked_answer old moment mark what)) (MayStore old moment what) new text goes
 
 -- the entry was answered, by one of the marks
-abbrev pub AnswersEntry : Farm → Entry → Farm → List ℕ → ℕ → ℕ → Type 0
-AnswersEntry old e new line before now =
-    IsMarkedAnswer old (λ mark. unless_memory mark (entry_answer old e mark (refusal_of old e))) (MayStoreEntry old e) new line before now
+abbrev pub AnswersEntry : Farm → Entry → Farm → List ℕ → (Bool → Type 0) → Type 0
+AnswersEntry old e new line goes =
+    IsMarkedAnswer old (λ mark. unless_memory mark (entry_answer old e mark (refusal_of old e))) (MayStoreEntry old e) new line goes
 
 -- the report was answered at the moment, by one of the marks
-abbrev pub AnswersReport : Farm → Report → ℕ → Farm → List ℕ → ℕ → ℕ → Type 0
-AnswersReport old report moment new line before now =
+abbrev pub AnswersReport : Farm → Report → ℕ → Farm → List ℕ → (Bool → Type 0) → Type 0
+AnswersReport old report moment new line goes =
     IsMarkedAnswer old (λ mark. unless_memory mark (report_answer old report moment mark (refusal_of old (heard_entry report moment))))
-    (MayStore old moment (asked.Report report)) new line before now
+    (MayStore old moment (asked.Report report)) new line goes
 
 -- ---- reports
 
@@ -138,15 +133,15 @@ tells_memory (reply.Report told) = is_short told.cut
 tells_memory other = false
 
 -- The report was recorded at the moment with its round, or it wasn't, by one of the marks; the reply is the one of that mark, and so many frames were
--- booked. Where the reply tells nothing of memory, it didn't run out.
-pub record TakesReport (old : Farm) (report : Report) (moment : ℕ) (new : Farm) (taken : Taken) (before now : ℕ) : Type 0 where
+-- booked. Where the reply tells nothing of memory, it didn't run out. The keeper goes on as after the mark.
+pub record TakesReport (old : Farm) (report : Report) (moment : ℕ) (new : Farm) (taken : Taken) (goes : Bool → Type 0) : Type 0 where
   pub mark : Mark
   pub farm : new ≡ run_of old (reported old report moment mark).entries
   pub reply : taken.reply ≡ (reported old report moment mark).reply
   pub booked : taken.booked ≡ bookings_in (reported old report moment mark).entries
   pub calm : tells_memory taken.reply ≡ false → is_calm mark ≡ true
   pub may_stand : MayStore old moment (asked.Report report) mark
-  pub cause : HasCause mark before now
+  pub keeper : goes (is_store_mark mark)
 
 -- A change was recorded, and the line is the one that was written for it; or the store failed or memory ran out, and the farm is as before. The store
 -- fails only at a change of a row.
@@ -189,11 +184,11 @@ MayCutRound bookings (LateStore k) = k < bookings
 MayCutRound bookings mark = Unit {0}
 
 -- A round was walked over a farm, and the reply is to the report before it: whatever entry of the report made that farm, it is the answer by this mark.
-pub record TakesRound (old : Farm) (host : ℕ) (report : Report) (moment : ℕ) (new : Farm) (taken : Taken) (before now : ℕ) : Type 0 where
+pub record TakesRound (old : Farm) (host : ℕ) (report : Report) (moment : ℕ) (new : Farm) (taken : Taken) (goes : Bool → Type 0) : Type 0 where
   pub mark : Mark
   pub farm : (f : Farm) (heard : Entry) → after f heard ≡ old → new ≡ run_of f (marked_answer f host report heard (round_for old host moment) mark).entries
   pub reply : (f : Farm) (heard : Entry) → after f heard ≡ old → taken.reply ≡ (marked_answer f host report heard (round_for old host moment) mark).reply
   pub booked : (f : Farm) (heard : Entry) → is_booking heard.act ≡ false → taken.booked ≡ bookings_in (marked_answer f host report heard (round_for old host moment) mark).entries
   pub calm : tells_memory taken.reply ≡ false → is_calm mark ≡ true
   pub may_stand : MayCutRound (length (round_for old host moment)) mark
-  pub cause : HasCause mark before now
+  pub keeper : goes (is_store_mark mark)

@@ -1,5 +1,5 @@
 -- What a reply's line is.
-use Rattle.std.specs.Prelude.{◌≡◌, ◌⊎◌, ℕ, List, [], ◌∷◌, ◌++◌}
+use Rattle.std.specs.Prelude.{◌≡◌, ◌⊎◌, ℕ, Bool, true, false, List, [], ◌∷◌, ◌++◌}
 use Rattle.farm_lines.specs.declared.reply.Reply.{Reply}
 use Rattle.farm_lines.specs.declared.reply.Reply.TheVariants as reply
 use Rattle.farm_lines.specs.Reply.{reply_text}
@@ -16,3 +16,18 @@ shown NoMemory = reply_text reply.NoMemory ++ 10 ∷ []
 -- the line is that of the reply, or tells that memory ran out
 abbrev pub IsLineOf : Reply → List ℕ → Type 0
 IsLineOf told line = (line ≡ reply_text told ++ 10 ∷ []) ⊎ (line ≡ reply_text reply.NoMemory ++ 10 ∷ [])
+
+-- the line tells that the store failed
+abbrev pub is_store_line : ReplyLine → Bool
+is_store_line Store = true
+is_store_line other = false
+
+-- the reply tells that the store failed
+abbrev pub is_store_reply : Reply → Bool
+is_store_reply reply.Store = true
+is_store_reply other = false
+
+-- the line is that of the reply, or tells that memory ran out for it, which it doesn't where the store failed
+abbrev pub IsLineOfTaken : Reply → List ℕ → Type 0
+IsLineOfTaken reply.Store line = line ≡ reply_text reply.Store ++ 10 ∷ []
+IsLineOfTaken told line = IsLineOf told line

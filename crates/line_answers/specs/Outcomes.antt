@@ -18,7 +18,7 @@ WalksWhole LatePlain = Unit {0}
 WalksWhole mark = ⊥
 
 -- the line asks that this report be taken, and the farm takes it
-pub record IsTaken (f : Farm) (line : List ℕ) (moment : ℕ) (report : Report) : Type 0 where
+pub record IsAccepted (f : Farm) (line : List ℕ) (moment : ℕ) (report : Report) : Type 0 where
   pub fits : length line ≤ LINE_LIMIT
   pub asks : request_of line ≡ Ok (request.Report report)
   pub accepted : refusal_of f (heard_entry report moment) ≡ None

@@ -1,12 +1,14 @@
 //! Answering one line.
 
 ghost use Rattle.std.specs.Prelude.{◌≡◌, ◌≤◌, length};
+ghost use Rattle.farm_keeper.specs.Keeping.{Continues};
 ghost use Rattle.farm_lines.specs.Asked.{IsFormedAsked, asked_of};
 ghost use Rattle.farm_lines.specs.Lists.{list_of};
-ghost use Rattle.farm_lines.specs.Transcript.{list_reply};
+ghost use Rattle.farm_lines.specs.Transcript.{Plain, answer_to, asked_answer, list_reply};
 ghost use Rattle.line_answers.specs.Asking.{IsUnbooked};
 ghost use Rattle.farm_types.specs.Formed.{IsFormed};
 ghost use Rattle.farm_types.specs.Step.{HasCondition};
+ghost use Rattle.recorder.specs.Recording.{ChangesNone, IsUnstored};
 ghost use Rattle.report_codec.specs.Reads.{AsksWithin};
 ghost use Rattle.line_answers.specs.LineAnswers.{AnswersAsked, AnswersEntry, AnswersLine, fault_reply};
 ghost use Rattle.line_answers.specs.Lines.{IsLineOf, shown};
@@ -24,7 +26,8 @@ use recorder::PlainRecorder;
 use report_codec::read_request;
 use std::alloc::Global;
 
-/// Answers a line at a moment (seconds): records what it asks, in the farm and in its keeper, and gives the line of its reply.
+/// Answers a line at a moment (seconds): records what it asks, in the farm and in its keeper, and gives the line of its reply. A line that
+/// changes no row isn't told to the keeper.
 pub fn answer_line<K: Keeper>(
     alloc: Global,
     recorder: &mut PlainRecorder<K>,
@@ -32,9 +35,9 @@ pub fn answer_line<K: Keeper>(
     moment: u64,
 ) -> ReplyLine
     requires { length line.now ≤ LINE_LIMIT }
-    ensures answer { AnswersLine recorder.old.farm line.now moment recorder.new.farm (shown result) (K.faults recorder.old.keeper) (K.faults recorder.new.keeper) }
-    ensures told { K.tells recorder.new.keeper → K.tells recorder.old.keeper }
-    ensures rises { K.faults recorder.old.keeper ≤ K.faults recorder.new.keeper }
+    ensures answer { AnswersLine recorder.old.farm line.now moment recorder.new.farm (shown result)
+        (Continues K.tells K.faults recorder.old.keeper recorder.new.keeper) }
+    ensures same { ChangesNone recorder.old.farm (answer_to recorder.old.farm line.now moment Plain).entries → recorder.new.keeper ≡ recorder.old.keeper }
 {
     match read_request(alloc, line) {
         Ok(asked) => answer_request(alloc, recorder, asked, moment),
@@ -50,9 +53,10 @@ fn answer_request<K: Keeper>(
     moment: u64,
 ) -> ReplyLine
     requires { AsksWithin request }
-    ensures answer { AnswersAsked recorder.old.farm (asked_of request) moment recorder.new.farm (shown result) (K.faults recorder.old.keeper) (K.faults recorder.new.keeper) }
-    ensures told { K.tells recorder.new.keeper → K.tells recorder.old.keeper }
-    ensures rises { K.faults recorder.old.keeper ≤ K.faults recorder.new.keeper }
+    ensures answer { AnswersAsked recorder.old.farm (asked_of request) moment recorder.new.farm (shown result)
+        (Continues K.tells K.faults recorder.old.keeper recorder.new.keeper) }
+    ensures same { ChangesNone recorder.old.farm (asked_answer recorder.old.farm moment Plain (asked_of request)).entries
+        → recorder.new.keeper ≡ recorder.old.keeper }
 {
     answer_asked(alloc, recorder, asked_of(request), moment)
 }
@@ -66,9 +70,9 @@ fn answer_asked<K: Keeper>(
 ) -> ReplyLine
     requires formed { IsFormedAsked asked }
     requires unbooked { IsUnbooked asked }
-    ensures answer { AnswersAsked recorder.old.farm asked moment recorder.new.farm (shown result) (K.faults recorder.old.keeper) (K.faults recorder.new.keeper) }
-    ensures told { K.tells recorder.new.keeper → K.tells recorder.old.keeper }
-    ensures rises { K.faults recorder.old.keeper ≤ K.faults recorder.new.keeper }
+    ensures answer { AnswersAsked recorder.old.farm asked moment recorder.new.farm (shown result)
+        (Continues K.tells K.faults recorder.old.keeper recorder.new.keeper) }
+    ensures same { ChangesNone recorder.old.farm (asked_answer recorder.old.farm moment Plain asked).entries → recorder.new.keeper ≡ recorder.old.keeper }
 {
     match asked {
         Asked::Report(report) => answer_report(alloc, recorder, report, moment),
@@ -97,9 +101,9 @@ fn answer_taken<K: Keeper>(
 ) -> ReplyLine
     requires condition { HasCondition recorder.old.farm entry.act }
     requires formed { IsFormed entry }
-    ensures answer { AnswersEntry recorder.old.farm entry recorder.new.farm (shown result) (K.faults recorder.old.keeper) (K.faults recorder.new.keeper) }
-    ensures told { K.tells recorder.new.keeper → K.tells recorder.old.keeper }
-    ensures rises { K.faults recorder.old.keeper ≤ K.faults recorder.new.keeper }
+    ensures answer { AnswersEntry recorder.old.farm entry recorder.new.farm (shown result)
+        (Continues K.tells K.faults recorder.old.keeper recorder.new.keeper) }
+    ensures same { IsUnstored recorder.old.farm entry → recorder.new.keeper ≡ recorder.old.keeper }
 {
     answer_entry(alloc, recorder, &entry)
 }

@@ -1,14 +1,14 @@
 //! Answering a request of one entry.
 
-ghost use Rattle.std.specs.Prelude.{◌≡◌, ◌≤◌, ◌++◌, ◌∷◌, [], IfOk};
+ghost use Rattle.std.specs.Prelude.{◌≡◌, ◌++◌, ◌∷◌, [], IfOk};
 ghost use Rattle.farm_core.specs.Change.{Makes, after_change};
 ghost use Rattle.farm_lines.specs.Reply.{job_named, ok_reply, reply_text};
 ghost use Rattle.farm_types.specs.Formed.{IsFormed};
-ghost use Rattle.farm_types.specs.Step.{HasCondition};
+ghost use Rattle.farm_types.specs.Step.{HasCondition, after};
 ghost use Rattle.line_answers.specs.LineAnswers.{AnswersEntry, IsRecorded, IsUnprepared};
-ghost use Rattle.line_answers.specs.Lines.{shown};
-ghost use Rattle.farm_keeper.specs.Faults.{HasRisen};
-ghost use Rattle.recorder.specs.Recording.{IsOfEntry};
+ghost use Rattle.line_answers.specs.Lines.{is_store_line, shown};
+ghost use Rattle.farm_keeper.specs.Keeping.{Continues};
+ghost use Rattle.recorder.specs.Recording.{HasSameRows, IsOfEntry, IsUnstored};
 
 use crate::reply_line::{ReplyLine, refusal_line, write_line};
 use farm_core::{Change, PrepareFault};
@@ -27,9 +27,9 @@ pub fn answer_entry<K: Keeper>(
 ) -> ReplyLine
     requires condition { HasCondition recorder.old.farm entry.now.act }
     requires formed { IsFormed entry.now }
-    ensures answer { AnswersEntry recorder.old.farm entry.now recorder.new.farm (shown result) (K.faults recorder.old.keeper) (K.faults recorder.new.keeper) }
-    ensures told { K.tells recorder.new.keeper → K.tells recorder.old.keeper }
-    ensures rises { K.faults recorder.old.keeper ≤ K.faults recorder.new.keeper }
+    ensures answer { AnswersEntry recorder.old.farm entry.now recorder.new.farm (shown result)
+        (Continues K.tells K.faults recorder.old.keeper recorder.new.keeper) }
+    ensures same { IsUnstored recorder.old.farm entry.now → recorder.new.keeper ≡ recorder.old.keeper }
 {
     match recorder.prepare(alloc, entry) {
         Ok(change) => answer_change(alloc, recorder, entry, change),
@@ -47,9 +47,9 @@ fn answer_change<K: Keeper>(
     requires condition { HasCondition recorder.old.farm entry.now.act }
     requires formed { IsFormed entry.now }
     requires makes { Makes recorder.old.farm entry.now change }
-    ensures answer { AnswersEntry recorder.old.farm entry.now recorder.new.farm (shown result) (K.faults recorder.old.keeper) (K.faults recorder.new.keeper) }
-    ensures told { K.tells recorder.new.keeper → K.tells recorder.old.keeper }
-    ensures rises { K.faults recorder.old.keeper ≤ K.faults recorder.new.keeper }
+    ensures answer { AnswersEntry recorder.old.farm entry.now recorder.new.farm (shown result)
+        (Continues K.tells K.faults recorder.old.keeper recorder.new.keeper) }
+    ensures same { HasSameRows recorder.old.farm (after recorder.old.farm entry.now) → recorder.new.keeper ≡ recorder.old.keeper }
 {
     match write_ok(alloc, &entry.act, change.answer()) {
         Ok(line) => record(alloc, recorder, entry, change, line),
@@ -67,9 +67,8 @@ fn record<K: Keeper>(
 ) -> ReplyLine
     requires { IsOfEntry recorder.old.farm entry.now change }
     ensures recorded { IsRecorded recorder.old.farm (after_change recorder.old.farm change) line recorder.new.farm result }
-    ensures cause { result ≡ ReplyLine.Store → HasRisen (K.faults recorder.old.keeper) (K.faults recorder.new.keeper) }
-    ensures told { K.tells recorder.new.keeper → K.tells recorder.old.keeper }
-    ensures rises { K.faults recorder.old.keeper ≤ K.faults recorder.new.keeper }
+    ensures keeper { Continues K.tells K.faults recorder.old.keeper recorder.new.keeper (is_store_line result) }
+    ensures same { HasSameRows recorder.old.farm (after recorder.old.farm entry.now) → recorder.new.keeper ≡ recorder.old.keeper }
 {
     match recorder.record(alloc, entry, change) {
         Ok(()) => ReplyLine::Written(line),

@@ -1,18 +1,20 @@
 //! Answering a report.
 
-ghost use Rattle.std.specs.Prelude.{◌≡◌, ◌≤◌, ◌++◌, ◌∷◌, [], ℕ, IfOk, Some};
-ghost use Rattle.std.specs.Result.{IsErrOf};
+ghost use Rattle.std.specs.Prelude.{◌≡◌, ◌≤◌, IfOk, Some};
 ghost use Rattle.farm_types.specs.declared.entry.Act.TheVariants as act;
 ghost use Rattle.farm_types.specs.declared.limits.TheConstants.{BOOKINGS_EACH};
 ghost use Rattle.farm_types.specs.Farm.{Farm};
-ghost use Rattle.farm_keeper.specs.Faults.{HasRisen};
-ghost use Rattle.recorder.specs.declared.refusal.CommitRefusal.TheVariants as refusal;
-ghost use Rattle.recorder.specs.Recording.{IsOfEntry};
+ghost use Rattle.farm_types.specs.Dispatch.{round_for};
+ghost use Rattle.farm_types.specs.Step.{after};
+ghost use Rattle.farm_keeper.specs.Keeping.{Continues};
+ghost use Rattle.recorder.specs.Faults.{is_store_refusal};
+ghost use Rattle.recorder.specs.Recording.{ChangesNone, HasSameRows, IsOfEntry, IsUnstored};
 ghost use Rattle.farm_types.specs.Formed.{IsFormed};
 ghost use Rattle.farm_lines.specs.Asked.{heard_entry, heard_of};
 ghost use Rattle.farm_lines.specs.Reply.{report_reply};
-ghost use Rattle.line_answers.specs.LineAnswers.{AnswersReport, Hears, TakesReport, TakesRound, unrecorded_reply};
-ghost use Rattle.line_answers.specs.Lines.{IsLineOf, shown};
+ghost use Rattle.farm_lines.specs.Transcript.{Plain};
+ghost use Rattle.line_answers.specs.LineAnswers.{AnswersReport, Hears, TakesReport, TakesRound, reported, unrecorded_reply};
+ghost use Rattle.line_answers.specs.Lines.{IsLineOfTaken, shown};
 ghost use Rattle.line_answers.specs.Reports.{IsHeard, IsTold};
 
 use crate::launches::{acks, kills, launches};
@@ -34,9 +36,9 @@ pub fn answer_report<K: Keeper>(
     moment: u64,
 ) -> ReplyLine
     requires { IsFormed (heard_entry report moment) }
-    ensures answer { AnswersReport recorder.old.farm report moment recorder.new.farm (shown result) (K.faults recorder.old.keeper) (K.faults recorder.new.keeper) }
-    ensures told { K.tells recorder.new.keeper → K.tells recorder.old.keeper }
-    ensures rises { K.faults recorder.old.keeper ≤ K.faults recorder.new.keeper }
+    ensures answer { AnswersReport recorder.old.farm report moment recorder.new.farm (shown result)
+        (Continues K.tells K.faults recorder.old.keeper recorder.new.keeper) }
+    ensures same { ChangesNone recorder.old.farm (reported recorder.old.farm report moment Plain).entries → recorder.new.keeper ≡ recorder.old.keeper }
 {
     let taken = take_report(alloc, recorder, report, moment);
     taken_line(alloc, taken.reply)
@@ -50,10 +52,10 @@ pub fn take_report<K: Keeper>(
     moment: u64,
 ) -> Taken
     requires { IsFormed (heard_entry report moment) }
-    ensures taken { TakesReport recorder.old.farm report moment recorder.new.farm result (K.faults recorder.old.keeper) (K.faults recorder.new.keeper) }
+    ensures taken { TakesReport recorder.old.farm report moment recorder.new.farm result
+        (Continues K.tells K.faults recorder.old.keeper recorder.new.keeper) }
     ensures few { result.booked ≤ BOOKINGS_EACH }
-    ensures told { K.tells recorder.new.keeper → K.tells recorder.old.keeper }
-    ensures rises { K.faults recorder.old.keeper ≤ K.faults recorder.new.keeper }
+    ensures same { ChangesNone recorder.old.farm (reported recorder.old.farm report moment Plain).entries → recorder.new.keeper ≡ recorder.old.keeper }
 {
     let (heard, running) = parts_of(report);
     let entry = Entry {
@@ -72,7 +74,7 @@ pub fn take_report<K: Keeper>(
 
 // The line of the reply to a report, or that memory ran out.
 fn taken_line(alloc: Global, reply: Reply) -> ReplyLine
-    ensures { IsLineOf reply (shown result) }
+    ensures { IsLineOfTaken reply (shown result) }
 {
     match reply {
         Reply::Store => ReplyLine::Store,
@@ -90,9 +92,8 @@ fn record_heard<K: Keeper>(
     requires formed { IsFormed entry.now }
     requires heard { IsHeard entry.now.act }
     ensures farm { Hears recorder.old.farm entry.now result recorder.new.farm }
-    ensures told { K.tells recorder.new.keeper → K.tells recorder.old.keeper }
-    ensures cause { IsErrOf result refusal.Store → HasRisen (K.faults recorder.old.keeper) (K.faults recorder.new.keeper) }
-    ensures rises { K.faults recorder.old.keeper ≤ K.faults recorder.new.keeper }
+    ensures keeper { Continues K.tells K.faults recorder.old.keeper recorder.new.keeper (is_store_refusal result) }
+    ensures same { IsUnstored recorder.old.farm entry.now → recorder.new.keeper ≡ recorder.old.keeper }
 {
     let change = recorder.prepare(alloc, entry)?;
     record_change(alloc, recorder, entry, change)
@@ -108,9 +109,8 @@ fn record_change<K: Keeper>(
     requires of_entry { IsOfEntry recorder.old.farm entry.now change }
     requires heard { IsHeard entry.now.act }
     ensures farm { Hears recorder.old.farm entry.now result recorder.new.farm }
-    ensures told { K.tells recorder.new.keeper → K.tells recorder.old.keeper }
-    ensures cause { IsErrOf result refusal.Store → HasRisen (K.faults recorder.old.keeper) (K.faults recorder.new.keeper) }
-    ensures rises { K.faults recorder.old.keeper ≤ K.faults recorder.new.keeper }
+    ensures keeper { Continues K.tells K.faults recorder.old.keeper recorder.new.keeper (is_store_refusal result) }
+    ensures same { HasSameRows recorder.old.farm (after recorder.old.farm entry.now) → recorder.new.keeper ≡ recorder.old.keeper }
 {
     let host = host_of(&change);
     recorder.record(alloc, entry, change)?;
@@ -125,12 +125,12 @@ fn take_recorded<K: Keeper>(
     report: &Report,
     moment: u64,
 ) -> Taken
-    ensures taken { (f : Farm) (before : ℕ) → Hears f (heard_entry report.now moment) recorded recorder.old.farm → before ≤ K.faults recorder.old.keeper
-        → (IsErrOf recorded refusal.Store → HasRisen before (K.faults recorder.old.keeper))
-        → TakesReport f report.now moment recorder.new.farm result before (K.faults recorder.new.keeper) }
+    ensures taken { (f : Farm) (before : K) → Hears f (heard_entry report.now moment) recorded recorder.old.farm
+        → Continues K.tells K.faults before recorder.old.keeper (is_store_refusal recorded)
+        → TakesReport f report.now moment recorder.new.farm result (Continues K.tells K.faults before recorder.new.keeper) }
     ensures few { result.booked ≤ BOOKINGS_EACH }
-    ensures told { K.tells recorder.new.keeper → K.tells recorder.old.keeper }
-    ensures rises { K.faults recorder.old.keeper ≤ K.faults recorder.new.keeper }
+    ensures same { (f : Farm) → Hears f (heard_entry report.now moment) recorded recorder.old.farm → ChangesNone f (reported f report.now moment Plain).entries
+        → recorder.new.keeper ≡ recorder.old.keeper }
 {
     match recorded {
         Ok(host) => take_round(alloc, recorder, host, report, moment),
@@ -210,10 +210,10 @@ fn take_round<K: Keeper>(
     report: &Report,
     moment: u64,
 ) -> Taken
-    ensures taken { TakesRound recorder.old.farm host report.now moment recorder.new.farm result (K.faults recorder.old.keeper) (K.faults recorder.new.keeper) }
+    ensures taken { TakesRound recorder.old.farm host report.now moment recorder.new.farm result
+        (Continues K.tells K.faults recorder.old.keeper recorder.new.keeper) }
     ensures few { result.booked ≤ BOOKINGS_EACH }
-    ensures told { K.tells recorder.new.keeper → K.tells recorder.old.keeper }
-    ensures rises { K.faults recorder.old.keeper ≤ K.faults recorder.new.keeper }
+    ensures same { ChangesNone recorder.old.farm (round_for recorder.old.farm host moment) → recorder.new.keeper ≡ recorder.old.keeper }
 {
     let walked = round(alloc, recorder, host, moment);
     match report_reply(alloc, recorder.read(), host, report, walked.cut) {

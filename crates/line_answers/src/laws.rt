@@ -9,7 +9,7 @@ ghost use Rattle.farm_lines.specs.Asked.{heard_entry};
 ghost use Rattle.farm_lines.specs.Transcript.{Mark, Exchange, entries_in};
 ghost use Rattle.farm_types.specs.Formed.{IsFormed};
 ghost use Rattle.line_answers.specs.LineAnswers.{reported};
-ghost use Rattle.line_answers.specs.Outcomes.{WalksWhole, IsTaken, HasWholeRound, IsAnsweredFully};
+ghost use Rattle.line_answers.specs.Outcomes.{WalksWhole, IsAccepted, HasWholeRound, IsAnsweredFully};
 
 /// Whatever lines come, at whatever moments of 64 bits, and wherever memory runs out or the store fails, the entries that are recorded are a legal run.
 #[tactic(auto, using(crate::proofs::LegalLemmas::exchanges_legal))]
@@ -27,7 +27,7 @@ pub fn reports_are_legal()
 /// within the round.
 #[tactic(auto, using(crate::proofs::OutcomeLemmas::whole_round))]
 pub fn taken_reports_have_their_round()
-    ensures { (f : Farm) (line : List ℕ) (moment : ℕ) (mark : Mark) (report : Report) → WalksWhole mark → IsTaken f line moment report → HasWholeRound f line moment mark report }
+    ensures { (f : Farm) (line : List ℕ) (moment : ℕ) (mark : Mark) (report : Report) → WalksWhole mark → IsAccepted f line moment report → HasWholeRound f line moment mark report }
 {}
 
 /// A line past the limit is told so, and each other is answered by what it asks, unless memory ran out or the store failed for it. Where memory ran

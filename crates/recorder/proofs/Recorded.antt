@@ -13,7 +13,11 @@ use Rattle.farm_types.proofs.Lists.{and_both}
 use Rattle.farm_rows.specs.declared.row_change.RowChange.{RowChange}
 use Rattle.farm_rows.specs.Changes.{NamesExactly}
 use Rattle.farm_rows.specs.Rows.{rows_of}
-use Rattle.farm_keeper.specs.Faults.{HasRisen}
+use Rattle.farm_keeper.specs.declared.fault.KeeperFault.{KeeperFault}
+use Rattle.farm_keeper.specs.declared.fault.KeeperFault.TheVariants as keeper_fault
+use Rattle.farm_keeper.specs.Faults.{is_store_failure}
+use Rattle.farm_keeper.specs.Keeping.{Continues}
+use Rattle.farm_keeper.proofs.KeepingLaws.{Continues-as, Continues-same}
 use Rattle.farm_keeper.specs.Rows.{Rows}
 use Rattle.farm_places.specs.declared.fault.PrepareFault.{PrepareFault}
 use Rattle.farm_places.specs.declared.fault.PrepareFault.TheVariants as prepare_fault
@@ -23,8 +27,8 @@ use Rattle.recorder.specs.declared.refusal.CommitRefusal.{CommitRefusal}
 use Rattle.recorder.specs.declared.refusal.CommitRefusal.TheVariants as refusal
 use Rattle.recorder.specs.declared.refusal.RecordFault.{RecordFault}
 use Rattle.recorder.specs.declared.refusal.RecordFault.TheVariants as fault
-use Rattle.recorder.specs.Faults.{of_prepare, of_record}
-use Rattle.recorder.specs.Recording.{Books, Commits, FailsToRecord, HasRecorded, IsOfEntry, Recording, Records, RecordsAnswered, StaysAtFault, StaysRecorded, booking}
+use Rattle.recorder.specs.Faults.{is_by_store, is_of_store, is_store_fault, is_store_refusal, of_keeper, of_prepare, of_record}
+use Rattle.recorder.specs.Recording.{Books, Commits, FailsToRecord, HasRecorded, HasSameRows, IsOfEntry, IsUnstoredBooking, Recording, Records, RecordsAnswered, StaysAtFault, StaysRecorded, booking}
 
 -- ---- the parts of a recorder
 
@@ -34,17 +38,45 @@ farm_is {K = K} is = ap (λ (r : Recording K). r.farm) is
 pub keeper_is : {K : Type 0} {a b : Recording K} → a ≡ b → a.keeper ≡ b.keeper
 keeper_is {K = K} is = ap (λ (r : Recording K). r.keeper) is
 
--- what is said of the keeper as it was held is said of the recorder's
-pub told_of : {K : Type 0} {a b : Recording K} (tells : K → Type 0) (k : K) → a ≡ b → (tells k → tells a.keeper) → tells k → tells b.keeper
-told_of tells k is told now = subst tells (keeper_is is) (told now)
+-- as the keeper that was held goes on, so does the recorder's
+pub goes_of : {K : Type 0} {a b : Recording K} (tells : K → Type 0) (faults : K → ℕ) (k : K) (failed : Bool) → a ≡ b → Continues tells faults a.keeper k failed
+    → Continues tells faults b.keeper k failed
+goes_of {K = K} tells faults k failed is goes = subst (λ (r : Recording K). Continues tells faults r.keeper k failed) is goes
 
-pub risen_of : {K P : Type 0} {a b : Recording K} (faults : K → ℕ) (k : K) → a ≡ b → (P → HasRisen (faults a.keeper) (faults k)) → P → HasRisen (faults b.keeper) (faults k)
-risen_of faults k is cause failed = subst (λ (n : ℕ). HasRisen n (faults k)) (ap faults (keeper_is is)) (cause failed)
+-- and it stays as it is where nothing is recorded that changes a row
+pub same_entry : {K : Type 0} {a b : Recording K} (e : Entry) (k : K) → a ≡ b → (HasSameRows a.farm (after a.farm e) → k ≡ a.keeper)
+    → HasSameRows b.farm (after b.farm e) → k ≡ b.keeper
+same_entry {K = K} e k is same = subst (λ (r : Recording K). HasSameRows r.farm (after r.farm e) → k ≡ r.keeper) is same
 
-pub rises_of : {K : Type 0} {a b : Recording K} (faults : K → ℕ) (k : K) → a ≡ b → faults a.keeper ≤ faults k → faults b.keeper ≤ faults k
-rises_of faults k is rises = subst (λ (n : ℕ). n ≤ faults k) (ap faults (keeper_is is)) rises
+pub same_booking : {K : Type 0} {a b : Recording K} (slot host moment : ℕ) (k : K) → a ≡ b → (IsUnstoredBooking a.farm slot host moment → k ≡ a.keeper)
+    → IsUnstoredBooking b.farm slot host moment → k ≡ b.keeper
+same_booking {K = K} slot host moment k is same =
+    subst (λ (r : Recording K). IsUnstoredBooking r.farm slot host moment → k ≡ r.keeper) is same
 
 -- ---- a keeper that isn't told
+
+-- memory ran out before
+pub ran_out : {K T : Type 0} (tells : K → Type 0) (faults : K → ℕ) (k : K) (r : Result T RecordFault) → IsErrAnd r (λ why. why ≡ fault.NoMemory)
+    → Continues tells faults k k (is_store_fault r)
+ran_out tells faults k r err =
+    let p = err_from_is_err_and r err in
+    Continues-as tells faults k k false (is_store_fault r) (sym (ap is_store_fault p.1 ∙ ap is_of_store p.2)) (Continues-same tells faults k)
+
+of_keeper_store : (why : KeeperFault) → is_store_failure why ≡ is_of_store (of_keeper why)
+of_keeper_store keeper_fault.Failed = refl
+of_keeper_store keeper_fault.NoMemory = refl
+
+-- the store failed where the keeper said so, and only there
+pub keeper_told : {T : Type 0} (why : KeeperFault) (r : Result T RecordFault) → IsErrAnd r (λ told. told ≡ of_keeper why) → is_store_failure why ≡ is_store_fault r
+keeper_told why r err =
+    let p = err_from_is_err_and r err in
+    of_keeper_store why ∙ sym (ap is_store_fault p.1 ∙ ap is_of_store p.2)
+
+-- a fault that is passed on
+pub passed_on : {T : Type 0} (why : RecordFault) (r : Result T RecordFault) → IsErrAnd r (λ told. told ≡ why) → is_of_store why ≡ is_store_fault r
+passed_on why r err =
+    let p = err_from_is_err_and r err in
+    sym (ap is_store_fault p.1 ∙ ap is_of_store p.2)
 
 fault_unchanged : (holds left : Rows → Type 0) (f : Farm) (e : Entry) (why : RecordFault) → why ≡ fault.NoMemory → StaysAtFault holds left holds left f e why
 fault_unchanged holds left f e fault.Store is = let never : ⊥ = cc in absurd never
@@ -108,15 +140,15 @@ answered_at_fault old changed new answer why r err fails =
     let p = err_from_is_err_and r err in
     subst (λ (q : Result Answer CommitRefusal). RecordsAnswered old changed answer q new) (sym (p.1 ∙ ap Err p.2)) (answered old changed new answer why fails)
 
-store_of : (why : RecordFault) → refusal.Store ≡ of_record why → why ≡ fault.Store
-store_of fault.Store is = refl
-store_of fault.NoMemory is = let never : ⊥ = cc in absurd never
+store_of : (why : RecordFault) → is_of_store why ≡ is_by_store (of_record why)
+store_of fault.Store = refl
+store_of fault.NoMemory = refl
 
--- the store failed where that is told
-pub store_told : (why : RecordFault) (r : Result Answer CommitRefusal) → IsErrAnd r (λ told. told ≡ of_record why) → r ≡ Err refusal.Store → why ≡ fault.Store
-store_told why r err is =
-    let told : refusal.Store ≡ of_record why = subst (λ (q : Result Answer CommitRefusal). IsErrAnd q (λ told. told ≡ of_record why)) is err in
-    store_of why told
+-- the store failed where that is told, and only there
+pub store_told : (why : RecordFault) (r : Result Answer CommitRefusal) → IsErrAnd r (λ told. told ≡ of_record why) → is_of_store why ≡ is_store_refusal r
+store_told why r err =
+    let p = err_from_is_err_and r err in
+    store_of why ∙ sym (ap is_store_refusal p.1 ∙ ap is_by_store p.2)
 
 -- ---- an entry
 
@@ -130,15 +162,15 @@ commits_nothing f e why r err is =
     let p = err_from_is_err_and r err in
     subst (λ (q : Result Answer CommitRefusal). Commits f e q f) (sym (p.1 ∙ ap Err p.2)) (refused_as f e why is)
 
-not_store : (why : PrepareFault) → refusal.Store ≡ of_prepare why → ⊥
-not_store (prepare_fault.Refused why) is = cc
-not_store prepare_fault.NoMemory is = cc
+not_store : (why : PrepareFault) → is_by_store (of_prepare why) ≡ false
+not_store (prepare_fault.Refused why) = refl
+not_store prepare_fault.NoMemory = refl
 
 -- preparing tells of no store
-pub never_store : (why : PrepareFault) (r : Result Answer CommitRefusal) → IsErrAnd r (λ told. told ≡ of_prepare why) → r ≡ Err refusal.Store → ⊥
-never_store why r err is =
-    let told : refusal.Store ≡ of_prepare why = subst (λ (q : Result Answer CommitRefusal). IsErrAnd q (λ told. told ≡ of_prepare why)) is err in
-    not_store why told
+pub never_store : (why : PrepareFault) (r : Result Answer CommitRefusal) → IsErrAnd r (λ told. told ≡ of_prepare why) → is_store_refusal r ≡ false
+never_store why r err =
+    let p = err_from_is_err_and r err in
+    ap is_store_refusal p.1 ∙ (ap is_by_store p.2 ∙ not_store why)
 
 pub of_entry : (f : Farm) (e : Entry) (change : Change) → IsFormed e → HasCondition f e.act → Makes f e change → IsOfEntry f e change
 of_entry f e change formed condition makes =

@@ -12,13 +12,13 @@ use Rattle.farm_rows.specs.declared.row_change.RowChange.TheVariants as change
 use Rattle.farm_rows.specs.Changes.{Differs, NamesExactly, change_key, row_at}
 use Rattle.farm_rows.specs.Rows.{rows_of}
 use Rattle.farm_keeper.specs.declared.row.Batch.{Batch}
-use Rattle.farm_keeper.specs.Keeping.{Keeps, LeavesTaken, MayLeave, Takes}
+use Rattle.farm_keeper.specs.Keeping.{HoldsWith, Keeps, LeavesTaken, MayLeave}
 use Rattle.farm_keeper.specs.Rows.{Rows, rows_from}
 use Rattle.farm_keeper.specs.Rows as batched
 use Rattle.store_law.specs.Stored.{batch_of, stored, stored_row}
 use Rattle.recorder.specs.declared.refusal.RecordFault.{RecordFault}
 use Rattle.recorder.specs.declared.refusal.RecordFault.TheVariants as fault
-use Rattle.recorder.specs.Recording.{HasRecorded, MayBe, StaysRecorded}
+use Rattle.recorder.specs.Recording.{HasRecorded, HasSameRows, MayBe, StaysRecorded}
 
 -- ---- lists with and without items
 
@@ -44,7 +44,7 @@ same_farm f g (c ∷ cs) some is names =
 
 -- ---- a batch that is taken, or refused
 
-taken : (holds holds' left' : Rows → Type 0) (f g : Farm) (batch : Batch) → batched.after batch (stored f) ≡ stored g → Takes batch holds holds'
+taken : (holds holds' left' : Rows → Type 0) (f g : Farm) (batch : Batch) → batched.after batch (stored f) ≡ stored g → HoldsWith batch holds holds'
     → LeavesTaken batch holds left' → holds (stored f) → HasRecorded holds' left' g
 taken holds holds' left' f g batch is takes leaves held = record {
   held = subst holds' is (takes (stored f) held);
@@ -92,8 +92,12 @@ module _ (rows : (f g : Farm) (cs : List RowChange) → IsKeptFarm f → IsKeptF
       let same_stores : stored f ≡ stored (after f e) = ap (λ (rs : List FarmRow). rows_from (map stored_row rs)) same in
       same_farm f (after f e) cs some (differ f (after f e) kept then_kept same_stores) names
 
+  -- where each row is as it was, no change is named
+  pub none_named : {P : Type 0} → (cs ≡ [] → ⊥) → HasSameRows f (after f e) → P
+  none_named some same = absurd (rows_differ some same)
+
   pub told_stays : {T : Type 0} → (cs ≡ [] → ⊥) → (holds left holds' left' : Rows → Type 0) (r : Result T RecordFault)
-      → OnOk r (Takes (batch_of cs) holds holds') → OnErr r (Keeps holds holds') → OnOk r (LeavesTaken (batch_of cs) holds left') → OnErr r (MayLeave (batch_of cs) holds left left')
+      → OnOk r (HoldsWith (batch_of cs) holds holds') → OnErr r (Keeps holds holds') → OnOk r (LeavesTaken (batch_of cs) holds left') → OnErr r (MayLeave (batch_of cs) holds left left')
       → StaysRecorded holds left holds' left' f e r
   told_stays some holds left holds' left' (Ok done) takes keeps leaves_taken leaves =
       λ has. taken holds holds' left' f (after f e) (batch_of cs) stored_then takes leaves_taken has.held

@@ -1,5 +1,5 @@
 -- A farm with its keeper: the keeper holds the farm's rows, and a stop leaves them, or those of the farm one entry further.
-use Rattle.std.specs.Prelude.{ℕ, ◌≡◌, ◌≢◌, ◌⊎◌, Bool, true, None, Some, Result, Ok, Err, if◌then◌else◌}
+use Rattle.std.specs.Prelude.{ℕ, ◌≡◌, ◌≢◌, ◌⊎◌, Bool, true, List, [], ◌∷◌, None, Some, Result, Ok, Err, if◌then◌else◌}
 use Rattle.farm_types.specs.declared.answer.Answer.{Answer}
 use Rattle.farm_types.specs.declared.entry.Act.TheVariants as act
 use Rattle.farm_types.specs.declared.entry.Entry.{Entry}
@@ -50,6 +50,19 @@ pub record IsOfEntry (f : Farm) (e : Entry) (change : Change) : Type 0 where
 abbrev pub ChangesRows : Farm → Farm → Type 0
 ChangesRows f g = rows_of f ≢ rows_of g
 
+-- each row is as it was
+abbrev pub HasSameRows : Farm → Farm → Type 0
+HasSameRows f g = rows_of f ≡ rows_of g
+
+-- none of the entries, each after those before it, makes another row or takes one away
+abbrev pub ChangesNone : Farm → List Entry → Type 0
+ChangesNone f [] = Unit {0}
+ChangesNone f (e ∷ es) = HasSameRows f (after f e) × ChangesNone (after f e) es
+
+-- the farm refuses the entry, or it leaves each row as it is
+abbrev pub IsUnstored : Farm → Entry → Type 0
+IsUnstored f e = refusal_of f e ≡ None → HasSameRows f (after f e)
+
 -- The store failed or memory ran out, and the farm is as before: the store fails only where a row changes
 abbrev pub FailsToRecord : Farm → Farm → RecordFault → Farm → Type 0
 FailsToRecord old changed fault.Store new = (new ≡ old) × ChangesRows old changed
@@ -87,6 +100,10 @@ StaysRecorded holds left holds' left' f e (Err why) = StaysAtFault holds left ho
 -- an entry that books
 abbrev pub booking : ℕ → ℕ → ℕ → Entry
 booking slot host moment = record { moment = moment; act = act.Book slot host }
+
+-- the booking may not be, or it leaves each row as it is
+abbrev pub IsUnstoredBooking : Farm → ℕ → ℕ → ℕ → Type 0
+IsUnstoredBooking f slot host moment = may_book f slot host ≡ true → HasSameRows f (after f (booking slot host moment))
 
 -- the frame is booked where it may be, and it is said whether it was; or the store failed at a booking that may be, or memory ran out
 abbrev pub Books : Farm → ℕ → ℕ → ℕ → Result Bool RecordFault → Farm → Type 0

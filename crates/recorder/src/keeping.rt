@@ -1,7 +1,6 @@
 //! A farm and a keeper of its rows, changed together.
 
-ghost use Rattle.std.specs.Prelude.{◌≡◌, ◌≤◌, true, Err, OnErr, OnOk};
-ghost use Rattle.std.specs.Result.{IsErrOf};
+ghost use Rattle.std.specs.Prelude.{◌≡◌, true, Err, OnErr, OnOk};
 ghost use Rattle.farm_types.specs.declared.entry.Entry.{Entry};
 ghost use Rattle.farm_types.specs.Booking.{may_book};
 ghost use Rattle.farm_types.specs.Farm as farms;
@@ -9,12 +8,11 @@ ghost use Rattle.farm_types.specs.Kept.{IsKeptFarm};
 ghost use Rattle.farm_types.specs.Run.{IsLegalStep};
 ghost use Rattle.farm_types.specs.Step.{after};
 ghost use Rattle.farm_rows.specs.Changes.{NamesExactly};
-ghost use Rattle.farm_keeper.specs.Faults.{HasRisen};
-ghost use Rattle.farm_keeper.specs.Keeping.{Keeps, LeavesTaken, MayLeave, Takes};
+ghost use Rattle.farm_keeper.specs.Keeping.{Continues, HoldsWith, Keeps, LeavesTaken, MayLeave};
 ghost use Rattle.farm_core.specs.Change.{after_change, reserved_of};
 ghost use Rattle.store_law.specs.Stored.{batch_of as stored_batch};
-ghost use Rattle.recorder.specs.declared.refusal.RecordFault.TheVariants as fault;
-ghost use Rattle.recorder.specs.Recording.{booking, Books, HasRecorded, IsOfEntry, Records, StaysRecorded};
+ghost use Rattle.recorder.specs.Faults.{is_store_fault};
+ghost use Rattle.recorder.specs.Recording.{booking, Books, HasRecorded, IsOfEntry, IsUnstoredBooking, HasSameRows, Records, StaysRecorded};
 
 use crate::batch::batch_of;
 use crate::refusal::RecordFault;
@@ -37,9 +35,8 @@ pub(crate) fn record_in<K: Keeper>(
     requires { IsOfEntry farm.old entry.now change }
     ensures farm { Records farm.old (after_change farm.old change) result farm.new }
     ensures kept { HasRecorded (K.holds keeper.old) (K.left keeper.old) farm.old → HasRecorded (K.holds keeper.new) (K.left keeper.new) farm.new }
-    ensures told { K.tells keeper.new → K.tells keeper.old }
-    ensures cause { IsErrOf result fault.Store → HasRisen (K.faults keeper.old) (K.faults keeper.new) }
-    ensures rises { K.faults keeper.old ≤ K.faults keeper.new }
+    ensures same { HasSameRows farm.old (after farm.old entry.now) → keeper.new ≡ keeper.old }
+    ensures keeper { Continues K.tells K.faults keeper.old keeper.new (is_store_fault result) }
 {
     let mut change = change;
     match make_ready(alloc, farm, keeper, entry, &mut change) {
@@ -70,9 +67,8 @@ fn make_ready<K: Keeper>(
     ensures farm { farm.new ≡ farm.old }
     ensures ok { OnOk result (change.new ≡ reserved_of change.old) }
     ensures kept { StaysRecorded (K.holds keeper.old) (K.left keeper.old) (K.holds keeper.new) (K.left keeper.new) farm.old entry.now result }
-    ensures told { K.tells keeper.new → K.tells keeper.old }
-    ensures cause { IsErrOf result fault.Store → HasRisen (K.faults keeper.old) (K.faults keeper.new) }
-    ensures rises { K.faults keeper.old ≤ K.faults keeper.new }
+    ensures same { HasSameRows farm.old (after farm.old entry.now) → keeper.new ≡ keeper.old }
+    ensures keeper { Continues K.tells K.faults keeper.old keeper.new (is_store_fault result) }
 {
     farm.kept();
     let rows = farm.changes(alloc, entry, change)?;
@@ -91,9 +87,8 @@ fn reserve_and_keep<K: Keeper>(
     ensures ok { OnOk result (change.new ≡ reserved_of change.old) }
     ensures kept { (f : farms.Farm) (e : Entry) → IsKeptFarm f → IsLegalStep f e → NamesExactly f (after f e) rows.now
         → StaysRecorded (K.holds keeper.old) (K.left keeper.old) (K.holds keeper.new) (K.left keeper.new) f e result }
-    ensures told { K.tells keeper.new → K.tells keeper.old }
-    ensures cause { IsErrOf result fault.Store → HasRisen (K.faults keeper.old) (K.faults keeper.new) }
-    ensures rises { K.faults keeper.old ≤ K.faults keeper.new }
+    ensures same { (f : farms.Farm) (e : Entry) → IsKeptFarm f → IsLegalStep f e → NamesExactly f (after f e) rows.now → HasSameRows f (after f e) → keeper.new ≡ keeper.old }
+    ensures keeper { Continues K.tells K.faults keeper.old keeper.new (is_store_fault result) }
 {
     farm.reserve(alloc, change)?;
     keep(alloc, keeper, rows)
@@ -110,9 +105,8 @@ pub(crate) fn book_in<K: Keeper>(
 ) -> Result<bool, RecordFault>
     ensures farm { Books farm.old slot host moment result farm.new }
     ensures kept { HasRecorded (K.holds keeper.old) (K.left keeper.old) farm.old → HasRecorded (K.holds keeper.new) (K.left keeper.new) farm.new }
-    ensures told { K.tells keeper.new → K.tells keeper.old }
-    ensures cause { IsErrOf result fault.Store → HasRisen (K.faults keeper.old) (K.faults keeper.new) }
-    ensures rises { K.faults keeper.old ≤ K.faults keeper.new }
+    ensures same { IsUnstoredBooking farm.old slot host moment → keeper.new ≡ keeper.old }
+    ensures keeper { Continues K.tells K.faults keeper.old keeper.new (is_store_fault result) }
 {
     if farm.may_book(slot, host) {
         return book_there(alloc, farm, keeper, slot, host, moment);
@@ -132,9 +126,8 @@ fn book_there<K: Keeper>(
     requires { may_book farm.old slot host ≡ true }
     ensures farm { Books farm.old slot host moment result farm.new }
     ensures kept { HasRecorded (K.holds keeper.old) (K.left keeper.old) farm.old → HasRecorded (K.holds keeper.new) (K.left keeper.new) farm.new }
-    ensures told { K.tells keeper.new → K.tells keeper.old }
-    ensures cause { IsErrOf result fault.Store → HasRisen (K.faults keeper.old) (K.faults keeper.new) }
-    ensures rises { K.faults keeper.old ≤ K.faults keeper.new }
+    ensures same { HasSameRows farm.old (after farm.old (booking slot host moment)) → keeper.new ≡ keeper.old }
+    ensures keeper { Continues K.tells K.faults keeper.old keeper.new (is_store_fault result) }
 {
     keep_booking(alloc, farm, keeper, slot, host, moment)?;
     Ok(farm.book_if(slot, host, moment))
@@ -151,9 +144,8 @@ fn keep_booking<K: Keeper>(
 ) -> Result<(), RecordFault>
     requires { may_book farm.now slot host ≡ true }
     ensures kept { StaysRecorded (K.holds keeper.old) (K.left keeper.old) (K.holds keeper.new) (K.left keeper.new) farm.now (booking slot host moment) result }
-    ensures told { K.tells keeper.new → K.tells keeper.old }
-    ensures cause { IsErrOf result fault.Store → HasRisen (K.faults keeper.old) (K.faults keeper.new) }
-    ensures rises { K.faults keeper.old ≤ K.faults keeper.new }
+    ensures same { HasSameRows farm.now (after farm.now (booking slot host moment)) → keeper.new ≡ keeper.old }
+    ensures keeper { Continues K.tells K.faults keeper.old keeper.new (is_store_fault result) }
 {
     farm.kept();
     let rows = farm.booking_changes(alloc, slot, host, moment)?;
@@ -164,9 +156,8 @@ fn keep_booking<K: Keeper>(
 fn keep<K: Keeper>(alloc: Global, keeper: &mut K, changes: &[RowChange]) -> Result<(), RecordFault>
     ensures kept { (f : farms.Farm) (e : Entry) → IsKeptFarm f → IsLegalStep f e → NamesExactly f (after f e) changes.now
         → StaysRecorded (K.holds keeper.old) (K.left keeper.old) (K.holds keeper.new) (K.left keeper.new) f e result }
-    ensures told { K.tells keeper.new → K.tells keeper.old }
-    ensures cause { IsErrOf result fault.Store → HasRisen (K.faults keeper.old) (K.faults keeper.new) }
-    ensures rises { K.faults keeper.old ≤ K.faults keeper.new }
+    ensures same { (f : farms.Farm) (e : Entry) → IsKeptFarm f → IsLegalStep f e → NamesExactly f (after f e) changes.now → HasSameRows f (after f e) → keeper.new ≡ keeper.old }
+    ensures keeper { Continues K.tells K.faults keeper.old keeper.new (is_store_fault result) }
 {
     batches_make_the_rows();
     farms_differ_in_their_stores();
@@ -174,18 +165,20 @@ fn keep<K: Keeper>(alloc: Global, keeper: &mut K, changes: &[RowChange]) -> Resu
     if changes.is_empty() {
         return Ok(());
     }
-    tell(alloc, keeper, changes)
+    commit(alloc, keeper, changes)
 }
 
 // Commits the changes to the keeper as one batch.
-fn tell<K: Keeper>(alloc: Global, keeper: &mut K, changes: &[RowChange]) -> Result<(), RecordFault>
-    ensures taken { OnOk result (Takes (stored_batch changes.now) (K.holds keeper.old) (K.holds keeper.new)) }
+fn commit<K: Keeper>(
+    alloc: Global,
+    keeper: &mut K,
+    changes: &[RowChange],
+) -> Result<(), RecordFault>
+    ensures taken { OnOk result (HoldsWith (stored_batch changes.now) (K.holds keeper.old) (K.holds keeper.new)) }
     ensures kept { OnErr result (Keeps (K.holds keeper.old) (K.holds keeper.new)) }
     ensures left_ok { OnOk result (LeavesTaken (stored_batch changes.now) (K.holds keeper.old) (K.left keeper.new)) }
     ensures left_err { OnErr result (MayLeave (stored_batch changes.now) (K.holds keeper.old) (K.left keeper.old) (K.left keeper.new)) }
-    ensures told { K.tells keeper.new → K.tells keeper.old }
-    ensures cause { IsErrOf result fault.Store → HasRisen (K.faults keeper.old) (K.faults keeper.new) }
-    ensures rises { K.faults keeper.old ≤ K.faults keeper.new }
+    ensures keeper { Continues K.tells K.faults keeper.old keeper.new (is_store_fault result) }
 {
     let batch = batch_of(alloc, changes)?;
     keeper.commit(alloc, &batch)?;

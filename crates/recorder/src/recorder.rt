@@ -1,14 +1,12 @@
 //! The farm with its keeper.
 
-ghost use Rattle.std.specs.Prelude.{◌≡◌, ◌≤◌};
-ghost use Rattle.std.specs.Result.{IsErrOf};
+ghost use Rattle.std.specs.Prelude.{◌≡◌};
 ghost use Rattle.farm_types.specs.Formed.{IsFormed};
-ghost use Rattle.farm_types.specs.Step.{HasCondition};
-ghost use Rattle.farm_keeper.specs.Faults.{HasRisen};
+ghost use Rattle.farm_types.specs.Step.{HasCondition, after};
+ghost use Rattle.farm_keeper.specs.Keeping.{Continues};
 ghost use Rattle.farm_core.specs.Change.{Prepares, after_change};
-ghost use Rattle.recorder.specs.declared.refusal.CommitRefusal.TheVariants as refusal;
-ghost use Rattle.recorder.specs.declared.refusal.RecordFault.TheVariants as fault;
-ghost use Rattle.recorder.specs.Recording.{RecordsAnswered, Books, Commits, HasRecorded, IsOfEntry, Records};
+ghost use Rattle.recorder.specs.Faults.{is_store_fault, is_store_refusal};
+ghost use Rattle.recorder.specs.Recording.{RecordsAnswered, Books, Commits, HasRecorded, IsOfEntry, IsUnstoredBooking, IsUnstored, HasSameRows, Records};
 
 use crate::keeping::{book_in, record_in};
 use crate::refusal::{CommitRefusal, RecordFault};
@@ -79,9 +77,8 @@ impl<K: Keeper> PlainRecorder<K> {
     ) -> Result<(), RecordFault>
         requires { IsOfEntry self.old.farm entry.now change }
         ensures farm { Records self.old.farm (after_change self.old.farm change) result self.new.farm }
-        ensures told { K.tells self.new.keeper → K.tells self.old.keeper }
-        ensures cause { IsErrOf result fault.Store → HasRisen (K.faults self.old.keeper) (K.faults self.new.keeper) }
-        ensures rises { K.faults self.old.keeper ≤ K.faults self.new.keeper }
+        ensures same { HasSameRows self.old.farm (after self.old.farm entry.now) → self.new.keeper ≡ self.old.keeper }
+        ensures keeper { Continues K.tells K.faults self.old.keeper self.new.keeper (is_store_fault result) }
     {
         record_in(alloc, &mut self.farm, &mut self.keeper, entry, change)
     }
@@ -92,9 +89,8 @@ impl<K: Keeper> PlainRecorder<K> {
         requires condition { HasCondition self.old.farm entry.now.act }
         requires formed { IsFormed entry.now }
         ensures farm { Commits self.old.farm entry.now result self.new.farm }
-        ensures told { K.tells self.new.keeper → K.tells self.old.keeper }
-        ensures cause { IsErrOf result refusal.Store → HasRisen (K.faults self.old.keeper) (K.faults self.new.keeper) }
-        ensures rises { K.faults self.old.keeper ≤ K.faults self.new.keeper }
+        ensures same { IsUnstored self.old.farm entry.now → self.new.keeper ≡ self.old.keeper }
+        ensures keeper { Continues K.tells K.faults self.old.keeper self.new.keeper (is_store_refusal result) }
     {
         let change = self.prepare(alloc, entry)?;
         self.record_answered(alloc, entry, change)
@@ -109,9 +105,8 @@ impl<K: Keeper> PlainRecorder<K> {
     ) -> Result<Answer, CommitRefusal>
         requires { IsOfEntry self.old.farm entry.now change }
         ensures farm { RecordsAnswered self.old.farm (after_change self.old.farm change) change.act.answer result self.new.farm }
-        ensures told { K.tells self.new.keeper → K.tells self.old.keeper }
-        ensures cause { IsErrOf result refusal.Store → HasRisen (K.faults self.old.keeper) (K.faults self.new.keeper) }
-        ensures rises { K.faults self.old.keeper ≤ K.faults self.new.keeper }
+        ensures same { HasSameRows self.old.farm (after self.old.farm entry.now) → self.new.keeper ≡ self.old.keeper }
+        ensures keeper { Continues K.tells K.faults self.old.keeper self.new.keeper (is_store_refusal result) }
     {
         let answer = change.answer();
         self.record(alloc, entry, change)?;
@@ -127,9 +122,8 @@ impl<K: Keeper> PlainRecorder<K> {
         moment: u64,
     ) -> Result<bool, RecordFault>
         ensures farm { Books self.old.farm slot host moment result self.new.farm }
-        ensures told { K.tells self.new.keeper → K.tells self.old.keeper }
-        ensures cause { IsErrOf result fault.Store → HasRisen (K.faults self.old.keeper) (K.faults self.new.keeper) }
-        ensures rises { K.faults self.old.keeper ≤ K.faults self.new.keeper }
+        ensures same { IsUnstoredBooking self.old.farm slot host moment → self.new.keeper ≡ self.old.keeper }
+        ensures keeper { Continues K.tells K.faults self.old.keeper self.new.keeper (is_store_fault result) }
     {
         book_in(alloc, &mut self.farm, &mut self.keeper, slot, host, moment)
     }

@@ -1,5 +1,5 @@
 -- One exchange, by what the reader gave and how much of the reply was written.
-use Rattle.std.proofs.Common.{◌≡◌, ℕ, ◌<◌, ◌≤◌, ◌^◌, true, false, true≢false, List, [], ◌∷◌, ◌++◌, length, take, drop, refl, sym, ◌∙◌, subst, Option, Result, Ok, arith, append-nil, length-drop, take-append-drop}
+use Rattle.std.proofs.Common.{◌≡◌, ℕ, ◌<◌, ◌≤◌, ◌^◌, Bool, true, false, List, [], ◌∷◌, ◌++◌, length, take, drop, refl, sym, ◌∙◌, subst, Option, Result, Ok, arith, append-nil, length-drop, take-append-drop}
 use Rattle.cue_io.specs.declared.line.Line.{Line}
 use Rattle.cue_io.specs.declared.line.LineFault.{LineFault}
 use Rattle.cue_io.specs.Input.{IsAtEnd}
@@ -7,48 +7,47 @@ use Rattle.cue_io.specs.Reader.{Held, Given, Whole, Long, Goes, IsPending, given
 use Rattle.farm_types.specs.Farm.{Farm}
 use Rattle.farm_lines.specs.declared.reply.Reply.TheVariants as reply
 use Rattle.farm_lines.specs.Reply.{reply_text}
-use Rattle.farm_lines.specs.Transcript.{Answered, Mark, Plain}
+use Rattle.farm_lines.specs.Transcript.{Answered, Mark, Plain, answer_to, is_store_mark}
 use Rattle.session.specs.declared.exchanged.Exchanged.{Exchanged}
 use Rattle.session.specs.declared.exchanged.Exchanged.TheVariants as exchanged
-use Rattle.line_answers.specs.LineAnswers.{AnswersLine, HasCause, IsAnswer}
+use Rattle.line_answers.specs.LineAnswers.{AnswersLine, IsAnswer}
 use Rattle.line_answers.specs.Outcomes.{IsAnsweredFully}
-use Rattle.session.specs.Sessions.{Answers, Sends, Exchanges, IsExchange, IsStep, MayStand}
+use Rattle.recorder.specs.Recording.{ChangesNone}
+use Rattle.session.specs.Sessions.{Answers, Sends, Exchanges, IsExchange, IsStep, MayStand, StaysAt}
 
 -- a front of the text was written
 pub sent_part : (text : List ℕ) (count : ℕ) → count < length text → Sends exchanged.Write text (take count text)
 sent_part text count short = (drop count text, omega (arith, length-drop count text), take-append-drop count text)
 
--- What was given was answered, by a mark that may stand there and has its cause.
-pub record IsGivenAnswer (given : Given) (before after : Farm) (moment : ℕ) (text : List ℕ) (faults faults_now : ℕ) : Type 0 where
+-- What was given was answered, by a mark that may stand there, and the keeper went on as the mark says.
+pub record IsGivenAnswer (given : Given) (before after : Farm) (moment : ℕ) (text : List ℕ) (goes : Bool → Type 0) (same : Type 0) : Type 0 where
   pub mark : Mark
   pub answers : Answers given before moment mark after text
   pub may_stand : MayStand given before moment mark
-  pub cause : HasCause mark faults faults_now
-  pub rises : faults ≤ faults_now
+  pub keeper : goes (is_store_mark mark)
+  pub stays : StaysAt given before moment same
 
 -- a line that was given whole
-pub answers_whole : (line : List ℕ) (before after : Farm) (moment : ℕ) (text : List ℕ) (faults faults_now : ℕ) → AnswersLine before line moment after text faults faults_now
-    → faults ≤ faults_now
-    → IsGivenAnswer (Whole line) before after moment text faults faults_now
-answers_whole line before after moment text faults faults_now answer rises =
-    record { mark = answer.mark; answers = answer.answer; may_stand = answer.may_stand; cause = answer.cause; rises = rises }
+pub answers_whole : (line : List ℕ) (before after : Farm) (moment : ℕ) (text : List ℕ) (goes : Bool → Type 0) (same : Type 0) → AnswersLine before line moment after text goes
+    → (ChangesNone before (answer_to before line moment Plain).entries → same) → IsGivenAnswer (Whole line) before after moment text goes same
+answers_whole line before after moment text goes same answer stays =
+    record { mark = answer.mark; answers = answer.answer; may_stand = answer.may_stand; keeper = answer.keeper; stays = stays }
 
 -- any line that is too long
-pub answers_long : (f : Farm) (moment : ℕ) (text : List ℕ) (faults : ℕ) → ((line : List ℕ) → IsAnsweredFully f line moment) → text ≡ reply_text reply.TooLong ++ 10 ∷ []
-    → IsGivenAnswer Long f f moment text faults faults
-answers_long f moment text faults law e = record {
+pub answers_long : (f : Farm) (moment : ℕ) (text : List ℕ) (goes : Bool → Type 0) (same : Type 0) → ((line : List ℕ) → IsAnsweredFully f line moment)
+    → text ≡ reply_text reply.TooLong ++ 10 ∷ [] → goes false → same → IsGivenAnswer Long f f moment text goes same
+answers_long f moment text goes same law e keeper still = record {
   mark = Plain;
   answers = λ line long. subst (λ (a : Answered). IsAnswer f a f text) (sym ((law line).long long Plain)) (record { farm = refl; text = e });
   may_stand = refl;
-  cause = λ is. absurd (true≢false (sym is));
-  rises = omega arith;
+  keeper = keeper;
+  stays = still;
 }
 
 -- what was given is answered, and the reply's text sent
-exchange_of : (given : Given) (before after : Farm) (moment : ℕ) (text wrote unwritten : List ℕ) (faults faults_now : ℕ)
-    → moment < 2 ^ 64 → IsGivenAnswer given before after moment text faults faults_now → wrote ++ unwritten ≡ text → IsExchange given before after wrote unwritten
-    (moment ∷ []) faults faults_now
-exchange_of given before after moment text wrote unwritten faults faults_now low answer sent = record {
+exchange_of : (given : Given) (before after : Farm) (moment : ℕ) (text wrote unwritten : List ℕ) (goes : Bool → Type 0) (same : Type 0) → moment < 2 ^ 64
+    → IsGivenAnswer given before after moment text goes same → wrote ++ unwritten ≡ text → IsExchange given before after wrote unwritten (moment ∷ []) goes same
+exchange_of given before after moment text wrote unwritten goes same low answer sent = record {
   moment = moment;
   mark = answer.mark;
   reply = text;
@@ -56,31 +55,31 @@ exchange_of given before after moment text wrote unwritten faults faults_now low
   read = refl;
   answers = answer.answers;
   may_stand = answer.may_stand;
-  cause = answer.cause;
-  rises = answer.rises;
+  keeper = answer.keeper;
+  stays = answer.stays;
   written = sent;
 }
 
-exchange_answered : (result : Exchanged) (answer : Result Given LineFault) (given : Given) (before after : Farm) (moment : ℕ) (text wrote : List ℕ) (faults faults_now : ℕ)
-    → moment < 2 ^ 64 → answer ≡ Ok given → IsGivenAnswer given before after moment text faults faults_now → Sends result text wrote
-    → Exchanges result answer before after wrote (moment ∷ []) faults faults_now
-exchange_answered exchanged.Went answer given before after moment text wrote faults faults_now low is answers sent =
-    (given, is, exchange_of given before after moment text wrote [] faults faults_now low answers (append-nil wrote ∙ sent))
-exchange_answered exchanged.Write answer given before after moment text wrote faults faults_now low is answers sent =
-    (given, sent.0, is, sent.1, exchange_of given before after moment text wrote sent.0 faults faults_now low answers sent.2)
-exchange_answered exchanged.End answer given before after moment text wrote faults faults_now low is answers sent = absurd sent
-exchange_answered exchanged.Read answer given before after moment text wrote faults faults_now low is answers sent = absurd sent
-exchange_answered exchanged.Spent answer given before after moment text wrote faults faults_now low is answers sent = absurd sent
+exchange_answered : (result : Exchanged) (answer : Result Given LineFault) (given : Given) (before after : Farm) (moment : ℕ) (text wrote : List ℕ) (goes : Bool → Type 0) (same : Type 0)
+    → moment < 2 ^ 64 → answer ≡ Ok given → IsGivenAnswer given before after moment text goes same → Sends result text wrote
+    → Exchanges result answer before after wrote (moment ∷ []) goes same
+exchange_answered exchanged.Went answer given before after moment text wrote goes same low is answers sent =
+    (given, is, exchange_of given before after moment text wrote [] goes same low answers (append-nil wrote ∙ sent))
+exchange_answered exchanged.Write answer given before after moment text wrote goes same low is answers sent =
+    (given, sent.0, is, sent.1, exchange_of given before after moment text wrote sent.0 goes same low answers sent.2)
+exchange_answered exchanged.End answer given before after moment text wrote goes same low is answers sent = absurd sent
+exchange_answered exchanged.Read answer given before after moment text wrote goes same low is answers sent = absurd sent
+exchange_answered exchanged.Spent answer given before after moment text wrote goes same low is answers sent = absurd sent
 
 pub step_answered : (result : Exchanged) (returned : Result Line LineFault) (given : Given) (old new : Held) (left : Option (List ℕ)) (before after : Farm)
-    (took : List ℕ) (moment : ℕ) (text wrote : List ℕ) (faults faults_now : ℕ) → moment < 2 ^ 64 → given_by returned ≡ Ok given → Goes old took (given_by returned) new
-    → (old.ended ≡ false → new.ended ≡ true → IsAtEnd left) → IsGivenAnswer given before after moment text faults faults_now → Sends result text wrote
-    → IsStep result old new left before after took wrote (moment ∷ []) faults faults_now
-step_answered result returned given old new left before after took moment text wrote faults faults_now low is goes end answers sent = record {
+    (took : List ℕ) (moment : ℕ) (text wrote : List ℕ) (goes : Bool → Type 0) (same : Type 0) → moment < 2 ^ 64 → given_by returned ≡ Ok given → Goes old took (given_by returned) new
+    → (old.ended ≡ false → new.ended ≡ true → IsAtEnd left) → IsGivenAnswer given before after moment text goes same → Sends result text wrote
+    → IsStep result old new left before after took wrote (moment ∷ []) goes same
+step_answered result returned given old new left before after took moment text wrote goes same low is moves end answers sent = record {
   answer = given_by returned;
-  goes = goes;
+  moves = moves;
   at_end = end;
-  exchanges = exchange_answered result (given_by returned) given before after moment text wrote faults faults_now low is answers sent;
+  exchanges = exchange_answered result (given_by returned) given before after moment text wrote goes same low is answers sent;
 }
 
 -- a line that is given whole is within the limit

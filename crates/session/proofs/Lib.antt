@@ -1,4 +1,5 @@
 mod ExchangeLemmas
+mod KeeperLemmas
 mod LoadLemmas
 pub mod NewKeepers
 mod OpenedLegal
@@ -7,3 +8,4 @@ mod OpenedStore
 mod OpenedWays
 mod RunLemmas
 mod SessionLemmas
+mod StopLemmas

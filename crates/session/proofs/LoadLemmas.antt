@@ -1,16 +1,18 @@
 -- What a call of a load did.
-use Rattle.std.proofs.Common.{◌≡◌, ◌≤◌, ◌<◌, ◌⊎◌, ℕ, List, [], ◌∷◌, length, take, drop, length-drop, take-append-drop, inl, inr, refl, sym, ◌∙◌, subst, Option, Some, true≢false, ap, arith}
+use Rattle.std.proofs.Common.{◌≡◌, ◌<◌, ◌⊎◌, ℕ, List, [], ◌∷◌, length, take, drop, length-drop, take-append-drop, inl, inr, refl, sym, ◌∙◌, subst, Option, None, Some, true≢false, ap, arith}
 use Rattle.cue_io.specs.Faults.{HasRisen}
 use Rattle.cue_io.specs.Readings.{Tells, Tells-append}
+use Rattle.command_line.specs.declared.status.Status.{Status}
+use Rattle.command_line.specs.declared.status.Status.TheVariants as exit
 use Rattle.farm_types.specs.declared.entry.Entry.{Entry}
 use Rattle.farm_types.specs.Farm.{Farm}
 use Rattle.farm_types.specs.Kept.{IsKeptFarm, KeepsRows}
 use Rattle.farm_types.specs.Run.{IsSound, HasItsHosts, IsLegal, IsSafe}
 use Rattle.farm_law.proofs.KeptChanges.{kept_hosts}
-use Rattle.farm_lines.specs.Transcript.{Mark}
+use Rattle.farm_lines.specs.Transcript.{Exchange, Mark}
 use Rattle.farm_load.specs.declared.load_end.LoadEnd.{LoadEnd}
 use Rattle.farm_load.specs.declared.load_end.LoadEnd.TheVariants as load_end
-use Rattle.farm_load.specs.Loads.{AreMarks, HaveCause, load_run, load_start}
+use Rattle.farm_load.specs.Loads.{AreMarks, load_run, load_start}
 use Rattle.farm_load.specs.Summaries.{RunsLoad}
 use Rattle.recovery.specs.declared.fault.RecoverFault.{RecoverFault}
 use Rattle.session.specs.Loads.{AnswersLoad, TellsEnd, TellsSummary}
@@ -21,13 +23,13 @@ use Rattle.session.specs.Words.{Load, WordForm, form_of, is_load, opened_farm}
 -- ---- the run, and what is told of it
 
 -- a front of the summary was written
-pub summary_part : (text line : List ℕ) (count : ℕ) → text ≡ line → count < length text → TellsSummary line 5 (take count text)
+pub summary_part : (text line : List ℕ) (count : ℕ) → text ≡ line → count < length text → TellsSummary line exit.WriteFailed (take count text)
 summary_part text line count is short =
     let part : List ℕ = take count text in
-    subst (λ (whole : List ℕ). TellsSummary whole 5 part) is (inr (inl (refl, drop count text, omega (arith, length-drop count text), take-append-drop count text)))
+    subst (λ (whole : List ℕ). TellsSummary whole exit.WriteFailed part) is (inr (inl (refl, drop count text, omega (arith, length-drop count text), take-append-drop count text)))
 
 -- a load over a farm that keeps what every farm keeps is legal and safe
-pub answers_load : (n status : ℕ) (first last : Farm) (ended : LoadEnd) (wrote : List ℕ) (faults faults_now : ℕ) (holds : Farm → Type 0) → IsKeptFarm first
+pub answers_load : (n : ℕ) (status : Status) (first last : Farm) (ended : LoadEnd) (wrote : List ℕ) (faults faults_now : ℕ) (holds : Farm → Type 0) → IsKeptFarm first
     → ((n : ℕ) (f : Farm) (marks : List Mark) → KeepsRows f → AreMarks n (load_start f) marks → IsLegal f (load_run n f marks).recorded)
     → ((f : Farm) (es : List Entry) → IsSound f → HasItsHosts f → IsLegal f es → IsSafe f es)
     → RunsLoad n first ended last faults faults_now → TellsEnd ended status wrote → holds last → AnswersLoad n first status wrote faults faults_now holds
@@ -48,47 +50,39 @@ answers_load n status first last ended wrote faults faults_now holds kept legal_
 -- ---- how it ends
 
 -- a summary whose write didn't fail ends well
-complete_summary : (text : List ℕ) (status : ℕ) (call : Call) (WriteFails : Type 0) → call.taken ≡ [] → (status ≡ 5 → WriteFails) → (WriteFails → ⊥) → TellsSummary text status call.written
-    → EndsEarly status call ⊎ (status ≡ 8)
+complete_summary : (text : List ℕ) (status : Status) (call : Call) (WriteFails : Type 0) → call.taken ≡ [] → (status ≡ exit.WriteFailed → WriteFails) → (WriteFails → ⊥) → TellsSummary text status call.written
+    → EndsEarly status call ⊎ (status ≡ exit.Spent)
 complete_summary text status call WriteFails none write unwritten (inl all) = inl (inl all.0)
 complete_summary text status call WriteFails none write unwritten (inr (inl part)) = absurd (unwritten (write part.0))
 complete_summary text status call WriteFails none write unwritten (inr (inr memory)) = inl (inr (memory.0, none, memory.1))
 
-complete_load : (ended : LoadEnd) (status : ℕ) (call : Call) (WriteFails : Type 0) → call.taken ≡ [] → (status ≡ 5 → WriteFails) → (WriteFails → ⊥) → TellsEnd ended status call.written
-    → EndsEarly status call ⊎ (status ≡ 8)
+complete_load : (ended : LoadEnd) (status : Status) (call : Call) (WriteFails : Type 0) → call.taken ≡ [] → (status ≡ exit.WriteFailed → WriteFails) → (WriteFails → ⊥) → TellsEnd ended status call.written
+    → EndsEarly status call ⊎ (status ≡ exit.Spent)
 complete_load (load_end.Finished summary) status call WriteFails none write unwritten told = complete_summary _ status call WriteFails none write unwritten told
 complete_load load_end.Spent status call WriteFails none write unwritten told = inr told.0
 complete_load load_end.NoMemory status call WriteFails none write unwritten told = inl (inr (told.0, none, told.1))
 
 -- ---- the call
 
--- the causes, counted from before the opening
-cause_earlier : (marks : List Mark) (old mid new : ℕ) → old ≤ mid → HaveCause marks mid new → HaveCause marks old new
-cause_earlier marks old mid new low (inl each) = inl (omega arith)
-cause_earlier marks old mid new low (inr full) = inr full
+-- what ends it well, by the words
+abbrev EndsWellBy : Option WordForm → Status → Call → Type 0
+EndsWellBy None status call = Unit {0}
+EndsWellBy (Some form) status call = EndsWell form status call
 
-answered_earlier : (n : ℕ) (first : Farm) (status : ℕ) (wrote : List ℕ) (old mid new : ℕ) (holds : Farm → Type 0) → old ≤ mid → AnswersLoad n first status wrote mid new holds
+-- the count is the same before the opening
+answered_earlier : (n : ℕ) (first : Farm) (status : Status) (wrote : List ℕ) (old mid new : ℕ) (holds : Farm → Type 0) → mid ≡ old → AnswersLoad n first status wrote mid new holds
     → AnswersLoad n first status wrote old new holds
-answered_earlier n first status wrote old mid new holds low answered = record {
-  marks = answered.marks;
-  ended = answered.ended;
-  are_marks = answered.are_marks;
-  ends = answered.ends;
-  told = answered.told;
-  causes = cause_earlier answered.marks old mid new low answered.causes;
-  legal = answered.legal;
-  safe = answered.safe;
-  held = answered.held;
-}
+answered_earlier n first status wrote old mid new holds same answered = subst (λ (count : ℕ). AnswersLoad n first status wrote count new holds) same answered
 
 -- a load over a farm that was opened
-pub called_load : (words : List (List ℕ)) (n : ℕ) (status : ℕ) (opened : ℕ) (farm : Farm) (call : Call) (before after : Streams) (mid : Option (List ℕ)) (k : ℕ)
-    (says : Farm → Type 0) (bad : RecoverFault → Type 0) (untouched : Type 0) (holds : Farm → Type 0)
-    → form_of words ≡ Some (Load n) → IsOpened says (Load n) opened farm → Tells before.readings mid (opened ∷ []) → before.store_faults ≤ k
-    → AnswersLoadCall n status farm (streams before.left before.read_faults before.written before.write_faults mid k) after call holds
-    → (status ≡ 5 → HasRisen before.write_faults after.write_faults)
-    → IsCall words status before after (record { taken = call.taken; written = call.written; readings = opened ∷ call.readings; exchanges = call.exchanges }) says bad untouched holds
-called_load words n status opened farm call before after mid k says bad untouched holds formed opening reads rises over write =
+pub called_load : (words : List (List ℕ)) (n : ℕ) (status : Status) (opened : ℕ) (farm : Farm) (call : Call) (before after : Streams) (mid : Option (List ℕ)) (k : ℕ)
+    (says : WordForm → Farm → Type 0) (bad : WordForm → RecoverFault → Type 0) (same untouched : Type 0) (goes_on : Farm → List Exchange → Type 0) (holds : Farm → Type 0)
+    → form_of words ≡ Some (Load n) → IsOpened (says (Load n)) (Load n) opened farm → Tells before.readings mid (opened ∷ []) → k ≡ before.store_faults
+    → AnswersLoadCall n status farm (streams before.unread before.read_faults before.written before.write_faults mid k) after call holds
+    → (status ≡ exit.WriteFailed → HasRisen before.write_faults after.write_faults)
+    → IsCall words status before after (record { taken = call.taken; written = call.written; readings = opened ∷ call.readings; exchanges = call.exchanges }) says bad same untouched
+    goes_on holds
+called_load words n status opened farm call before after mid k says bad same untouched goes_on holds formed opening reads was over write =
     let first : Farm = opened_farm (Load n) opening.first opened in
     let now : Call = record { taken = call.taken; written = call.written; readings = opened ∷ call.readings; exchanges = call.exchanges } in
     let answered : AnswersLoad n first status call.written k after.store_faults holds
@@ -99,7 +93,7 @@ called_load words n status opened farm call before after mid k says bad untouche
         written = over.moved.written;
         readings = Tells-append before.readings mid after.readings (opened ∷ []) call.readings reads over.moved.readings;
       };
-      session = inr (inr (inr (record {
+      session = inr (inr (inr (inr (record {
         n = n;
         reading = opened;
         first = opening.first;
@@ -109,9 +103,10 @@ called_load words n status opened farm call before after mid k says bad untouche
         none_taken = over.none_taken;
         no_lines = over.no_lines;
         opening_legal = opening.legal;
-        answered = answered_earlier n first status call.written before.store_faults k after.store_faults holds rises answered;
-      })));
+        answered = answered_earlier n first status call.written before.store_faults k after.store_faults holds was answered;
+      }))));
       spent = λ lines. absurd (true≢false (sym (ap is_load formed) ∙ lines));
-      complete = λ valid right unfailed unread unwritten few.
-          subst (λ (form : Option WordForm). EndsWell form status now) (sym formed) (complete_load answered.ended status now _ over.none_taken write unwritten answered.told);
+      complete = λ other said right unfailed unread unwritten few.
+          subst (λ (form : Option WordForm). EndsWellBy form status now) said
+          (subst (λ (form : Option WordForm). EndsWellBy form status now) (sym formed) (complete_load answered.ended status now _ over.none_taken write unwritten answered.told));
     }

@@ -1,5 +1,5 @@
 -- Entries that are recorded in turn, and what a farm's opening leaves.
-use Rattle.std.proofs.Common.{◌≡◌, ◌≤◌, ℕ, zero, suc, refl, sym, ap, subst, ◌∙◌, List, [], ◌∷◌, take, inl, inr, arith, Result, Ok, Err, IsErrAnd}
+use Rattle.std.proofs.Common.{◌≡◌, ℕ, zero, suc, refl, sym, ap, subst, ◌∙◌, List, [], ◌∷◌, take, Result, Ok, Err, IsErrAnd}
 use Rattle.std.proofs.lemmas.Result.{err_from_is_err_and}
 use Rattle.farm_types.specs.declared.entry.Entry.{Entry}
 use Rattle.farm_types.specs.Farm.{Farm}
@@ -7,16 +7,9 @@ use Rattle.farm_types.specs.Run.{IsLegal, run_of}
 use Rattle.farm_types.specs.Step.{after}
 use Rattle.farm_gen.specs.Load.{load_entries}
 use Rattle.farm_law.specs.DemoRun.{demo_entries}
-use Rattle.farm_keeper.specs.Faults.{HasRisen}
 use Rattle.recorder.specs.declared.refusal.RecordFault.{RecordFault}
 use Rattle.session.specs.Opening.{GoesThrough}
 use Rattle.session.specs.Words.{WordForm, Demo, Load, Script, opened_at, opened_entry, opening_entries}
-
--- ---- counts of faults
-
-pub risen_after : (old mid new : ℕ) → old ≤ mid → HasRisen mid new → HasRisen old new
-risen_after old mid new before (inl rose) = inl (omega (arith, before, rose))
-risen_after old mid new before (inr last) = inr last
 
 -- ---- entries in turn
 

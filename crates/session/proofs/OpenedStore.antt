@@ -1,22 +1,21 @@
 -- What a keeper has, of a farm that its rows say, and which farm they say.
-use Rattle.std.proofs.Common.{◌≡◌, refl, sym, ap, subst, ◌∙◌, List, [], map, inl, inr, arith, Result, Ok}
+use Rattle.std.proofs.Common.{◌≡◌, refl, sym, ap, subst, ◌∙◌, List, [], map, inl, inr, arith, Result}
 use Rattle.std.specs.FinMap.{empty}
 use Rattle.std.specs.List.{Any}
-use Rattle.std.specs.List.Sorted.{IsStrictlySortedBy}
 use Rattle.farm_types.specs.Farm.{Farm, empty_farm}
 use Rattle.farm_rows.specs.Rows.{rows_of}
 use Rattle.farm_keeper.specs.declared.row.Batch.{Batch}
 use Rattle.farm_keeper.specs.declared.row.Row.{Row}
-use Rattle.farm_keeper.specs.Keeping.{HasKept, Keeps, MayRemain}
-use Rattle.farm_keeper.specs.Rows.{Lists, Rows, key_cmp, rows_from}
+use Rattle.farm_keeper.specs.Keeping.{HasKept, Keeps, LeavesSome, MayRemain}
+use Rattle.farm_keeper.specs.Rows.{Lists, Rows, rows_from}
 use Rattle.farm_keeper.specs.Rows as batched
 use Rattle.farm_keeper.proofs.KeepingLaws.{HasKept-loaded}
-use Rattle.farm_keeper.proofs.RowLaws.{Lists-from, Lists-only, Lists-sorted}
+use Rattle.farm_keeper.proofs.RowLaws.{Lists-from, Lists-only}
 use Rattle.recorder.specs.Recording.{HasRecorded}
 use Rattle.recovery.specs.Recovered.{recovered, spelled_row}
 use Rattle.recovery.specs.declared.fault.RecoverFault.{RecoverFault}
 use Rattle.store_law.specs.Stored.{stored}
-use Rattle.session.specs.Opening.{MayOpen, Says}
+use Rattle.session.specs.Opening.{BeginsWith, MayOpen}
 use Rattle.session.specs.Words.{WordForm, Demo, IsScript, IsStated, Load, Script}
 
 -- ---- what a keeper has
@@ -44,24 +43,11 @@ stored_empty = refl
 
 -- ---- which farm its rows say
 
-none_sorted : IsStrictlySortedBy key_cmp []
-unfolding IsStrictlySortedBy
-none_sorted = tt
-
-no_list : (list : List Row) → Lists list empty → list ≡ []
-no_list list lists = Lists-only list [] empty lists (Lists-sorted [] none_sorted)
-
 -- the rows that were held are this list
 pub says_list : (tells : Type 0) (held : Rows → Type 0) (list : List Row) (r : Result Farm RecoverFault) → (tells → (rows : Rows) → held rows → Lists list rows)
     → recovered list ≡ r → tells → (rows : Rows) → held rows → (other : List Row) → Lists other rows → recovered other ≡ r
 says_list tells held list r listed is told rows there other lists =
     subst (λ (xs : List Row). recovered xs ≡ r) (Lists-only list other rows (listed told rows there) lists) is
-
--- none were held
-pub says_empty : (tells : Type 0) (held : Rows → Type 0) → (tells → (rows : Rows) → held rows → rows ≡ empty) → recovered [] ≡ Ok empty_farm → Says tells held empty_farm
-says_empty tells held none is told rows there list lists =
-    let listed : list ≡ [] = no_list list (subst (Lists list) (none told rows there) lists) in
-    subst (λ (xs : List Row). recovered xs ≡ Ok empty_farm) (sym listed) is
 
 -- ---- before the opening
 
@@ -74,10 +60,11 @@ stated_empty (Script store) held left stated may = absurd stated
 pub made_recorded : (form : WordForm) (held left : Rows → Type 0) (f : Farm) → f ≡ empty_farm → IsStated form → MayOpen form held left → HasRecorded held left f
 made_recorded form held left f is stated may = recorded_of held left empty f (ap stored is ∙ stored_empty) (stated_empty form held left stated may).0
 
-pub made_says : (form : WordForm) (tells : Type 0) (held left : Rows → Type 0) (f : Farm) → f ≡ empty_farm → IsStated form → (tells → MayOpen form held left)
-    → recovered [] ≡ Ok empty_farm → Says tells held f
-made_says form tells held left f is stated may none =
-    subst (Says tells held) (sym is) (says_empty tells held (λ told. (stated_empty form held left stated (may told)).1) none)
+-- and so with the empty farm, whatever its keeper tells
+pub stated_begins : (form : WordForm) (tells : Type 0) (held : Rows → Type 0) (f : Farm) → IsStated form → f ≡ empty_farm → BeginsWith form tells held f
+stated_begins Demo tells held f stated is = is
+stated_begins (Script store) tells held f stated is = absurd stated
+stated_begins (Load n) tells held f stated is = is
 
 script_kept : (form : WordForm) (held left : Rows → Type 0) → IsScript form → MayOpen form held left → (rows : Rows) × HasKept held left rows []
 script_kept Demo held left script may = absurd script
@@ -86,8 +73,8 @@ script_kept (Load n) held left script may = absurd script
 
 -- the farm that was recovered of the rows that were loaded is the one that the keeper has
 pub loaded_recorded : (form : WordForm) (held left held' left' : Rows → Type 0) (list : List Row) (f : Farm) → IsScript form → MayOpen form held left
-    → ((rows : Rows) → held rows → Lists list rows) → Keeps held held' → Keeps left' left → map spelled_row (rows_of f) ≡ list → HasRecorded held' left' f
-loaded_recorded form held left held' left' list f script may listed keeps leaves is =
+    → ((rows : Rows) → held rows → Lists list rows) → Keeps held held' → Keeps left' left → LeavesSome left' → map spelled_row (rows_of f) ≡ list → HasRecorded held' left' f
+loaded_recorded form held left held' left' list f script may listed keeps leaves some is =
     let has = script_kept form held left script may in
-    let now : HasKept held' left' has.0 [] = HasKept-loaded held left held' left' has.0 [] has.1 keeps leaves in
+    let now : HasKept held' left' has.0 [] = HasKept-loaded held left held' left' has.0 [] has.1 keeps leaves some in
     recorded_of held' left' has.0 f (stored_of list has.0 f (listed has.0 has.1.held) is) now

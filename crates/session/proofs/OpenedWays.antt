@@ -1,13 +1,13 @@
 -- How a farm is opened: begun over a keeper that has it, or not.
-use Rattle.std.proofs.Common.{◌≡◌, ◌≤◌, ℕ, refl, sym, subst, List, inl, inr, arith, Result, Ok, Err}
+use Rattle.std.proofs.Common.{◌≡◌, ℕ, Bool, true, false, refl, sym, ap, subst, List, inl, inr, Result, Ok, Err, ◌∙◌}
 use Rattle.farm_types.specs.declared.entry.Entry.{Entry}
 use Rattle.farm_types.specs.Farm.{Farm}
 use Rattle.farm_types.specs.Run.{IsLegal}
 use Rattle.farm_keeper.specs.declared.fault.KeeperFault.{KeeperFault}
 use Rattle.farm_keeper.specs.declared.fault.KeeperFault.TheVariants as keeper_fault
 use Rattle.farm_keeper.specs.declared.row.Row.{Row}
-use Rattle.farm_keeper.specs.Faults.{HasRisen}
-use Rattle.farm_keeper.specs.Keeping.{Keeps}
+use Rattle.farm_keeper.specs.Faults.{HasRisen, incremented_if, is_failed}
+use Rattle.farm_keeper.specs.Keeping.{Continues, Keeps}
 use Rattle.farm_keeper.specs.Rows.{Lists, Rows}
 use Rattle.recorder.specs.Recording.{Recording}
 use Rattle.recovery.specs.declared.fault.RecoverFault.{RecoverFault}
@@ -17,46 +17,62 @@ use Rattle.session.specs.declared.opening.OpenFault.{OpenFault}
 use Rattle.session.specs.declared.opening.OpenFault.TheVariants as fault
 use Rattle.session.specs.declared.opening.Opening.{Opening}
 use Rattle.session.specs.declared.opening.Opening.TheVariants as opening
-use Rattle.session.specs.Opening.{Begins, HasFailed, HasRecovered, HoldsFarm, IsLoadFault, IsLoaded, IsOpenFault, IsPartOpened, IsUntouched, Opens, Says, SaysBad, of_keeper, of_recovery}
-use Rattle.session.specs.Words.{WordForm, opening_entries}
-use Rattle.session.proofs.OpenedRun.{risen_after}
+use Rattle.session.specs.Opening.{Begins, BeginsBad, BeginsWith, HasFailed, HasRecovered, HoldsFarm, IsLoadFault, IsLoaded, IsPartOpened, IsRecordFault, IsUntouched, Opens, SaysFault, is_of_store, is_store_failure, of_keeper, of_recovery}
+use Rattle.session.specs.Words.{WordForm, Demo, IsScript, Load, Script, opening_entries}
+use Rattle.farm_keeper.proofs.KeepingLaws.{Continues-same, Continues-then, HasRisen-incremented}
 use Rattle.session.proofs.OpenedStore.{says_list}
 
 -- a keeper on which nothing was done
 pub untouched : (held left : Rows → Type 0) → IsUntouched held left held left
 untouched held left = record { held_still = λ rows there. there; left_still = λ rows there. there }
 
+-- the count of a keeper went up where its store failed
+pub failed_risen : {K : Type 0} (tells : K → Type 0) (faults : K → ℕ) (before now : K) (why : OpenFault) → Continues tells faults before now (is_of_store why)
+    → is_of_store why ≡ true → HasRisen (faults before) (faults now)
+failed_risen tells faults before now why goes is =
+    HasRisen-incremented (faults before) (faults now) (goes.counted ∙ ap (λ (failed : Bool). incremented_if failed (faults before)) is)
+
 -- ---- the recording of the opening
 
-part_failed : (bad : RecoverFault → Type 0) (untouched part risen after : Type 0) (why : OpenFault) → IsOpenFault why risen → (risen → after) → part → HasFailed why bad untouched part after
-part_failed bad untouched part risen after fault.Store is grows part_is = (grows is, inr part_is)
-part_failed bad untouched part risen after (fault.Bad why) is grows part_is = absurd is
-part_failed bad untouched part risen after fault.NoMemory is grows part_is = inr part_is
+part_failed : (bad : RecoverFault → Type 0) (untouched part : Type 0) (why : OpenFault) → IsRecordFault why → part → HasFailed why bad untouched part
+part_failed bad untouched part fault.Store is part_is = inr part_is
+part_failed bad untouched part (fault.Bad why) is part_is = absurd is
+part_failed bad untouched part fault.NoMemory is part_is = inr part_is
+
+-- where a keeper that tells now told before, what it held says the same
+begins_said : (form : WordForm) (told_then told_now : Type 0) (held : Rows → Type 0) (f : Farm) → (told_now → told_then) → BeginsWith form told_then held f
+    → BeginsWith form told_now held f
+begins_said Demo told_then told_now held f told is = is
+begins_said (Script store) told_then told_now held f told says = λ tells. says (told tells)
+begins_said (Load n) told_then told_now held f told is = is
 
 begun_at : {K : Type 0} (tells : K → Type 0) (held left : K → Rows → Type 0) (faults : K → ℕ) (form : WordForm) (moment : ℕ) (old k : K) (first : Farm)
-    → Says (tells k) (held old) first → (tells k → tells old) → faults old ≤ faults k → IsLegal first (opening_entries form moment)
+    → BeginsWith form (tells k) (held old) first → Continues tells faults old k false → IsLegal first (opening_entries form moment)
     → (result : Opening K) → Begins tells held left faults form moment (record { farm = first; keeper = k }) result → Opens tells held left faults form moment old result
-begun_at tells held left faults form moment old k first says told rises legal (opening.Opened r) begins = (
-  record { first = first; said = λ now. says (begins.2 now); legal = legal; farm_is = begins.0 },
-  omega (arith, rises, begins.1),
-  λ now. told (begins.2 now),
+begun_at tells held left faults form moment old k first says goes legal (opening.Opened r) begins = (
+  record { first = first; said = begins_said form (tells k) (tells r.keeper) (held old) first begins.1.told says; legal = legal; farm_is = begins.0 },
+  Continues-then tells faults old k r.keeper false goes begins.1,
 )
-begun_at tells held left faults form moment old k first says told rises legal (opening.Failed now why) begins = (
-  part_failed (SaysBad (tells now) (held old)) (tells now → IsUntouched (held old) (left old) (held now) (left now))
-      (IsPartOpened (Says (tells now) (held old)) (HoldsFarm (tells now) (held now) (left now)) form moment)
-      (HasRisen (faults k) (faults now)) (HasRisen (faults old) (faults now)) why begins.1 (risen_after (faults old) (faults k) (faults now) rises)
-      (record { first = first; done = begins.0.0; said = λ is. says (begins.3 is); legal = legal; held = begins.0.1 }),
-  omega (arith, rises, begins.2),
-  λ is. told (begins.3 is),
+begun_at tells held left faults form moment old k first says goes legal (opening.Failed now why) begins = (
+  part_failed (BeginsBad form (tells now) (held old)) (tells now → IsUntouched (held old) (left old) (held now) (left now))
+      (IsPartOpened (BeginsWith form (tells now) (held old)) (HoldsFarm (tells now) (held now) (left now)) form moment) why begins.1
+      (record {
+        first = first;
+        done = begins.0.0;
+        said = begins_said form (tells k) (tells now) (held old) first begins.2.told says;
+        legal = legal;
+        held = begins.0.1;
+      }),
+  Continues-then tells faults old k now (is_of_store why) goes begins.2,
 )
 
--- Over a later keeper with the farm that the first one's rows say, the opening's recording opens that farm of the first one.
+-- Over a later keeper with the farm with which the words begin over the first one, the opening's recording opens that farm of the first one.
 pub begun_opens : {K : Type 0} (tells : K → Type 0) (held left : K → Rows → Type 0) (faults : K → ℕ) (form : WordForm) (moment : ℕ) (old k : K) (first : Farm)
-    → Says (tells k) (held old) first → (tells k → tells old) → faults old ≤ faults k → IsLegal first (opening_entries form moment)
+    → BeginsWith form (tells k) (held old) first → Continues tells faults old k false → IsLegal first (opening_entries form moment)
     → (r : Recording K) → r ≡ record { farm = first; keeper = k } → (result : Opening K) → Begins tells held left faults form moment r result
     → Opens tells held left faults form moment old result
-begun_opens {K = K} tells held left faults form moment old k first says told rises legal r is result begins =
-    begun_at tells held left faults form moment old k first says told rises legal result
+begun_opens {K = K} tells held left faults form moment old k first says goes legal r is result begins =
+    begun_at tells held left faults form moment old k first says goes legal result
     (subst (λ (x : Recording K). Begins tells held left faults form moment x result) is begins)
 
 -- what is legal from a farm is legal from the recorder's
@@ -68,44 +84,65 @@ begun_legal {K = K} first k es r is legal = subst (λ (x : Recording K). IsLegal
 -- no memory for a farm of no rows
 pub unmade_opens : {K : Type 0} (tells : K → Type 0) (held left : K → Rows → Type 0) (faults : K → ℕ) (form : WordForm) (moment : ℕ) (old : K)
     → Opens tells held left faults form moment old (opening.Failed old fault.NoMemory)
-unmade_opens tells held left faults form moment old = (inl (λ now. untouched (held old) (left old)), omega arith, λ now. now)
+unmade_opens tells held left faults form moment old = (inl (λ now. untouched (held old) (left old)), Continues-same tells faults old)
 
 -- what the rows say is known of a keeper that tells, by the list of them
-bad_loaded : (tells : Type 0) (held : Rows → Type 0) (list : List Row) (risen : Type 0) (why : OpenFault) → (tells → (rows : Rows) → held rows → Lists list rows)
-    → IsLoadFault why (λ bad. recovered list ≡ Err bad) ⊥ → IsLoadFault why (SaysBad tells held) risen
-bad_loaded tells held list risen fault.Store listed is = absurd is
-bad_loaded tells held list risen (fault.Bad why) listed is = (says_list tells held list (Err why) listed is.0, is.1)
-bad_loaded tells held list risen fault.NoMemory listed is = tt
+bad_loaded : (tells : Type 0) (held : Rows → Type 0) (list : List Row) (why : OpenFault) → (tells → (rows : Rows) → held rows → Lists list rows)
+    → IsLoadFault why (λ bad. recovered list ≡ Err bad) ⊥ → IsLoadFault why (SaysFault tells held) (Unit {0})
+bad_loaded tells held list fault.Store listed is = absurd is
+bad_loaded tells held list (fault.Bad why) listed is = (says_list tells held list (Err why) listed is.0, is.1)
+bad_loaded tells held list fault.NoMemory listed is = tt
 
-pub rows_loaded : (tells : Type 0) (held : Rows → Type 0) (list : List Row) (risen : Type 0) (r : Result Farm OpenFault) → (tells → (rows : Rows) → held rows → Lists list rows)
-    → HasRecovered (recovered list) r → IsLoaded tells held risen r
-rows_loaded tells held list risen (Ok f) listed is = (list, listed, is)
-rows_loaded tells held list risen (Err why) listed is = bad_loaded tells held list risen why listed is
+pub rows_loaded : (tells : Type 0) (held : Rows → Type 0) (list : List Row) (r : Result Farm OpenFault) → (tells → (rows : Rows) → held rows → Lists list rows)
+    → HasRecovered (recovered list) r → IsLoaded tells held r
+rows_loaded tells held list (Ok f) listed is = (list, listed, is)
+rows_loaded tells held list (Err why) listed is = bad_loaded tells held list why listed is
 
-pub not_loaded : (tells : Type 0) (held : Rows → Type 0) (risen : Type 0) (why : KeeperFault) → (why ≡ keeper_fault.Failed → risen)
-    → IsLoadFault (of_keeper why) (SaysBad tells held) risen
-not_loaded tells held risen keeper_fault.Failed cause = cause refl
-not_loaded tells held risen keeper_fault.NoMemory cause = tt
+-- rows were recovered, or not: no store failed
+recovered_by : (said : Result Farm RecoverFault) (why : OpenFault) → IsLoadFault why (λ bad. said ≡ Err bad) ⊥ → is_of_store why ≡ false
+recovered_by said fault.Store is = absurd is
+recovered_by said (fault.Bad why) is = refl
+recovered_by said fault.NoMemory is = refl
+
+pub no_store_failed : (said : Result Farm RecoverFault) (r : Result Farm OpenFault) → HasRecovered said r → is_store_failure r ≡ false
+no_store_failed said (Ok f) is = refl
+no_store_failed said (Err why) is = recovered_by said why is
+
+pub not_loaded : (tells : Type 0) (held : Rows → Type 0) (why : KeeperFault) → IsLoadFault (of_keeper why) (SaysFault tells held) (Unit {0})
+not_loaded tells held keeper_fault.Failed = tt
+not_loaded tells held keeper_fault.NoMemory = tt
+
+pub of_keeper_failed : (why : KeeperFault) → is_failed {T = List Row} (Err why) ≡ is_of_store (of_keeper why)
+of_keeper_failed keeper_fault.Failed = refl
+of_keeper_failed keeper_fault.NoMemory = refl
 
 pub not_recovered : (said : Result Farm RecoverFault) (why : RecoverFault) → IsRecovered {X = Farm} said (Err why) → IsLoadFault (of_recovery why) (λ bad. said ≡ Err bad) ⊥
 not_recovered said (recover_fault.BadBytes kind id) is = (is, tt)
 not_recovered said (recover_fault.BreaksFarm kind id) is = (is, tt)
 not_recovered said recover_fault.NoMemory is = tt
 
-load_failed : (bad : RecoverFault → Type 0) (untouched part risen : Type 0) (why : OpenFault) → IsLoadFault why bad risen → untouched → HasFailed why bad untouched part risen
-load_failed bad untouched part risen fault.Store is still = (is, inl still)
-load_failed bad untouched part risen (fault.Bad why) is still = (is.0, still, is.1)
-load_failed bad untouched part risen fault.NoMemory is still = inl still
+load_failed : (form : WordForm) (tells : Type 0) (held : Rows → Type 0) (untouched part : Type 0) (why : OpenFault) → IsScript form
+    → IsLoadFault why (SaysFault tells held) (Unit {0}) → untouched → HasFailed why (BeginsBad form tells held) untouched part
+load_failed form tells held untouched part fault.Store script is still = inl still
+load_failed (Script store) tells held untouched part (fault.Bad why) script is still = (is.0, still, is.1)
+load_failed Demo tells held untouched part (fault.Bad why) script is still = absurd script
+load_failed (Load n) tells held untouched part (fault.Bad why) script is still = absurd script
+load_failed form tells held untouched part fault.NoMemory script is still = inl still
 
 -- no farm came of the rows
 pub unloaded_opens : {K : Type 0} (tells : K → Type 0) (held left : K → Rows → Type 0) (faults : K → ℕ) (form : WordForm) (moment : ℕ) (old now : K) (why : OpenFault)
-    → IsLoadFault why (SaysBad (tells now) (held old)) (HasRisen (faults old) (faults now))
-    → (tells now → tells old) → Keeps (held old) (held now) → Keeps (left now) (left old) → faults old ≤ faults now
-    → Opens tells held left faults form moment old (opening.Failed now why)
-unloaded_opens tells held left faults form moment old now why is told keeps leaves rises = (
-  load_failed (SaysBad (tells now) (held old)) (tells now → IsUntouched (held old) (left old) (held now) (left now))
-      (IsPartOpened (Says (tells now) (held old)) (HoldsFarm (tells now) (held now) (left now)) form moment)
-      (HasRisen (faults old) (faults now)) why is (λ now_is. record { held_still = keeps; left_still = leaves }),
-  rises,
-  told,
+    → IsScript form → IsLoadFault why (SaysFault (tells now) (held old)) (Unit {0}) → Continues tells faults old now (is_of_store why)
+    → Keeps (held old) (held now) → Keeps (left now) (left old) → Opens tells held left faults form moment old (opening.Failed now why)
+unloaded_opens tells held left faults form moment old now why script is goes keeps leaves = (
+  load_failed form (tells now) (held old) (tells now → IsUntouched (held old) (left old) (held now) (left now))
+      (IsPartOpened (BeginsWith form (tells now) (held old)) (HoldsFarm (tells now) (held now) (left now)) form moment)
+      why script is (λ now_is. record { held_still = keeps; left_still = leaves }),
+  goes,
 )
+
+-- the farm of the rows of a store, as its words begin with it
+pub script_begins : (form : WordForm) (tells : Type 0) (held : Rows → Type 0) (f : Farm) → IsScript form
+    → (tells → (rows : Rows) → held rows → (list : List Row) → Lists list rows → recovered list ≡ Ok f) → BeginsWith form tells held f
+script_begins Demo tells held f script says = absurd script
+script_begins (Script store) tells held f script says = says
+script_begins (Load n) tells held f script says = absurd script

@@ -1,6 +1,6 @@
 -- What a call of the program did, by how it ended.
-use Rattle.std.proofs.Common.{◌≡◌, ◌↔◌, ◌<◌, ◌≤◌, ◌^◌, ◌⊎◌, ℕ, List, [], ◌∷◌, length, take, drop, length-drop, take-append-drop, inl, inr, refl, sym, ◌∙◌, subst, Option, None, Some, true≢false, ap, arith}
-use Rattle.std.specs.Prelude.{is_some, option_map}
+use Rattle.std.proofs.Common.{◌≡◌, ◌↔◌, ◌<◌, ◌≤◌, ◌^◌, ◌⊎◌, ℕ, true, false, List, [], ◌∷◌, length, take, drop, length-drop, take-append-drop, inl, inr, refl, sym, ◌∙◌, subst, Option, None, Some, ap, arith}
+use Rattle.std.specs.Prelude.{option_map}
 use Rattle.std.specs.List.{All}
 use Rattle.cue_io.specs.Faults.{HasRisen}
 use Rattle.cue_io.specs.Input.{Takes-none}
@@ -12,6 +12,10 @@ use Rattle.farm_types.specs.Farm.{Farm}
 use Rattle.farm_types.specs.Kept.{IsKeptFarm}
 use Rattle.farm_types.specs.Run.{IsSound, HasItsHosts, IsLegal, IsSafe}
 use Rattle.farm_law.proofs.KeptChanges.{kept_hosts}
+use Rattle.command_line.specs.Codes.{code_of}
+use Rattle.command_line.specs.declared.status.Status.{Status}
+use Rattle.command_line.specs.declared.status.Status.TheVariants as exit
+use Rattle.farm_keeper.specs.Keeping.{Continues}
 use Rattle.farm_keeper.specs.Rows.{Rows}
 use Rattle.farm_lines.specs.Transcript.{Exchange, entries_in, lines_in}
 use Rattle.farm_lines.specs.Reply.{bad_store_line}
@@ -22,16 +26,36 @@ use Rattle.session.specs.declared.words.Form.{Form}
 use Rattle.session.specs.declared.exchanged.Exchanged.TheVariants as exchanged
 use Rattle.session.specs.declared.opening.OpenFault.{OpenFault}
 use Rattle.session.specs.declared.opening.OpenFault.TheVariants as fault
-use Rattle.session.specs.Opening.{HasFailed, IsOpened, IsPartOpened, Says}
+use Rattle.session.specs.Opening.{BeginsWith, HasFailed, IsOpened, IsPartOpened, is_of_store}
 use Rattle.session.specs.Loads.{AnswersLoad}
-use Rattle.session.specs.Sessions.{AnswersAll, AnswersForm, AnswersLoadCall, Call, EndsEarly, EndsWell, Ends, HasLines, HasMoved, HaveCauses, IsBadStore, IsCall, IsNoSession, IsOpening, MayTell, Streams, TellsBad, TellsFault, TellsLine, status_of, streams}
+use Rattle.session.specs.Sessions.{AnswersAll, AnswersForm, AnswersLoadCall, Call, EndsEarly, EndsSession, EndsWell, GoesOnOpened, GoesOnOver, HasLines, HasMoved, HasRisenBy, IsBadStore, IsCall, IsOpening, IsUnopened, MayTell, Streams, TellsBad, TellsFault, TellsLine, status_of, store_marks, streams}
 use Rattle.session.specs.Words.{WordForm, Demo, Script, Load, TakesLines, form_of, opened_farm, word_form}
+use Rattle.session.proofs.KeeperLemmas.{over_risen}
 use Rattle.session.proofs.LoadLemmas.{called_load}
 
 -- the code found no form
 pub no_form : (found : Option Form) (formed : Option WordForm) → option_map word_form found ≡ formed → ((form : Form) → found ≡ Some form → ⊥) → formed ≡ None
 no_form None formed is never = sym is
 no_form (Some form) formed is never = absurd (never form refl)
+
+-- the form that is said, or another one
+abbrev form_or : WordForm → Option WordForm → WordForm
+form_or other None = other
+form_or other (Some form) = form
+
+-- words that are said to have none have none
+abbrev IsFormed : Option WordForm → Type 0
+IsFormed None = ⊥
+IsFormed (Some form) = Unit {0}
+
+none_formed : (said : Option WordForm) (form : WordForm) → said ≡ None → said ≡ Some form → ⊥
+none_formed said form none formed = subst IsFormed (sym formed ∙ none) tt
+
+-- the valid words have no other form
+formed_as : (said : Option WordForm) (form other : WordForm) → said ≡ Some form → said ≡ Some other → other ≡ form
+formed_as said form other one two = some_is (sym two ∙ one) where
+  some_is : Some other ≡ Some form → other ≡ form
+  some_is is = ap (λ (o : Option WordForm). form_or other o) is
 
 -- ---- no session
 
@@ -43,69 +67,77 @@ abbrev pub idle : List ℕ → Call
 idle seen = told_call [] seen
 
 -- a status that isn't 8, with nothing taken
-unspent_idle : (status : ℕ) → (status ≡ 8 → ⊥) → (status ≡ 8) ↔ ((0 ≡ BYTE_LIMIT) × (status ≡ 5 → ⊥))
+unspent_idle : (status : Status) → (status ≡ exit.Spent → ⊥) → (status ≡ exit.Spent) ↔ ((0 ≡ BYTE_LIMIT) × (status ≡ exit.WriteFailed → ⊥))
 unspent_idle status other = (λ is. absurd (other is), λ both. absurd (omega (arith, both.0)))
 
+-- a status of a number below 8
+not_spent : (status : Status) → code_of status ≤ 7 → status ≡ exit.Spent → ⊥
+not_spent status low is = let eight : code_of status ≡ 8 = ap code_of is in omega (arith, low, eight)
+
 -- so it ends well, whatever was asked for
-ends_early : (form : Option WordForm) (status : ℕ) (call : Call) → EndsEarly status call → EndsWell form status call
-ends_early None status call early = early
-ends_early (Some Demo) status call early = early
-ends_early (Some (Script store)) status call early = early
-ends_early (Some (Load n)) status call early = inl early
+ends_early : (form : WordForm) (status : Status) (call : Call) → EndsEarly status call → EndsWell form status call
+ends_early Demo status call early = early
+ends_early (Script store) status call early = early
+ends_early (Load n) status call early = inl early
 
 -- the arguments are invalid
 pub called_for_usage : (words : List (List ℕ)) (left : Option (List ℕ)) (r : ℕ) (written : Option (List ℕ)) (w : ℕ) (readings : Option (List ℕ)) (k : ℕ)
-    (says : Farm → Type 0) (bad : RecoverFault → Type 0) (untouched : Type 0) (holds : Farm → Type 0) → untouched → form_of words ≡ None → Tells readings readings []
-    → IsCall words 2 (streams left r written w readings k) (streams left r written w readings k) (idle []) says bad untouched holds
-called_for_usage words left r written w readings k says bad untouched holds kept none tells = record {
+    (says : WordForm → Farm → Type 0) (bad : WordForm → RecoverFault → Type 0) (same untouched : Type 0) (goes_on : Farm → List Exchange → Type 0) (holds : Farm → Type 0)
+    → same → form_of words ≡ None → Tells readings readings []
+    → IsCall words exit.WrongWords (streams left r written w readings k) (streams left r written w readings k) (idle []) says bad same untouched goes_on holds
+called_for_usage words left r written w readings k says bad same untouched goes_on holds kept none tells = record {
   moved = record { taken = Takes-none left; written = Adds-none written; readings = tells };
-  session = inl (record { status_is = inl refl; none_taken = refl; none_written = refl; kept = inl kept });
-  spent = λ lines. unspent_idle 2 (λ is. omega (arith, is));
-  complete = λ formed right unfailed unread unwritten few. absurd (true≢false (sym formed ∙ ap is_some none));
+  session = inl (record { status_is = inl refl; still = refl; none_taken = refl; none_written = refl; none_read = refl; no_lines = refl; keeper_same = kept });
+  spent = λ lines. unspent_idle exit.WrongWords (not_spent exit.WrongWords (omega arith));
+  complete = λ form formed right unfailed unread unwritten few. absurd (none_formed (form_of words) form none formed);
 }
 
 -- memory ran out before the store was read
 pub called_for_memory : (words : List (List ℕ)) (left : Option (List ℕ)) (r : ℕ) (written : Option (List ℕ)) (w : ℕ) (readings : Option (List ℕ)) (k : ℕ)
-    (says : Farm → Type 0) (bad : RecoverFault → Type 0) (untouched : Type 0) (holds : Farm → Type 0) → untouched → Tells readings readings []
-    → IsCall words 7 (streams left r written w readings k) (streams left r written w readings k) (idle []) says bad untouched holds
-called_for_memory words left r written w readings k says bad untouched holds kept tells = record {
+    (says : WordForm → Farm → Type 0) (bad : WordForm → RecoverFault → Type 0) (same untouched : Type 0) (goes_on : Farm → List Exchange → Type 0) (holds : Farm → Type 0)
+    → same → Tells readings readings []
+    → IsCall words exit.NoMemory (streams left r written w readings k) (streams left r written w readings k) (idle []) says bad same untouched goes_on holds
+called_for_memory words left r written w readings k says bad same untouched goes_on holds kept tells = record {
   moved = record { taken = Takes-none left; written = Adds-none written; readings = tells };
-  session = inl (record { status_is = inr (inr refl); none_taken = refl; none_written = refl; kept = inl kept });
-  spent = λ lines. unspent_idle 7 (λ is. omega (arith, is));
-  complete = λ formed right unfailed unread unwritten few. ends_early (form_of words) 7 (idle []) (inr (refl, refl, refl));
+  session = inl (record { status_is = inr refl; still = refl; none_taken = refl; none_written = refl; none_read = refl; no_lines = refl; keeper_same = kept });
+  spent = λ lines. unspent_idle exit.NoMemory (not_spent exit.NoMemory (omega arith));
+  complete = λ form formed right unfailed unread unwritten few. ends_early form exit.NoMemory (idle []) (inr (refl, refl, refl));
 }
 
 -- ---- no farm was opened
 
 -- a front of the line was written
-pub told_part : (text line : List ℕ) (count : ℕ) → text ≡ line → count < length text → MayTell (TellsLine line 5 (take count text)) 5 (take count text)
+pub told_part : (text line : List ℕ) (count : ℕ) → text ≡ line → count < length text → MayTell (TellsLine line exit.WriteFailed (take count text)) exit.WriteFailed (take count text)
 told_part text line count is short =
     let part : List ℕ = take count text in
-    subst (λ (whole : List ℕ). MayTell (TellsLine whole 5 part) 5 part) is (inl (inr (refl, drop count text, omega (arith, length-drop count text), take-append-drop count text)))
+    subst (λ (whole : List ℕ). MayTell (TellsLine whole exit.WriteFailed part) exit.WriteFailed part) is (inl (inr (refl, drop count text, omega (arith, length-drop count text), take-append-drop count text)))
 
 -- the status is none that tells spent bytes
-line_low : (line : List ℕ) (status : ℕ) (wrote : List ℕ) → TellsLine line status wrote → status ≤ 7
-line_low line status wrote (inl six) = omega (arith, six.0)
-line_low line status wrote (inr five) = omega (arith, five.0)
+low_by : (status known : Status) → status ≡ known → code_of known ≤ 7 → code_of status ≤ 7
+low_by status known is low = subst (λ (s : Status). code_of s ≤ 7) (sym is) low
 
-bad_low : (why : RecoverFault) (status : ℕ) (wrote : List ℕ) → TellsBad why status wrote → status ≤ 7
+line_low : (line : List ℕ) (status : Status) (wrote : List ℕ) → TellsLine line status wrote → code_of status ≤ 7
+line_low line status wrote (inl six) = low_by status exit.BadStore six.0 (omega arith)
+line_low line status wrote (inr five) = low_by status exit.WriteFailed five.0 (omega arith)
+
+bad_low : (why : RecoverFault) (status : Status) (wrote : List ℕ) → TellsBad why status wrote → code_of status ≤ 7
 bad_low (BadBytes kind id) status wrote told = line_low (bad_store_line kind id) status wrote told
 bad_low (BreaksFarm kind id) status wrote told = line_low (bad_store_line kind id) status wrote told
 bad_low NoMemory status wrote told = absurd told
 
-may_low : (why : RecoverFault) (status : ℕ) (wrote : List ℕ) → MayTell (TellsBad why status wrote) status wrote → status ≤ 7
+may_low : (why : RecoverFault) (status : Status) (wrote : List ℕ) → MayTell (TellsBad why status wrote) status wrote → code_of status ≤ 7
 may_low why status wrote (inl told) = bad_low why status wrote told
-may_low why status wrote (inr seven) = omega (arith, seven.0)
+may_low why status wrote (inr seven) = low_by status exit.NoMemory seven.0 (omega arith)
 
-fault_low : (why : OpenFault) (status : ℕ) (wrote : List ℕ) → TellsFault why status wrote → status ≤ 7
-fault_low fault.Store status wrote told = omega (arith, told.0)
+fault_low : (why : OpenFault) (status : Status) (wrote : List ℕ) → TellsFault why status wrote → code_of status ≤ 7
+fault_low fault.Store status wrote told = low_by status exit.StoreFailed told.0 (omega arith)
 fault_low (fault.Bad why) status wrote told = may_low why status wrote told
-fault_low fault.NoMemory status wrote told = omega (arith, told.0)
+fault_low fault.NoMemory status wrote told = low_by status exit.NoMemory told.0 (omega arith)
 
-module _ (words : List (List ℕ)) (form : WordForm) (opened : ℕ) (says : Farm → Type 0) (bad : RecoverFault → Type 0) (untouched : Type 0) (holds : Farm → Type 0)
-    (formed : form_of words ≡ Some form) where
+module _ (words : List (List ℕ)) (form : WordForm) (opened : ℕ) (says : WordForm → Farm → Type 0) (bad : WordForm → RecoverFault → Type 0) (untouched : Type 0)
+    (holds : Farm → Type 0) (formed : form_of words ≡ Some form) where
   -- the opening went so far
-  part_opened : (call : Call) → call.readings ≡ opened ∷ [] → untouched ⊎ IsPartOpened says holds form opened → untouched ⊎ IsOpening words call says holds
+  part_opened : (call : Call) → call.readings ≡ opened ∷ [] → untouched ⊎ IsPartOpened (says form) holds form opened → untouched ⊎ IsOpening words call says holds
   part_opened call reads (inl kept) = inl kept
   part_opened call reads (inr part) =
       inr (record {
@@ -120,73 +152,96 @@ module _ (words : List (List ℕ)) (form : WordForm) (opened : ℕ) (says : Farm
         held = part.held;
       })
 
+  -- the store failed, or memory ran out
+  unopened : (status : Status) (call : Call) → (status ≡ exit.StoreFailed) ⊎ (status ≡ exit.NoMemory) → call.taken ≡ [] → call.written ≡ [] → call.exchanges ≡ []
+      → call.readings ≡ opened ∷ [] → untouched ⊎ IsOpening words call says holds → IsUnopened words status call says untouched holds
+  unopened status call is none silent lineless reads kept =
+      record { status_is = is; reading = opened; readings = reads; none_taken = none; none_written = silent; no_lines = lineless; kept = kept }
+
   -- a row at fault was told, or memory ran out for it
-  bad_told : (why : RecoverFault) (status : ℕ) (call : Call) (More : Type 0) → call.taken ≡ [] → MayTell (TellsBad why status call.written) status call.written → bad why → untouched
-      → IsNoSession words status call says untouched holds ⊎ (IsBadStore status call bad untouched ⊎ More)
-  bad_told why status call More none (inl told) is_bad kept = inr (inl (record { fault = why; is_bad = is_bad; told = told; none_taken = none; kept = kept }))
-  bad_told why status call More none (inr told) is_bad kept = inl (record { status_is = inr (inr told.0); none_taken = none; none_written = told.1; kept = inl kept })
+  bad_told : (why : RecoverFault) (status : Status) (call : Call) (More : Type 0) → call.taken ≡ [] → call.exchanges ≡ [] → call.readings ≡ opened ∷ []
+      → MayTell (TellsBad why status call.written) status call.written → bad form why → untouched
+      → IsUnopened words status call says untouched holds ⊎ (IsBadStore words status call bad untouched ⊎ More)
+  bad_told why status call More none lineless reads (inl told) is_bad kept = inr (inl (record {
+    form = form;
+    fault = why;
+    reading = opened;
+    formed = formed;
+    is_bad = is_bad;
+    told = told;
+    readings = reads;
+    none_taken = none;
+    no_lines = lineless;
+    kept = kept;
+  }))
+  bad_told why status call More none lineless reads (inr told) is_bad kept = inl (unopened status call (inr told.0) none told.1 lineless reads (inl kept))
 
   -- how no farm was opened
-  failed_session : (why : OpenFault) (status : ℕ) (call : Call) (More risen : Type 0) → call.taken ≡ [] → call.readings ≡ opened ∷ []
-      → TellsFault why status call.written → HasFailed why bad untouched (IsPartOpened says holds form opened) risen
-      → IsNoSession words status call says untouched holds ⊎ (IsBadStore status call bad untouched ⊎ More)
-  failed_session fault.Store status call More risen none reads told failed =
-      inl (record { status_is = inr (inl told.0); none_taken = none; none_written = told.1; kept = part_opened call reads failed.1 })
-  failed_session (fault.Bad why) status call More risen none reads told failed = bad_told why status call More none told failed.0 failed.1
-  failed_session fault.NoMemory status call More risen none reads told failed =
-      inl (record { status_is = inr (inr told.0); none_taken = none; none_written = told.1; kept = part_opened call reads failed })
+  failed_session : (why : OpenFault) (status : Status) (call : Call) (More : Type 0) → call.taken ≡ [] → call.exchanges ≡ [] → call.readings ≡ opened ∷ []
+      → TellsFault why status call.written → HasFailed why (bad form) untouched (IsPartOpened (says form) holds form opened)
+      → IsUnopened words status call says untouched holds ⊎ (IsBadStore words status call bad untouched ⊎ More)
+  failed_session fault.Store status call More none lineless reads told failed =
+      inl (unopened status call (inl told.0) none told.1 lineless reads (part_opened call reads failed))
+  failed_session (fault.Bad why) status call More none lineless reads told failed = bad_told why status call More none lineless reads told failed.0 failed.1
+  failed_session fault.NoMemory status call More none lineless reads told failed =
+      inl (unopened status call (inr told.0) none told.1 lineless reads (part_opened call reads failed))
 
   -- it ends early by a fault of the store, a row at fault or memory alone
-  failed_complete : (why : OpenFault) (status : ℕ) (call : Call) (risen : Type 0) → call.taken ≡ [] → TellsFault why status call.written
-      → HasFailed why bad untouched (IsPartOpened says holds form opened) risen → ((why : RecoverFault) → bad why → ⊥) → (risen → ⊥) → EndsEarly status call
-  failed_complete fault.Store status call risen none told failed right unfailed = absurd (unfailed failed.0)
-  failed_complete (fault.Bad why) status call risen none told failed right unfailed = absurd (right why failed.0)
-  failed_complete fault.NoMemory status call risen none told failed right unfailed = inr (told.0, none, told.1)
+  failed_complete : (why : OpenFault) (status : Status) (call : Call) (risen : Type 0) → call.taken ≡ [] → TellsFault why status call.written → (is_of_store why ≡ true → risen)
+      → HasFailed why (bad form) untouched (IsPartOpened (says form) holds form opened) → ((why : RecoverFault) → bad form why → ⊥) → (risen → ⊥) → EndsEarly status call
+  failed_complete fault.Store status call risen none told rises failed right unfailed = absurd (unfailed (rises refl))
+  failed_complete (fault.Bad why) status call risen none told rises failed right unfailed = absurd (right why failed.0)
+  failed_complete fault.NoMemory status call risen none told rises failed right unfailed = inr (told.0, none, told.1)
 
-  pub called_failed : (why : OpenFault) (status : ℕ) (wrote : List ℕ) (left : Option (List ℕ)) (r : ℕ) (written written' : Option (List ℕ)) (w w' : ℕ)
-      (readings readings' : Option (List ℕ)) (k k' : ℕ)
+  pub called_failed : (why : OpenFault) (status : Status) (wrote : List ℕ) (left : Option (List ℕ)) (r : ℕ) (written written' : Option (List ℕ)) (w w' : ℕ)
+      (readings readings' : Option (List ℕ)) (k k' : ℕ) (same : Type 0) (goes_on : Farm → List Exchange → Type 0)
       → Tells readings readings' (opened ∷ []) → Adds written written' wrote → TellsFault why status wrote
-      → HasFailed why bad untouched (IsPartOpened says holds form opened) (HasRisen k k')
-      → IsCall words status (streams left r written w readings k) (streams left r written' w' readings' k') (told_call wrote (opened ∷ [])) says bad untouched holds
-  called_failed why status wrote left r written written' w w' readings readings' k k' reads adds told failed =
+      → HasFailed why (bad form) untouched (IsPartOpened (says form) holds form opened) → (is_of_store why ≡ true → HasRisen k k')
+      → IsCall words status (streams left r written w readings k) (streams left r written' w' readings' k') (told_call wrote (opened ∷ [])) says bad same untouched goes_on holds
+  called_failed why status wrote left r written written' w w' readings readings' k k' same goes_on reads adds told failed rises =
       let call : Call = told_call wrote (opened ∷ []) in
-      let other : status ≡ 8 → ⊥ = λ is. omega (arith, is, fault_low why status wrote told) in
       record {
         moved = record { taken = Takes-none left; written = adds; readings = reads };
-        session = failed_session why status call _ (HasRisen k k') refl refl told failed;
-        spent = λ lines. unspent_idle status other;
-        complete = λ valid right unfailed unread unwritten few.
-            ends_early (form_of words) status call (failed_complete why status call (HasRisen k k') refl told failed right unfailed);
+        session = inr (failed_session why status call _ refl refl refl told failed);
+        spent = λ lines. unspent_idle status (not_spent status (fault_low why status wrote told));
+        complete = λ other said right unfailed unread unwritten few.
+            ends_early other status call
+            (failed_complete why status call (HasRisen k k') refl told rises failed
+            (λ fault is. right fault (subst (λ (f : WordForm). bad f fault) (sym (formed_as (form_of words) form other formed said)) is)) unfailed);
       }
 
 -- ---- a session
 
 -- status 8 comes exactly where the bytes are spent and no write failed
-spent_session : (ended : Exchanged) (status : ℕ) (call : Call) (left : Option (List ℕ)) → status ≡ status_of ended → HasLines ended call.taken (lines_in call.exchanges) left
-    → (status ≡ 8) ↔ ((length call.taken ≡ BYTE_LIMIT) × (status ≡ 5 → ⊥))
-spent_session exchanged.Went status call left is lines = absurd lines
-spent_session exchanged.End status call left is lines = (λ eight. absurd (omega (arith, is, eight)), λ both. absurd (omega (arith, lines.1, both.0)))
-spent_session exchanged.Read status call left is lines = (λ eight. absurd (omega (arith, is, eight)), λ both. absurd (omega (arith, lines.1, both.0)))
-spent_session exchanged.Spent status call left is lines = (λ eight. (lines.1, λ five. omega (arith, eight, five)), λ both. is)
-spent_session exchanged.Write status call left is lines = (λ eight. absurd (omega (arith, is, eight)), λ both. absurd (both.1 is))
+spent_session : (ended : Exchanged) (status : Status) (call : Call) (unread : Option (List ℕ)) → status ≡ status_of ended
+    → HasLines ended call.taken (lines_in call.exchanges) unread → (status ≡ exit.Spent) ↔ ((length call.taken ≡ BYTE_LIMIT) × (status ≡ exit.WriteFailed → ⊥))
+spent_session exchanged.Went status call unread is lines = absurd lines
+spent_session exchanged.End status call unread is lines =
+    (λ eight. absurd (not_spent status (low_by status exit.Done is (omega arith)) eight), λ both. absurd (omega (arith, lines.1, both.0)))
+spent_session exchanged.Read status call unread is lines =
+    (λ eight. absurd (not_spent status (low_by status exit.ReadFailed is (omega arith)) eight), λ both. absurd (omega (arith, lines.1, both.0)))
+spent_session exchanged.Spent status call unread is lines =
+    (λ eight. (lines.1, λ five. not_spent status (low_by status exit.WriteFailed five (omega arith)) eight), λ both. is)
+spent_session exchanged.Write status call unread is lines =
+    (λ eight. absurd (not_spent status (low_by status exit.WriteFailed is (omega arith)) eight), λ both. absurd (both.1 is))
 
 -- nothing else ends it early
-complete_session : (ended : Exchanged) (status : ℕ) (call : Call) (left : Option (List ℕ)) (ReadFails WriteFails : Type 0) → status ≡ status_of ended
-    → HasLines ended call.taken (lines_in call.exchanges) left → (status ≡ 4 → ReadFails) → (status ≡ 5 → WriteFails)
-    → (ReadFails → ⊥) → (WriteFails → ⊥) → length call.taken < BYTE_LIMIT → status ≡ 0
-complete_session exchanged.Went status call left ReadFails WriteFails is lines read write unread unwritten few = absurd lines
-complete_session exchanged.End status call left ReadFails WriteFails is lines read write unread unwritten few = is
-complete_session exchanged.Read status call left ReadFails WriteFails is lines read write unread unwritten few = absurd (unread (read is))
-complete_session exchanged.Write status call left ReadFails WriteFails is lines read write unread unwritten few = absurd (unwritten (write is))
-complete_session exchanged.Spent status call left ReadFails WriteFails is lines read write unread unwritten few = absurd (omega (arith, lines.1, few))
+complete_session : (ended : Exchanged) (status : Status) (call : Call) (unread : Option (List ℕ)) (ReadFails WriteFails : Type 0) → status ≡ status_of ended
+    → HasLines ended call.taken (lines_in call.exchanges) unread → (status ≡ exit.ReadFailed → ReadFails) → (status ≡ exit.WriteFailed → WriteFails)
+    → (ReadFails → ⊥) → (WriteFails → ⊥) → length call.taken < BYTE_LIMIT → status ≡ exit.Done
+complete_session exchanged.Went status call unread ReadFails WriteFails is lines read write unfailed unwritten few = absurd lines
+complete_session exchanged.End status call unread ReadFails WriteFails is lines read write unfailed unwritten few = is
+complete_session exchanged.Read status call unread ReadFails WriteFails is lines read write unfailed unwritten few = absurd (unfailed (read is))
+complete_session exchanged.Write status call unread ReadFails WriteFails is lines read write unfailed unwritten few = absurd (unwritten (write is))
+complete_session exchanged.Spent status call unread ReadFails WriteFails is lines read write unfailed unwritten few = absurd (omega (arith, lines.1, few))
 
 -- a session over a farm that keeps what every farm keeps is legal and safe
-pub answers_all : (status : ℕ) (ended : Exchanged) (first last : Farm) (before after : Streams) (call : Call) (holds : Farm → Type 0) → status ≡ status_of ended → IsKeptFarm first
+pub answers_all : (status : Status) (ended : Exchanged) (first last : Farm) (before after : Streams) (call : Call) (goes_on : List Exchange → Type 0) (holds : Farm → Type 0)
+    → status ≡ status_of ended → IsKeptFarm first
     → ((f : Farm) (exchanges : List Exchange) → All (λ (t : Exchange). t.moment < 2 ^ 64) exchanges → IsLegal f (entries_in f exchanges))
     → ((f : Farm) (es : List Entry) → IsSound f → HasItsHosts f → IsLegal f es → IsSafe f es)
-    → HasMoved before after call → Ends ended first last call after.left before.store_faults after.store_faults → holds last
-    → AnswersAll status first before after call holds
-answers_all status ended first last before after call holds is kept legal_law safe_law moved ends held =
+    → HasMoved before after call → EndsSession ended first last call after.unread goes_on → holds last → AnswersAll status first before after call goes_on holds
+answers_all status ended first last before after call goes_on holds is kept legal_law safe_law moved ends held =
     let legal : IsLegal first (entries_in first call.exchanges) = legal_law first call.exchanges ends.within in
     record {
       ended = ended;
@@ -199,66 +254,98 @@ answers_all status ended first last before after call holds is kept legal_law sa
       held = held;
     }
 
--- the causes, counted from before the opening
-causes_earlier : (ts : List Exchange) (old mid new : ℕ) → old ≤ mid → HaveCauses ts mid new → HaveCauses ts old new
-causes_earlier ts old mid new low (inl each) = inl (omega arith)
-causes_earlier ts old mid new low (inr full) = inr full
-
 -- with the reading at the opening
 abbrev pub opened_call : ℕ → Call → Call
 opened_call opened call = record { taken = call.taken; written = call.written; readings = opened ∷ call.readings; exchanges = call.exchanges }
 
 -- what the store said before it says where the keeper still tells the truth
-pub opened_still : (told_then told_now : Type 0) (held : Rows → Type 0) (form : WordForm) (opened : ℕ) (farm : Farm) → (told_now → told_then)
-    → IsOpened (Says told_then held) form opened farm → IsOpened (Says told_now held) form opened farm
-opened_still told_then told_now held form opened farm told o = record { first = o.first; said = λ tells. o.said (told tells); legal = o.legal; farm_is = o.farm_is }
+begins_still : (form : WordForm) (told_then told_now : Type 0) (held : Rows → Type 0) (f : Farm) → (told_now → told_then) → BeginsWith form told_then held f
+    → BeginsWith form told_now held f
+begins_still Demo told_then told_now held f told is = is
+begins_still (Script store) told_then told_now held f told says = λ tells. says (told tells)
+begins_still (Load n) told_then told_now held f told is = is
 
--- a session over a farm that was opened
-called_session : (words : List (List ℕ)) (form : WordForm) (status : ℕ) (opened : ℕ) (farm : Farm) (call : Call) (before after : Streams) (mid : Option (List ℕ)) (k : ℕ)
-    (says : Farm → Type 0) (bad : RecoverFault → Type 0) (untouched : Type 0) (holds : Farm → Type 0)
-    → TakesLines form → form_of words ≡ Some form → IsOpened says form opened farm → Tells before.readings mid (opened ∷ []) → before.store_faults ≤ k
-    → AnswersAll status farm (streams before.left before.read_faults before.written before.write_faults mid k) after call holds
-    → (status ≡ 4 → HasRisen before.read_faults after.read_faults) → (status ≡ 5 → HasRisen before.write_faults after.write_faults)
-    → IsCall words status before after (opened_call opened call) says bad untouched holds
-called_session words form status opened farm call before after mid k says bad untouched holds of_lines formed opening reads rises answered read write =
-    let first : Farm = opened_farm form opening.first opened in
-    let over : AnswersAll status first (streams before.left before.read_faults before.written before.write_faults mid k) after call holds
-    = subst (λ (f : Farm). AnswersAll status f (streams before.left before.read_faults before.written before.write_faults mid k) after call holds) opening.farm_is answered in
-    let moved = over.moved in
-    let ends = over.ends in
-    record {
-      moved = record {
-        taken = moved.taken;
-        written = moved.written;
-        readings = Tells-append before.readings mid after.readings (opened ∷ []) call.readings reads moved.readings;
-      };
-      session = inr (inr (inl (record {
-        form = form;
-        opened = opened;
-        ended = over.ended;
-        first = opening.first;
-        formed = formed;
-        of_lines = of_lines;
-        said = opening.said;
-        status_is = over.status_is;
-        lines = ends.lines;
-        replies = ends.replies;
-        readings = ap (λ later. opened ∷ later) ends.moments;
-        opening_legal = opening.legal;
-        legal = over.legal;
-        safe = over.safe;
-        marked = ends.marked;
-        causes = causes_earlier call.exchanges before.store_faults k after.store_faults rises ends.causes;
-        held = subst holds ends.farm_is over.held;
-      })));
-      spent = λ lines. spent_session over.ended status call after.left over.status_is ends.lines;
-      complete = λ valid right unfailed unread unwritten few.
-          ends_early (form_of words) status (opened_call opened call)
-          (inl (complete_session over.ended status call after.left _ _ over.status_is ends.lines read write unread unwritten few));
-    }
+pub opened_still : (told_then told_now : Type 0) (held : Rows → Type 0) (form : WordForm) (opened : ℕ) (farm : Farm) → (told_now → told_then)
+    → IsOpened (BeginsWith form told_then held) form opened farm → IsOpened (BeginsWith form told_now held) form opened farm
+opened_still told_then told_now held form opened farm told o =
+    record { first = o.first; said = begins_still form told_then told_now held o.first told o.said; legal = o.legal; farm_is = o.farm_is }
+
+-- the keeper, from before the opening on
+opened_on : {K : Type 0} (tells : K → Type 0) (faults : K → ℕ) (given opened now : K) (f : Farm) (ts : List Exchange) → Continues tells faults given opened false
+    → GoesOnOver tells faults f ts opened now → GoesOnOpened tells faults given now f ts
+opened_on tells faults given opened now f ts begins over = (opened, begins, over)
+
+-- its count of faults rose by the marks of the store alone
+opened_risen : {K : Type 0} (tells : K → Type 0) (faults : K → ℕ) (given opened now : K) (f : Farm) (ts : List Exchange) → Continues tells faults given opened false
+    → GoesOnOver tells faults f ts opened now → HasRisenBy (store_marks ts) (faults given) (faults now)
+opened_risen tells faults given opened now f ts begins over =
+    subst (λ (count : ℕ). HasRisenBy (store_marks ts) count (faults now)) begins.counted (over_risen tells faults f ts opened now over)
+
+module _ {K : Type 0} (tells : K → Type 0) (faults : K → ℕ) (given middle now : K) (words : List (List ℕ)) (status : Status) (opened : ℕ) (farm : Farm) (call : Call)
+    (before after : Streams) (mid : Option (List ℕ)) (says : WordForm → Farm → Type 0) (bad : WordForm → RecoverFault → Type 0) (same untouched : Type 0) (holds : Farm → Type 0)
+    (begins : Continues tells faults given middle false) (was : before.store_faults ≡ faults given) (is_now : after.store_faults ≡ faults now) where
+  -- what the call began with, after the opening
+  abbrev begun : Streams
+  begun = streams before.unread before.read_faults before.written before.write_faults mid (faults middle)
+
+  -- a session over a farm that was opened
+  called_session : (form : WordForm) → TakesLines form → form_of words ≡ Some form → IsOpened (says form) form opened farm → Tells before.readings mid (opened ∷ [])
+      → AnswersAll status farm begun after call (λ ts. GoesOnOver tells faults farm ts middle now) holds
+      → (status ≡ exit.ReadFailed → HasRisen before.read_faults after.read_faults) → (status ≡ exit.WriteFailed → HasRisen before.write_faults after.write_faults)
+      → IsCall words status before after (opened_call opened call) says bad same untouched (GoesOnOpened tells faults given now) holds
+  called_session form of_lines formed opening reads answered read write =
+      let first : Farm = opened_farm form opening.first opened in
+      let over : AnswersAll status first begun after call (λ ts. GoesOnOver tells faults first ts middle now) holds
+      = subst (λ (f : Farm). AnswersAll status f begun after call (λ ts. GoesOnOver tells faults f ts middle now) holds) opening.farm_is answered in
+      let moved = over.moved in
+      let ends = over.ends in
+      record {
+        moved = record {
+          taken = moved.taken;
+          written = moved.written;
+          readings = Tells-append before.readings mid after.readings (opened ∷ []) call.readings reads moved.readings;
+        };
+        session = inr (inr (inr (inl (record {
+          form = form;
+          opened = opened;
+          ended = over.ended;
+          first = opening.first;
+          formed = formed;
+          of_lines = of_lines;
+          said = opening.said;
+          status_is = over.status_is;
+          lines = ends.lines;
+          replies = ends.replies;
+          readings = ap (λ later. opened ∷ later) ends.moments;
+          opening_legal = opening.legal;
+          legal = over.legal;
+          safe = over.safe;
+          marked = ends.marked;
+          keeper = opened_on tells faults given middle now first call.exchanges begins ends.keeper;
+          causes = subst (λ (count : ℕ). HasRisenBy (store_marks call.exchanges) count after.store_faults) (sym was)
+              (subst (λ (count : ℕ). HasRisenBy (store_marks call.exchanges) (faults given) count) (sym is_now)
+              (opened_risen tells faults given middle now first call.exchanges begins ends.keeper));
+          held = subst holds ends.farm_is over.held;
+        }))));
+        spent = λ lines. spent_session over.ended status call after.unread over.status_is ends.lines;
+        complete = λ other said right unfailed unread unwritten few.
+            ends_early other status (opened_call opened call)
+            (inl (complete_session over.ended status call after.unread _ _ over.status_is ends.lines read write unread unwritten few));
+      }
+
+  -- a session or a load over a farm that was opened
+  pub called_opened : (form : WordForm) → form_of words ≡ Some form → IsOpened (says form) form opened farm → Tells before.readings mid (opened ∷ [])
+      → AnswersForm form status farm begun after call (λ ts. GoesOnOver tells faults farm ts middle now) holds
+      → (status ≡ exit.ReadFailed → HasRisen before.read_faults after.read_faults) → (status ≡ exit.WriteFailed → HasRisen before.write_faults after.write_faults)
+      → IsCall words status before after (opened_call opened call) says bad same untouched (GoesOnOpened tells faults given now) holds
+  called_opened Demo formed opening reads answered read write = called_session Demo tt formed opening reads answered read write
+  called_opened (Script store) formed opening reads answered read write = called_session (Script store) tt formed opening reads answered read write
+  called_opened (Load n) formed opening reads answered read write =
+      called_load words n status opened farm call before after mid (faults middle) says bad same untouched (GoesOnOpened tells faults given now) holds formed opening reads
+      (begins.counted ∙ sym was) answered write
 
 -- a load moves nothing but its sink and the keeper
-pub load_called : (n status : ℕ) (first : Farm) (left : Option (List ℕ)) (r : ℕ) (written written' : Option (List ℕ)) (w w' : ℕ) (readings : Option (List ℕ)) (k k' : ℕ)
+pub load_called : (n : ℕ) (status : Status) (first : Farm) (left : Option (List ℕ)) (r : ℕ) (written written' : Option (List ℕ)) (w w' : ℕ) (readings : Option (List ℕ)) (k k' : ℕ)
     (wrote : List ℕ) (holds : Farm → Type 0) → Adds written written' wrote → AnswersLoad n first status wrote k k' holds
     → AnswersLoadCall n status first (streams left r written w readings k) (streams left r written' w' readings k') (told_call wrote []) holds
 load_called n status first left r written written' w w' readings k k' wrote holds adds answered = record {
@@ -268,17 +355,3 @@ load_called n status first left r written written' w w' readings k k' wrote hold
   no_lines = refl;
   answered = answered;
 }
-
--- a session or a load over a farm that was opened
-pub called_opened : (words : List (List ℕ)) (form : WordForm) (status : ℕ) (opened : ℕ) (farm : Farm) (call : Call) (before after : Streams) (mid : Option (List ℕ)) (k : ℕ)
-    (says : Farm → Type 0) (bad : RecoverFault → Type 0) (untouched : Type 0) (holds : Farm → Type 0)
-    → form_of words ≡ Some form → IsOpened says form opened farm → Tells before.readings mid (opened ∷ []) → before.store_faults ≤ k
-    → AnswersForm form status farm (streams before.left before.read_faults before.written before.write_faults mid k) after call holds
-    → (status ≡ 4 → HasRisen before.read_faults after.read_faults) → (status ≡ 5 → HasRisen before.write_faults after.write_faults)
-    → IsCall words status before after (opened_call opened call) says bad untouched holds
-called_opened words Demo status opened farm call before after mid k says bad untouched holds formed opening reads rises answered read write =
-    called_session words Demo status opened farm call before after mid k says bad untouched holds tt formed opening reads rises answered read write
-called_opened words (Script store) status opened farm call before after mid k says bad untouched holds formed opening reads rises answered read write =
-    called_session words (Script store) status opened farm call before after mid k says bad untouched holds tt formed opening reads rises answered read write
-called_opened words (Load n) status opened farm call before after mid k says bad untouched holds formed opening reads rises answered read write =
-    called_load words n status opened farm call before after mid k says bad untouched holds formed opening reads rises answered write

@@ -1,25 +1,23 @@
 -- Exchange by exchange, a session is the transcript of its lines.
-use Rattle.std.proofs.Common.{◌≡◌, ◌≤◌, ◌<◌, ◌^◌, ◌+◌, ◌⊎◌, inl, inr, ℕ, zero, suc, cond, Bool, true, false, true≢false, List, [], ◌∷◌, ◌++◌, arith, refl, sym, ap, ◌∙◌, subst, Option, Result, Ok, Err, append_assoc, append-nil, length, length-append}
+use Rattle.std.proofs.Common.{◌≡◌, ◌<◌, ◌^◌, ◌+◌, ℕ, Bool, true≢false, List, [], ◌∷◌, ◌++◌, refl, sym, ap, ◌∙◌, subst, Option, Result, Ok, Err, append_assoc, append-nil, length, length-append}
 use Rattle.std.proofs.lemmas.List.{map-append}
 use Rattle.std.proofs.lemmas.List.Elements.{All-push}
-use Rattle.std.proofs.lemmas.List.Sums.{sum_by_push}
 use Rattle.cue_io.specs.declared.line.LineFault.{LineFault}
 use Rattle.cue_io.specs.declared.line.LineFault.TheVariants as line_fault
-use Rattle.cue_io.specs.History.{HasGiven, HasGiven-next, Continues, IsCut}
+use Rattle.cue_io.specs.History.{HasGiven, HasGiven-next, HasGiven-first, Continues}
 use Rattle.cue_io.specs.Input.{Takes, Takes-append}
 use Rattle.cue_io.specs.Output.{Adds, Adds-append}
 use Rattle.cue_io.specs.Readings.{Tells, Tells-append}
-use Rattle.cue_io.specs.Lines.{lines_of, lines_of-joined}
 use Rattle.cue_io.specs.Reader.{Held, Given, Whole, Long, AtEnd, Goes}
 use Rattle.cue_io.specs.declared.limits.TheConstants.{BYTE_LIMIT}
 use Rattle.farm_types.specs.Farm.{Farm}
-use Rattle.farm_keeper.specs.Faults.{HasRisen, last_count}
 use Rattle.farm_lines.specs.Reply.{reply_text}
-use Rattle.farm_lines.specs.Transcript.{Mark, Exchange, answer_to, answer_at, farm_next, farm_after, is_store_mark, transcript, lines_in, moments_in}
+use Rattle.farm_lines.specs.Transcript.{Mark, Plain, Exchange, answer_to, answer_at, farm_next, farm_after, is_store_mark, transcript, lines_in, moments_in}
 use Rattle.session.specs.declared.exchanged.Exchanged.{Exchanged}
 use Rattle.session.specs.declared.exchanged.Exchanged.TheVariants as exchanged
-use Rattle.line_answers.specs.LineAnswers.{HasCause, IsAnswer, IsMarked}
-use Rattle.session.specs.Sessions.{Answers, AreFirstLines, AreMarked, Call, Ends, HasAnswered, HasLines, HasMoved, HasReplies, HasServed, HaveCauses, IsExchange, IsNoExchange, IsStep, MayStand, Streams, store_marks}
+use Rattle.line_answers.specs.LineAnswers.{IsAnswer, IsMarked}
+use Rattle.recorder.specs.Recording.{ChangesNone}
+use Rattle.session.specs.Sessions.{Answers, AreMarked, Call, EndsSession, HasAnswered, HasLines, HasMoved, HasReplies, HasServed, IsExchange, IsNoExchange, IsStep, MayStand, StaysAt, Streams}
 use Rattle.farm_lines.specs.declared.limits.TheConstants.{LINE_LIMIT}
 
 -- ---- one exchange more
@@ -46,44 +44,25 @@ are_marked-append : (f : Farm) (ts : List Exchange) (t : Exchange) → AreMarked
 are_marked-append f [] t marked may = (may, tt)
 are_marked-append f (u ∷ ts) t marked may = (marked.0, are_marked-append (farm_next f u) ts t marked.1 may)
 
--- the mark's weight in the count
-abbrev weight_of : Bool → ℕ
-weight_of b = cond b 1 0
-
-abbrev weight : Exchange → ℕ
-weight t = weight_of (is_store_mark t.mark)
-
-causes_by : (marks more old mid new : ℕ) → more ≤ 1 → (more ≡ 1 → HasRisen mid new) → mid ≤ new → (old + marks ≤ mid) ⊎ (last_count ≤ mid) → (old + (marks + more) ≤ new) ⊎
-    (last_count ≤ new)
-causes_by marks zero old mid new low cause rises (inl so_far) = inl (omega arith)
-causes_by marks (suc zero) old mid new low cause rises (inl so_far) = one_more (cause refl) where
-  one_more : HasRisen mid new → (old + (marks + 1) ≤ new) ⊎ (last_count ≤ new)
-  one_more (inl rose) = inl (omega arith)
-  one_more (inr full) = inr full
-causes_by marks (suc (suc more)) old mid new low cause rises (inl so_far) = absurd (omega (arith, low))
-causes_by marks more old mid new low cause rises (inr full) = inr (omega arith)
-
-weight_low : (b : Bool) → weight_of b ≤ 1
-weight_low true = omega arith
-weight_low false = omega arith
-
-weight_one : (b : Bool) → weight_of b ≡ 1 → b ≡ true
-weight_one true is = refl
-weight_one false is = absurd (omega (arith, is))
-
-have_causes-append : (ts : List Exchange) (t : Exchange) (old mid new : ℕ) → HaveCauses ts old mid → HasCause t.mark mid new → mid ≤ new → HaveCauses (ts ++ t ∷ []) old new
-have_causes-append ts t old mid new causes cause rises =
-    subst (λ (marks : ℕ). (old + marks ≤ new) ⊎ (last_count ≤ new)) (sym (sum_by_push weight ts t))
-    (causes_by (store_marks ts) (weight t) old mid new (weight_low (is_store_mark t.mark)) (λ is. cause (weight_one (is_store_mark t.mark) is)) rises causes)
-
 -- ---- an exchange in a session
 
--- the farm, the text, the reading and the mark of one exchange more
-answered_more : (first : Farm) (exchanges : List Exchange) (farm : Farm) (wrote seen : List ℕ) (t : Exchange) (after : Farm) (reply : List ℕ) (faults mid faults_now : ℕ)
-    → HasAnswered first exchanges farm wrote seen faults mid → t.moment < 2 ^ 64 → IsAnswer farm (answer_at farm t) after reply
-    → IsMarked farm t.line t.moment t.mark → HasCause t.mark mid faults_now → mid ≤ faults_now
-    → HasAnswered first (exchanges ++ t ∷ []) after (wrote ++ reply) (seen ++ t.moment ∷ []) faults faults_now
-answered_more first exchanges farm wrote seen t after reply faults mid faults_now answered low answer may cause rises = record {
+-- how the keeper went on over a line, of which the mark is this one
+record StaysOn (f : Farm) (t : Exchange) (goes : Bool → Type 0) (same : Type 0) : Type 0 where
+  keeper : goes (is_store_mark t.mark)
+  stays : ChangesNone f (answer_to f t.line t.moment Plain).entries → same
+
+-- what the keeper did over one exchange more, after those before
+abbrev pub GoesOnBy : Farm → (Bool → Type 0) → Type 0 → (List Exchange → Type 0) → (List Exchange → Type 0) → Type 0
+GoesOnBy first goes same before now =
+    (ts : List Exchange) (t : Exchange) → before ts → goes (is_store_mark t.mark)
+    → (ChangesNone (farm_after first ts) (answer_to (farm_after first ts) t.line t.moment Plain).entries → same) → now (ts ++ t ∷ [])
+
+-- the farm, the text, the reading, the mark and the keeper of one exchange more
+answered_more : (first : Farm) (exchanges : List Exchange) (farm : Farm) (wrote seen : List ℕ) (t : Exchange) (after : Farm) (reply : List ℕ) (goes : Bool → Type 0) (same : Type 0)
+    (before now : List Exchange → Type 0) → GoesOnBy first goes same before now → HasAnswered first exchanges farm wrote seen before → t.moment < 2 ^ 64
+    → IsAnswer farm (answer_at farm t) after reply → IsMarked farm t.line t.moment t.mark → StaysOn farm t goes same
+    → HasAnswered first (exchanges ++ t ∷ []) after (wrote ++ reply) (seen ++ t.moment ∷ []) now
+answered_more first exchanges farm wrote seen t after reply goes same before now on answered low answer may stays = record {
   farm_is = answer.farm ∙ ap (λ g. farm_next g t) answered.farm_is ∙ sym (farm_after-append first exchanges t);
   replies = ap (λ bytes. bytes ++ reply) answered.replies
       ∙ ap (λ bytes. transcript first exchanges ++ bytes) (answer.text ∙ ap (λ g. reply_text (answer_at g t).reply ++ 10 ∷ []) answered.farm_is)
@@ -91,123 +70,121 @@ answered_more first exchanges farm wrote seen t after reply faults mid faults_no
   moments = ap (λ moments. moments ++ t.moment ∷ []) answered.moments ∙ sym (moments_in-append exchanges t);
   within = All-push (λ (t : Exchange). t.moment < 2 ^ 64) exchanges t answered.within low;
   marked = are_marked-append first exchanges t answered.marked (subst (λ (g : Farm). IsMarked g t.line t.moment t.mark) answered.farm_is may);
-  causes = have_causes-append exchanges t faults mid faults_now answered.causes cause rises;
+  keeper = on exchanges t answered.keeper stays.keeper
+      (subst (λ (g : Farm). ChangesNone g (answer_to g t.line t.moment Plain).entries → same) answered.farm_is stays.stays);
 }
 
--- the line that was given, its answer, and its mark
-record IsLineGiven (taken : List ℕ) (lines : List (List ℕ)) (reader : Held) (left : Option (List ℕ)) (old new : Farm) (moment : ℕ) (mark : Mark) (reply : List ℕ) : Type 0 where
+-- the line that was given, its answer, its mark, and that the keeper is as before where it asks for nothing that changes a row
+record IsLineGiven (taken : List ℕ) (lines : List (List ℕ)) (reader : Held) (left : Option (List ℕ)) (old new : Farm) (moment : ℕ) (mark : Mark) (reply : List ℕ) (same : Type 0) :
+    Type 0 where
   line : List ℕ
   given : HasGiven LINE_LIMIT taken (lines ++ line ∷ []) reader left
   answer : IsAnswer old (answer_to old line moment mark) new reply
   may_stand : IsMarked old line moment mark
+  stays : ChangesNone old (answer_to old line moment Plain).entries → same
 
 line_of_exchange : (given : Given) (taken : List ℕ) (lines : List (List ℕ)) (reader : Held) (left : Option (List ℕ)) (old new : Farm) (moment : ℕ) (mark : Mark) (reply : List ℕ)
-    → Continues LINE_LIMIT taken lines (Ok given) reader left → Answers given old moment mark new reply → MayStand given old moment mark
-    → IsLineGiven taken lines reader left old new moment mark reply
-line_of_exchange (Whole line) taken lines reader left old new moment mark reply continues answers may = record { line = line; given = continues.1; answer = answers; may_stand = may }
-line_of_exchange Long taken lines reader left old new moment mark reply continues answers may = record {
+    (same : Type 0) → Continues LINE_LIMIT taken lines (Ok given) reader left → Answers given old moment mark new reply → MayStand given old moment mark
+    → StaysAt given old moment same → IsLineGiven taken lines reader left old new moment mark reply same
+line_of_exchange (Whole line) taken lines reader left old new moment mark reply same continues answers may stays =
+    record { line = line; given = continues.1; answer = answers; may_stand = may; stays = stays }
+line_of_exchange Long taken lines reader left old new moment mark reply same continues answers may stays = record {
   line = continues.0;
   given = continues.2;
   answer = answers continues.0 continues.1;
   may_stand = λ is. absurd (true≢false (sym is ∙ may));
+  stays = λ none. stays;
 }
-line_of_exchange AtEnd taken lines reader left old new moment mark reply continues answers may = absurd answers
+line_of_exchange AtEnd taken lines reader left old new moment mark reply same continues answers may stays = absurd answers
 
 -- one exchange more: what was written of its reply, and what wasn't, is its text
 served_more : (first : Farm) (call : Call) (farm after : Farm) (reader new : Held) (left left' : Option (List ℕ)) (taken' : List ℕ)
-    (given : Given) (w u s : List ℕ) (faults mid faults_now : ℕ) → HasServed first call farm reader left faults mid → Continues LINE_LIMIT taken' (lines_in call.exchanges)
-    (Ok given) new left'
-    → IsExchange given farm after w u s mid faults_now
-    → (t : Exchange) × HasServed first (record { taken = taken'; written = call.written ++ (w ++ u); readings = call.readings ++ s; exchanges = call.exchanges ++ t ∷ [] }) after new left' faults faults_now
+    (given : Given) (w u s : List ℕ) (goes : Bool → Type 0) (same : Type 0) (before now : List Exchange → Type 0) → GoesOnBy first goes same before now
+    → HasServed first call farm reader left before → Continues LINE_LIMIT taken' (lines_in call.exchanges) (Ok given) new left'
+    → IsExchange given farm after w u s goes same
+    → (t : Exchange) × HasServed first (record { taken = taken'; written = call.written ++ (w ++ u); readings = call.readings ++ s; exchanges = call.exchanges ++ t ∷ [] }) after new left' now
     × (w ++ u ≡ reply_text (answer_at (farm_after first call.exchanges) t).reply ++ 10 ∷ [])
-served_more first call farm after reader new left left' taken' given w u s faults mid faults_now served continues exchange =
-    let found = line_of_exchange given taken' (lines_in call.exchanges) new left' farm after exchange.moment exchange.mark exchange.reply continues exchange.answers exchange.may_stand in
+served_more first call farm after reader new left left' taken' given w u s goes same before now on served continues exchange =
+    let found = line_of_exchange given taken' (lines_in call.exchanges) new left' farm after exchange.moment exchange.mark exchange.reply same continues exchange.answers exchange.may_stand
+    exchange.stays in
     let t : Exchange = record { line = found.line; moment = exchange.moment; mark = exchange.mark } in
-    let answered : HasAnswered first (call.exchanges ++ t ∷ []) after (call.written ++ exchange.reply) (call.readings ++ exchange.moment ∷ []) faults faults_now
-    = answered_more first call.exchanges farm call.written call.readings t after exchange.reply faults mid faults_now served.answered exchange.moment_within found.answer found.may_stand exchange.cause exchange.rises in (
+    let answered : HasAnswered first (call.exchanges ++ t ∷ []) after (call.written ++ exchange.reply) (call.readings ++ exchange.moment ∷ []) now
+    = answered_more first call.exchanges farm call.written call.readings t after exchange.reply goes same before now on served.answered exchange.moment_within found.answer found.may_stand
+    (record { keeper = exchange.keeper; stays = found.stays }) in (
       t,
       record {
-        answered = subst (λ (bytes : List ℕ). HasAnswered first (call.exchanges ++ t ∷ []) after (call.written ++ bytes) (call.readings ++ s) faults faults_now)
+        answered = subst (λ (bytes : List ℕ). HasAnswered first (call.exchanges ++ t ∷ []) after (call.written ++ bytes) (call.readings ++ s) now)
             (sym exchange.written)
-            (subst (λ (moments : List ℕ). HasAnswered first (call.exchanges ++ t ∷ []) after (call.written ++ exchange.reply) (call.readings ++ moments) faults faults_now)
+            (subst (λ (moments : List ℕ). HasAnswered first (call.exchanges ++ t ∷ []) after (call.written ++ exchange.reply) (call.readings ++ moments) now)
             (sym exchange.read) answered);
         given = subst (λ (lines : List (List ℕ)). HasGiven LINE_LIMIT taken' lines new left') (sym (lines_in-append call.exchanges t)) found.given;
       },
       exchange.written ∙ found.answer.text ∙ ap (λ g. reply_text (answer_at g t).reply ++ 10 ∷ []) served.answered.farm_is,
     )
 
--- ---- the lines that were given are the first of the bytes taken
-
-first_lines_by : (ended : Bool) (taken : List ℕ) (lines : List (List ℕ)) (pending : List ℕ) → IsCut ended taken lines pending → AreFirstLines taken lines
-first_lines_by false taken lines pending cut = (lines_of pending, ap lines_of cut.cut ∙ lines_of-joined lines pending cut.in_lines)
-first_lines_by true taken lines pending cut = ([], cut.cut ∙ sym (append-nil lines))
-
-first_lines : (taken : List ℕ) (lines : List (List ℕ)) (reader : Held) (left : Option (List ℕ)) → HasGiven LINE_LIMIT taken lines reader left → AreFirstLines taken lines
-first_lines taken lines reader left given = first_lines_by reader.ended taken lines given.pending given.is_cut
-
 -- ---- a step of the loop
 
 -- what was taken, written and read in one step more
 pub moved_more : (before mid after : Streams) (call : Call) (took w s : List ℕ) (exchanges : List Exchange) → HasMoved before mid call
-    → Takes mid.left after.left took → Adds mid.written after.written w → Tells mid.readings after.readings s
+    → Takes mid.unread after.unread took → Adds mid.written after.written w → Tells mid.readings after.readings s
     → HasMoved before after (record { taken = call.taken ++ took; written = call.written ++ w; readings = call.readings ++ s; exchanges = exchanges })
 moved_more before mid after call took w s exchanges moved takes adds tells = record {
-  taken = Takes-append before.left mid.left after.left call.taken took moved.taken takes;
+  taken = Takes-append before.unread mid.unread after.unread call.taken took moved.taken takes;
   written = Adds-append before.written mid.written after.written call.written w moved.written adds;
   readings = Tells-append before.readings mid.readings after.readings call.readings s moved.readings tells;
 }
 
-module _ (first : Farm) (call : Call) (farm after : Farm) (reader new : Held) (left left' : Option (List ℕ)) (took w s : List ℕ) (faults mid faults_now : ℕ)
-    (served : HasServed first call farm reader left faults mid) (takes : Takes left left' took) where
+module _ (first : Farm) (call : Call) (farm after : Farm) (reader new : Held) (left left' : Option (List ℕ)) (took w s : List ℕ) (goes : Bool → Type 0) (same : Type 0)
+    (before now : List Exchange → Type 0) (on : GoesOnBy first goes same before now) (quietly : (ts : List Exchange) → same → before ts → now ts)
+    (served : HasServed first call farm reader left before) (takes : Takes left left' took) where
   -- what is taken, written and read after the step, with these exchanges
   abbrev more_of : List Exchange → Call
   more_of exchanges = record { taken = call.taken ++ took; written = call.written ++ w; readings = call.readings ++ s; exchanges = exchanges }
 
   -- where the reader stands after the step
-  stands : (answer : Result Given LineFault) (result : Exchanged) → (step : IsStep result reader new left' farm after took w s mid faults_now) → step.answer ≡ answer
+  stands : (answer : Result Given LineFault) (result : Exchanged) → (step : IsStep result reader new left' farm after took w s goes same) → step.answer ≡ answer
       → Continues LINE_LIMIT (call.taken ++ took) (lines_in call.exchanges) answer new left'
   stands answer result step is =
       let Stands : Result Given LineFault → Type 0 = λ a. Continues LINE_LIMIT (call.taken ++ took) (lines_in call.exchanges) a new left' in
       subst Stands is (HasGiven-next LINE_LIMIT call.taken (lines_in call.exchanges) reader left step.answer new left' served.given
-      (record { took = took; takes = takes; goes = step.goes; end = step.at_end }))
+      (record { took = took; takes = takes; goes = step.moves; end = step.at_end }))
 
   -- the line was answered
-  pub served_went : (step : IsStep exchanged.Went reader new left' farm after took w s mid faults_now) → (exchanges : List Exchange) × HasServed first
-      (more_of exchanges) after new left' faults faults_now
+  pub served_went : (step : IsStep exchanged.Went reader new left' farm after took w s goes same) → (exchanges : List Exchange) × HasServed first (more_of exchanges) after new left' now
   served_went step =
-      let more = served_more first call farm after reader new left left' (call.taken ++ took) step.exchanges.0 w [] s faults mid faults_now served
+      let more = served_more first call farm after reader new left left' (call.taken ++ took) step.exchanges.0 w [] s goes same before now on served
       (stands (Ok step.exchanges.0) exchanged.Went step step.exchanges.1) step.exchanges.2 in
       let exchanges : List Exchange = call.exchanges ++ more.0 ∷ [] in (
         exchanges,
-        subst (λ (bytes : List ℕ). HasServed first (record { taken = call.taken ++ took; written = call.written ++ bytes; readings = call.readings ++ s; exchanges = exchanges }) after new left' faults faults_now)
+        subst (λ (bytes : List ℕ). HasServed first (record { taken = call.taken ++ took; written = call.written ++ bytes; readings = call.readings ++ s; exchanges = exchanges }) after new left' now)
             (append-nil w) more.1,
       )
 
-  -- nothing was written or read in a step without a line, and the farm and the count of faults are as before
+  -- nothing was written or read in a step without a line, and the farm and the keeper are as before
   quiet : (result : Exchanged) → HasLines result (call.taken ++ took) (lines_in call.exchanges) left'
-      → (call.written ++ w ≡ transcript first call.exchanges → HasReplies result first call.exchanges (call.written ++ w)) → IsNoExchange farm after w s mid faults_now
-      → Ends result first after (more_of call.exchanges) left' faults faults_now
+      → (call.written ++ w ≡ transcript first call.exchanges → HasReplies result first call.exchanges (call.written ++ w)) → IsNoExchange farm after w s same
+      → EndsSession result first after (more_of call.exchanges) left' now
   quiet result lines replies none = record {
     lines = lines;
     replies = replies (ap (λ bytes. call.written ++ bytes) none.none_written ∙ append-nil call.written ∙ served.answered.replies);
     moments = ap (λ moments. call.readings ++ moments) none.none_read ∙ append-nil call.readings ∙ served.answered.moments;
     within = served.answered.within;
-    farm_is = none.same ∙ served.answered.farm_is;
+    farm_is = none.farm_same ∙ served.answered.farm_is;
     marked = served.answered.marked;
-    causes = subst (λ (now : ℕ). HaveCauses call.exchanges faults now) (sym none.no_fault) served.answered.causes;
+    keeper = quietly call.exchanges none.keeper_same served.answered.keeper;
   }
 
   -- at the end of the source the reader took fewer bytes than it takes at most
-  unspent : (result : Exchanged) (step : IsStep result reader new left' farm after took w s mid faults_now) → step.answer ≡ Ok AtEnd → length (call.taken ++ took) < BYTE_LIMIT
+  unspent : (result : Exchanged) (step : IsStep result reader new left' farm after took w s goes same) → step.answer ≡ Ok AtEnd → length (call.taken ++ took) < BYTE_LIMIT
   unspent result step is =
-      let goes : Goes reader took (Ok AtEnd) new = subst (λ (a : Result Given LineFault). Goes reader took a new) is step.goes in
+      let moves : Goes reader took (Ok AtEnd) new = subst (λ (a : Result Given LineFault). Goes reader took a new) is step.moves in
       subst (λ (count : ℕ). count < BYTE_LIMIT)
-      (goes.taken_is ∙ ap (λ count. count + length took) served.given.taken_is ∙ sym (length-append call.taken took))
-      (goes.unspent (goes.leaves served.given.pending served.given.is_pending).cuts.ended)
+      (moves.taken_is ∙ ap (λ count. count + length took) served.given.taken_is ∙ sym (length-append call.taken took))
+      (moves.unspent (moves.leaves served.given.pending served.given.is_pending).cuts.ended)
 
   -- the session ended
-  pub served_ended : (result : Exchanged) → (result ≡ exchanged.Went → ⊥) → IsStep result reader new left' farm after took w s mid faults_now
-      → (exchanges : List Exchange) × Ends result first after (more_of exchanges) left' faults faults_now
+  pub served_ended : (result : Exchanged) → (result ≡ exchanged.Went → ⊥) → IsStep result reader new left' farm after took w s goes same
+      → (exchanges : List Exchange) × EndsSession result first after (more_of exchanges) left' now
   served_ended exchanged.Went ends step = absurd (ends refl)
   served_ended exchanged.End ends step =
       let at = stands (Ok AtEnd) exchanged.End step step.exchanges.0 in
@@ -221,11 +198,11 @@ module _ (first : Farm) (call : Call) (farm after : Farm) (reader new : Held) (l
   served_ended exchanged.Write ends step =
       let given = step.exchanges.0 in
       let unwritten = step.exchanges.1 in
-      let more = served_more first call farm after reader new left left' (call.taken ++ took) given w unwritten s faults mid faults_now served
+      let more = served_more first call farm after reader new left left' (call.taken ++ took) given w unwritten s goes same before now on served
       (stands (Ok given) exchanged.Write step step.exchanges.2) step.exchanges.4 in (
         call.exchanges ++ more.0 ∷ [],
         record {
-          lines = first_lines (call.taken ++ took) (lines_in (call.exchanges ++ more.0 ∷ [])) new left' more.1.given;
+          lines = HasGiven-first LINE_LIMIT (call.taken ++ took) (lines_in (call.exchanges ++ more.0 ∷ [])) new left' more.1.given;
           replies = record {
             before = call.exchanges;
             last = more.0;
@@ -240,6 +217,6 @@ module _ (first : Farm) (call : Call) (farm after : Farm) (reader new : Held) (l
           within = more.1.answered.within;
           farm_is = more.1.answered.farm_is;
           marked = more.1.answered.marked;
-          causes = more.1.answered.causes;
+          keeper = more.1.answered.keeper;
         },
       )

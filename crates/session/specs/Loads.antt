@@ -1,5 +1,7 @@
 -- What a call of a load does.
 use Rattle.std.specs.Prelude.{◌≡◌, ◌<◌, ◌++◌, [], ◌⊎◌, ℕ, List, length}
+use Rattle.command_line.specs.declared.status.Status.{Status}
+use Rattle.command_line.specs.declared.status.Status.TheVariants as exit
 use Rattle.farm_types.specs.Farm.{Farm}
 use Rattle.farm_types.specs.Run.{IsLegal, IsSafe}
 use Rattle.farm_lines.specs.Transcript.{Mark}
@@ -9,21 +11,21 @@ use Rattle.farm_load.specs.Loads.{AreMarks, HaveCause, load_run, load_start}
 use Rattle.farm_load.specs.Summaries.{EndsBy, summary_text}
 
 -- all of the summary was written; or a write failed, and less than all of it was; or memory ran out for its text
-abbrev pub TellsSummary : List ℕ → ℕ → List ℕ → Type 0
+abbrev pub TellsSummary : List ℕ → Status → List ℕ → Type 0
 TellsSummary text status wrote =
-    ((status ≡ 0) × (wrote ≡ text))
-    ⊎ (((status ≡ 5) × (unwritten : List ℕ) × (0 < length unwritten) × (wrote ++ unwritten ≡ text))
-    ⊎ ((status ≡ 7) × (wrote ≡ [])))
+    ((status ≡ exit.Done) × (wrote ≡ text))
+    ⊎ (((status ≡ exit.WriteFailed) × (unwritten : List ℕ) × (0 < length unwritten) × (wrote ++ unwritten ≡ text))
+    ⊎ ((status ≡ exit.NoMemory) × (wrote ≡ [])))
 
 -- the status, and what was written, by how the run ended
-abbrev pub TellsEnd : LoadEnd → ℕ → List ℕ → Type 0
+abbrev pub TellsEnd : LoadEnd → Status → List ℕ → Type 0
 TellsEnd (load_end.Finished summary) status wrote = TellsSummary (summary_text summary) status wrote
-TellsEnd load_end.Spent status wrote = (status ≡ 8) × (wrote ≡ [])
-TellsEnd load_end.NoMemory status wrote = (status ≡ 7) × (wrote ≡ [])
+TellsEnd load_end.Spent status wrote = (status ≡ exit.Spent) × (wrote ≡ [])
+TellsEnd load_end.NoMemory status wrote = (status ≡ exit.NoMemory) × (wrote ≡ [])
 
 -- A load was run over a farm that was opened. The entries that it recorded are a legal run from that farm, and a safe one, and the store holds the farm
 -- that they make.
-pub record AnswersLoad (n : ℕ) (first : Farm) (status : ℕ) (wrote : List ℕ) (faults faults_now : ℕ) (holds : Farm → Type 0) : Type 0 where
+pub record AnswersLoad (n : ℕ) (first : Farm) (status : Status) (wrote : List ℕ) (faults faults_now : ℕ) (holds : Farm → Type 0) : Type 0 where
   pub marks : List Mark
   pub ended : LoadEnd
   pub are_marks : AreMarks n (load_start first) marks

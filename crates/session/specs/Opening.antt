@@ -1,11 +1,10 @@
 -- How a farm is opened over a keeper.
-use Rattle.std.specs.Prelude.{ℕ, ◌≡◌, ◌≤◌, ◌⊎◌, List, [], take, Result, Ok, Err}
+use Rattle.std.specs.Prelude.{ℕ, ◌≡◌, ◌⊎◌, Bool, true, false, List, [], take, Result, Ok, Err}
 use Rattle.std.specs.FinMap.{empty}
-use Rattle.farm_types.specs.Farm.{Farm}
+use Rattle.farm_types.specs.Farm.{Farm, empty_farm}
 use Rattle.farm_types.specs.Run.{IsLegal, run_of}
 use Rattle.farm_keeper.specs.declared.row.Row.{Row}
-use Rattle.farm_keeper.specs.Faults.{HasRisen}
-use Rattle.farm_keeper.specs.Keeping.{HasKept, Keeps}
+use Rattle.farm_keeper.specs.Keeping.{Continues, HasKept, Keeps}
 use Rattle.farm_keeper.specs.Rows.{Lists, Rows}
 use Rattle.farm_types.specs.declared.entry.Entry.{Entry}
 use Rattle.farm_keeper.specs.declared.fault.KeeperFault.{KeeperFault}
@@ -34,8 +33,17 @@ MayOpen (Load n) held left = HasKept held left empty [] × ((rows : Rows) → he
 abbrev pub Says : Type 0 → (Rows → Type 0) → Farm → Type 0
 Says tells held f = tells → (rows : Rows) → held rows → (list : List Row) → Lists list rows → recovered list ≡ Ok f
 
-abbrev pub SaysBad : Type 0 → (Rows → Type 0) → RecoverFault → Type 0
-SaysBad tells held why = tells → (rows : Rows) → held rows → (list : List Row) → Lists list rows → recovered list ≡ Err why
+abbrev pub SaysFault : Type 0 → (Rows → Type 0) → RecoverFault → Type 0
+SaysFault tells held why = tells → (rows : Rows) → held rows → (list : List Row) → Lists list rows → recovered list ≡ Err why
+
+-- the farm with which the words begin: that of the rows, or the empty one, for which no row is read; and why there is none
+abbrev pub BeginsWith : WordForm → Type 0 → (Rows → Type 0) → Farm → Type 0
+BeginsWith (Script store) tells held f = Says tells held f
+BeginsWith other tells held f = f ≡ empty_farm
+
+abbrev pub BeginsBad : WordForm → Type 0 → (Rows → Type 0) → RecoverFault → Type 0
+BeginsBad (Script store) tells held why = SaysFault tells held why
+BeginsBad other tells held why = ⊥
 
 -- nothing was committed
 pub record IsUntouched (held left held_now left_now : Rows → Type 0) : Type 0 where
@@ -48,11 +56,19 @@ HoldsFarm tells held left f = tells → HasRecorded held left f
 
 -- ---- opening
 
+-- whether it was the store that failed
+abbrev pub is_of_store : OpenFault → Bool
+is_of_store fault.Store = true
+is_of_store other = false
+
+abbrev pub is_store_failure : {T : Type 0} → Result T OpenFault → Bool
+is_store_failure (Ok done) = false
+is_store_failure (Err why) = is_of_store why
+
 -- the store failed, or memory ran out
-abbrev pub IsOpenFault : OpenFault → Type 0 → Type 0
-IsOpenFault fault.Store risen = risen
-IsOpenFault (fault.Bad why) risen = ⊥
-IsOpenFault fault.NoMemory risen = Unit {0}
+abbrev pub IsRecordFault : OpenFault → Type 0
+IsRecordFault (fault.Bad why) = ⊥
+IsRecordFault other = Unit {0}
 
 -- entries were recorded in turn, all or the first of them
 abbrev pub GoesThrough : {T : Type 0} → Farm → List Entry → Result T RecordFault → Farm → Type 0
@@ -74,11 +90,10 @@ of_record record_fault.NoMemory = fault.NoMemory
 
 -- a farm's opening was recorded, or a part of it
 abbrev pub Begins : {K : Type 0} → (K → Type 0) → (K → Rows → Type 0) → (K → Rows → Type 0) → (K → ℕ) → WordForm → ℕ → Recording K → Opening K → Type 0
-Begins tells held left faults form moment old (opening.Opened r) =
-    (r.farm ≡ opened_farm form old.farm moment) × (faults old.keeper ≤ faults r.keeper) × (tells r.keeper → tells old.keeper)
+Begins tells held left faults form moment old (opening.Opened r) = (r.farm ≡ opened_farm form old.farm moment) × Continues tells faults old.keeper r.keeper false
 Begins tells held left faults form moment old (opening.Failed now why) =
-    ((done : ℕ) × HoldsFarm (tells now) (held now) (left now) (run_of old.farm (take done (opening_entries form moment)))) × IsOpenFault why (HasRisen (faults old.keeper) (faults now))
-    × (faults old.keeper ≤ faults now) × (tells now → tells old.keeper)
+    ((done : ℕ) × HoldsFarm (tells now) (held now) (left now) (run_of old.farm (take done (opening_entries form moment)))) × IsRecordFault why
+    × Continues tells faults old.keeper now (is_of_store why)
 
 -- the farm was opened: that of the rows, with the entries of the opening, which are a legal run
 pub record IsOpened (says : Farm → Type 0) (form : WordForm) (moment : ℕ) (farm : Farm) : Type 0 where
@@ -103,9 +118,9 @@ IsOfRow recover_fault.NoMemory = ⊥
 
 -- why the rows of a store gave no farm: it failed, they say none, or memory ran out
 abbrev pub IsLoadFault : OpenFault → (RecoverFault → Type 0) → Type 0 → Type 0
-IsLoadFault fault.Store bad risen = risen
-IsLoadFault (fault.Bad why) bad risen = bad why × IsOfRow why
-IsLoadFault fault.NoMemory bad risen = Unit {0}
+IsLoadFault fault.Store bad failed = failed
+IsLoadFault (fault.Bad why) bad failed = bad why × IsOfRow why
+IsLoadFault fault.NoMemory bad failed = Unit {0}
 
 -- rows were recovered as they say, unless memory ran out
 abbrev pub HasRecovered : Result Farm RecoverFault → Result Farm OpenFault → Type 0
@@ -113,21 +128,21 @@ HasRecovered said (Ok f) = said ≡ Ok f
 HasRecovered said (Err why) = IsLoadFault why (λ bad. said ≡ Err bad) ⊥
 
 -- the rows that a keeper held were loaded, and give this farm; or they weren't, or give none
-abbrev pub IsLoaded : Type 0 → (Rows → Type 0) → Type 0 → Result Farm OpenFault → Type 0
-IsLoaded tells held risen (Ok f) = (list : List Row) × (tells → (rows : Rows) → held rows → Lists list rows) × (recovered list ≡ Ok f)
-IsLoaded tells held risen (Err why) = IsLoadFault why (SaysBad tells held) risen
+abbrev pub IsLoaded : Type 0 → (Rows → Type 0) → Result Farm OpenFault → Type 0
+IsLoaded tells held (Ok f) = (list : List Row) × (tells → (rows : Rows) → held rows → Lists list rows) × (recovered list ≡ Ok f)
+IsLoaded tells held (Err why) = IsLoadFault why (SaysFault tells held) (Unit {0})
 
 -- why it wasn't: the store failed; or its rows say no farm, and it is as it was; or memory ran out
-abbrev pub HasFailed : OpenFault → (RecoverFault → Type 0) → Type 0 → Type 0 → Type 0 → Type 0
-HasFailed fault.Store bad untouched part risen = risen × (untouched ⊎ part)
-HasFailed (fault.Bad why) bad untouched part risen = bad why × untouched × IsOfRow why
-HasFailed fault.NoMemory bad untouched part risen = untouched ⊎ part
+abbrev pub HasFailed : OpenFault → (RecoverFault → Type 0) → Type 0 → Type 0 → Type 0
+HasFailed (fault.Bad why) bad untouched part = bad why × untouched × IsOfRow why
+HasFailed other bad untouched part = untouched ⊎ part
 
--- a farm was opened, or not; the keeper's count of faults never falls, and one that doesn't tell the truth never does again
+-- A farm was opened, or not. The keeper's count of faults is one more where the store failed, and stands where it didn't; one that doesn't tell the truth
+-- never does again.
 abbrev pub Opens : {K : Type 0} → (K → Type 0) → (K → Rows → Type 0) → (K → Rows → Type 0) → (K → ℕ) → WordForm → ℕ → K → Opening K → Type 0
 Opens tells held left faults form moment old (opening.Opened r) =
-    IsOpened (Says (tells r.keeper) (held old)) form moment r.farm × (faults old ≤ faults r.keeper) × (tells r.keeper → tells old)
+    IsOpened (BeginsWith form (tells r.keeper) (held old)) form moment r.farm × Continues tells faults old r.keeper false
 Opens tells held left faults form moment old (opening.Failed now why) =
-    HasFailed why (SaysBad (tells now) (held old)) (tells now → IsUntouched (held old) (left old) (held now) (left now))
-    (IsPartOpened (Says (tells now) (held old)) (HoldsFarm (tells now) (held now) (left now)) form moment) (HasRisen (faults old) (faults now))
-    × (faults old ≤ faults now) × (tells now → tells old)
+    HasFailed why (BeginsBad form (tells now) (held old)) (tells now → IsUntouched (held old) (left old) (held now) (left now))
+    (IsPartOpened (BeginsWith form (tells now) (held old)) (HoldsFarm (tells now) (held now) (left now)) form moment)
+    × Continues tells faults old now (is_of_store why)

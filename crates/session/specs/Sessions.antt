@@ -1,22 +1,25 @@
 -- What a whole call does: what it took, wrote and read of the clock, the exchanges that it made, and how it ended.
-use Rattle.std.specs.Prelude.{◌≡◌, ◌↔◌, ◌≤◌, ◌<◌, ◌+◌, ◌^◌, ◌++◌, ◌∷◌, [], ◌⊎◌, ℕ, List, true, false, count_by, length, take, is_some, Option, Some, Result, Ok, Err}
+use Rattle.std.specs.Prelude.{◌≡◌, ◌↔◌, ◌<◌, ◌+◌, ◌^◌, ◌++◌, ◌∷◌, [], ◌⊎◌, ℕ, Bool, List, true, false, count_by, length, take, Option, Some, Result, Ok, Err}
 use Rattle.std.specs.List.{All}
 use Rattle.cue_io.specs.declared.line.LineFault.{LineFault}
 use Rattle.cue_io.specs.declared.line.LineFault.TheVariants as line_fault
 use Rattle.cue_io.specs.Faults.{HasRisen}
-use Rattle.cue_io.specs.History.{HasGiven, IsUnfinished}
+use Rattle.cue_io.specs.History.{AreAllLines, AreFirstLines, HasGiven, IsUnfinished}
 use Rattle.cue_io.specs.Input.{IsAtEnd, Takes}
-use Rattle.cue_io.specs.Lines.{lines_of}
 use Rattle.cue_io.specs.Output.{Adds}
 use Rattle.cue_io.specs.Reader.{Held, Given, Whole, Long, AtEnd, Goes}
 use Rattle.cue_io.specs.declared.limits.TheConstants.{BYTE_LIMIT}
 use Rattle.cue_io.specs.Readings.{Tells}
+use Rattle.command_line.specs.declared.status.Status.{Status}
+use Rattle.command_line.specs.declared.status.Status.TheVariants as exit
 use Rattle.farm_types.specs.Farm.{Farm}
 use Rattle.farm_types.specs.Run.{IsLegal, IsSafe, run_of}
 use Rattle.farm_keeper.specs.Faults.{last_count}
+use Rattle.farm_keeper.specs.Keeping.{Continues}
 use Rattle.farm_lines.specs.Reply.{bad_store_line, reply_text}
-use Rattle.farm_lines.specs.Transcript.{Mark, Exchange, answer_at, answer_to, transcript, farm_after, farm_next, entries_in, is_store_mark, lines_in, moments_in}
-use Rattle.line_answers.specs.LineAnswers.{HasCause, IsAnswer, IsMarked}
+use Rattle.farm_lines.specs.Transcript.{Mark, Plain, Exchange, answer_at, answer_to, transcript, farm_after, farm_next, entries_in, is_store_mark, lines_in, moments_in}
+use Rattle.line_answers.specs.LineAnswers.{IsAnswer, IsMarked}
+use Rattle.recorder.specs.Recording.{ChangesNone}
 use Rattle.recovery.specs.declared.fault.RecoverFault.{RecoverFault}
 use Rattle.recovery.specs.declared.fault.RecoverFault.TheVariants.{BadBytes, BreaksFarm, NoMemory}
 use Rattle.session.specs.declared.exchanged.Exchanged.{Exchanged}
@@ -40,9 +43,14 @@ abbrev pub MayStand : Given → Farm → ℕ → Mark → Type 0
 MayStand (Whole line) old moment mark = IsMarked old line moment mark
 MayStand other old moment mark = is_store_mark mark ≡ false
 
--- a line was answered, with the clock's reading, a number of 64 bits, and the mark; of the reply's text this was written, and this wasn't. The mark
--- is of the store only where that may be, and where the count of the keeper's faults rose.
-pub record IsExchange (given : Given) (old new : Farm) (wrote unwritten seen : List ℕ) (faults faults_now : ℕ) : Type 0 where
+-- the keeper is as before where nothing that is asked changes a row: so at a refusal, at a list, and at what is no request
+abbrev pub StaysAt : Given → Farm → ℕ → Type 0 → Type 0
+StaysAt (Whole line) f moment same = ChangesNone f (answer_to f line moment Plain).entries → same
+StaysAt other f moment same = same
+
+-- A line was answered, with the clock's reading, a number of 64 bits, and the mark; of the reply's text this was written, and this wasn't. The mark is of
+-- the store only where that may be. The keeper went on as the mark says.
+pub record IsExchange (given : Given) (old new : Farm) (wrote unwritten seen : List ℕ) (goes : Bool → Type 0) (same : Type 0) : Type 0 where
   pub moment : ℕ
   pub mark : Mark
   pub reply : List ℕ
@@ -50,25 +58,25 @@ pub record IsExchange (given : Given) (old new : Farm) (wrote unwritten seen : L
   pub read : seen ≡ moment ∷ []
   pub answers : Answers given old moment mark new reply
   pub may_stand : MayStand given old moment mark
-  pub cause : HasCause mark faults faults_now
-  pub rises : faults ≤ faults_now
+  pub keeper : goes (is_store_mark mark)
+  pub stays : StaysAt given old moment same
   pub written : wrote ++ unwritten ≡ reply
 
--- nothing was answered
-pub record IsNoExchange (old new : Farm) (wrote seen : List ℕ) (faults faults_now : ℕ) : Type 0 where
-  pub same : new ≡ old
-  pub no_fault : faults_now ≡ faults
+-- nothing was answered, and the keeper is as before
+pub record IsNoExchange (old new : Farm) (wrote seen : List ℕ) (same : Type 0) : Type 0 where
+  pub farm_same : new ≡ old
+  pub keeper_same : same
   pub none_written : wrote ≡ []
   pub none_read : seen ≡ []
 
 -- what came of a call of the reader, by what it gave
-abbrev pub Exchanges : Exchanged → Result Given LineFault → Farm → Farm → List ℕ → List ℕ → ℕ → ℕ → Type 0
-Exchanges exchanged.Went answer old new wrote seen faults faults_now = (given : Given) × (answer ≡ Ok given) × IsExchange given old new wrote [] seen faults faults_now
-Exchanges exchanged.Write answer old new wrote seen faults faults_now =
-    (given : Given) × (unwritten : List ℕ) × (answer ≡ Ok given) × (0 < length unwritten) × IsExchange given old new wrote unwritten seen faults faults_now
-Exchanges exchanged.End answer old new wrote seen faults faults_now = (answer ≡ Ok AtEnd) × IsNoExchange old new wrote seen faults faults_now
-Exchanges exchanged.Read answer old new wrote seen faults faults_now = (answer ≡ Err line_fault.Read) × IsNoExchange old new wrote seen faults faults_now
-Exchanges exchanged.Spent answer old new wrote seen faults faults_now = (answer ≡ Err line_fault.Spent) × IsNoExchange old new wrote seen faults faults_now
+abbrev pub Exchanges : Exchanged → Result Given LineFault → Farm → Farm → List ℕ → List ℕ → (Bool → Type 0) → Type 0 → Type 0
+Exchanges exchanged.Went answer old new wrote seen goes same = (given : Given) × (answer ≡ Ok given) × IsExchange given old new wrote [] seen goes same
+Exchanges exchanged.Write answer old new wrote seen goes same =
+    (given : Given) × (unwritten : List ℕ) × (answer ≡ Ok given) × (0 < length unwritten) × IsExchange given old new wrote unwritten seen goes same
+Exchanges exchanged.End answer old new wrote seen goes same = (answer ≡ Ok AtEnd) × IsNoExchange old new wrote seen same
+Exchanges exchanged.Read answer old new wrote seen goes same = (answer ≡ Err line_fault.Read) × IsNoExchange old new wrote seen same
+Exchanges exchanged.Spent answer old new wrote seen goes same = (answer ≡ Err line_fault.Spent) × IsNoExchange old new wrote seen same
 
 -- all of the reply's text was written, or a front of it
 abbrev pub Sends : Exchanged → List ℕ → List ℕ → Type 0
@@ -79,11 +87,12 @@ Sends exchanged.Read text wrote = ⊥
 Sends exchanged.Spent text wrote = ⊥
 
 -- one step: what the reader did with the bytes taken, and what was done with what it gave
-pub record IsStep (result : Exchanged) (old new : Held) (left : Option (List ℕ)) (before after : Farm) (took wrote seen : List ℕ) (faults faults_now : ℕ) : Type 0 where
+pub record IsStep (result : Exchanged) (old new : Held) (unread : Option (List ℕ)) (before after : Farm) (took wrote seen : List ℕ) (goes : Bool → Type 0)
+    (same : Type 0) : Type 0 where
   pub answer : Result Given LineFault
-  pub goes : Goes old took answer new
-  pub at_end : old.ended ≡ false → new.ended ≡ true → IsAtEnd left
-  pub exchanges : Exchanges result answer before after wrote seen faults faults_now
+  pub moves : Goes old took answer new
+  pub at_end : old.ended ≡ false → new.ended ≡ true → IsAtEnd unread
+  pub exchanges : Exchanges result answer before after wrote seen goes same
 
 -- ---- what a call took, wrote and read
 
@@ -96,7 +105,7 @@ pub record Call : Type 0 where
 
 -- what a source has left, a sink was given and a clock has to come, each where it tells it, and the counts of faults, the keeper's too
 pub record Streams : Type 0 where
-  pub left : Option (List ℕ)
+  pub unread : Option (List ℕ)
   pub read_faults : ℕ
   pub written : Option (List ℕ)
   pub write_faults : ℕ
@@ -104,12 +113,12 @@ pub record Streams : Type 0 where
   pub store_faults : ℕ
 
 abbrev pub streams : Option (List ℕ) → ℕ → Option (List ℕ) → ℕ → Option (List ℕ) → ℕ → Streams
-streams left read_faults written write_faults readings store_faults =
-    record { left = left; read_faults = read_faults; written = written; write_faults = write_faults; readings = readings; store_faults = store_faults }
+streams unread read_faults written write_faults readings store_faults =
+    record { unread = unread; read_faults = read_faults; written = written; write_faults = write_faults; readings = readings; store_faults = store_faults }
 
 -- the bytes taken are the first that were left, those written came behind the earlier ones, and the readings are those that were to come
 pub record HasMoved (before after : Streams) (call : Call) : Type 0 where
-  pub taken : Takes before.left after.left call.taken
+  pub taken : Takes before.unread after.unread call.taken
   pub written : Adds before.written after.written call.written
   pub readings : Tells before.readings after.readings call.readings
 
@@ -124,43 +133,52 @@ abbrev pub AreMarked : Farm → List Exchange → Type 0
 AreMarked f [] = Unit {0}
 AreMarked f (t ∷ ts) = IsMarked f t.line t.moment t.mark × AreMarked (farm_next f t) ts
 
--- the count of the keeper's faults rose for each of them, or stands where no count can go up
-abbrev pub HaveCauses : List Exchange → ℕ → ℕ → Type 0
-HaveCauses ts faults faults_now = (faults + store_marks ts ≤ faults_now) ⊎ (last_count ≤ faults_now)
+-- The count of the keeper's faults rose by exactly so many, or stands at its last value.
+abbrev pub HasRisenBy : ℕ → ℕ → ℕ → Type 0
+HasRisenBy marks faults faults_now = (faults_now ≡ faults + marks) ⊎ (faults_now ≡ last_count)
+
+-- ---- the keeper, line by line
+
+-- How a keeper went on over one line: its count of faults is one more exactly where the line's mark is of the store; and it is as before where nothing
+-- that the line asks changes a row.
+pub record GoesOnAt {K : Type 0} (tells : K → Type 0) (faults : K → ℕ) (f : Farm) (t : Exchange) (before now : K) : Type 0 where
+  pub keeper : Continues tells faults before now (is_store_mark t.mark)
+  pub stays : ChangesNone f (answer_to f t.line t.moment Plain).entries → now ≡ before
+
+-- over lines in turn, each with the keeper as the next line finds it
+abbrev pub GoesOnOver : {K : Type 0} → (K → Type 0) → (K → ℕ) → Farm → List Exchange → K → K → Type 0
+GoesOnOver tells faults f [] before now = now ≡ before
+GoesOnOver {K = K} tells faults f (t ∷ ts) before now = (next : K) × GoesOnAt tells faults f t before next × GoesOnOver tells faults (farm_next f t) ts next now
+
+-- from the opening of a farm on, in which no call of it failed
+abbrev pub GoesOnOpened : {K : Type 0} → (K → Type 0) → (K → ℕ) → K → K → Farm → List Exchange → Type 0
+GoesOnOpened {K = K} tells faults given now f ts = (opened : K) × Continues tells faults given opened false × GoesOnOver tells faults f ts opened now
 
 -- ---- a whole session
 
--- these exchanges were made, each at a moment of 64 bits: the farm is the one after them, and the bytes written are their transcript
-pub record HasAnswered (first : Farm) (exchanges : List Exchange) (farm : Farm) (wrote seen : List ℕ) (faults faults_now : ℕ) : Type 0 where
+-- these exchanges were made, each at a moment of 64 bits: the farm is the one after them, the bytes written are their transcript, and the keeper went on so
+pub record HasAnswered (first : Farm) (exchanges : List Exchange) (farm : Farm) (wrote seen : List ℕ) (goes_on : List Exchange → Type 0) : Type 0 where
   pub farm_is : farm ≡ farm_after first exchanges
   pub replies : wrote ≡ transcript first exchanges
   pub moments : seen ≡ moments_in exchanges
   pub within : All (λ (t : Exchange). t.moment < 2 ^ 64) exchanges
   pub marked : AreMarked first exchanges
-  pub causes : HaveCauses exchanges faults faults_now
+  pub keeper : goes_on exchanges
 
 -- these exchanges were made, and their lines are those that the reader gave of the bytes taken
-pub record HasServed (first : Farm) (call : Call) (farm : Farm) (reader : Held) (left : Option (List ℕ)) (faults faults_now : ℕ) : Type 0 where
-  pub answered : HasAnswered first call.exchanges farm call.written call.readings faults faults_now
-  pub given : HasGiven LINE_LIMIT call.taken (lines_in call.exchanges) reader left
+pub record HasServed (first : Farm) (call : Call) (farm : Farm) (reader : Held) (unread : Option (List ℕ)) (goes_on : List Exchange → Type 0) : Type 0 where
+  pub answered : HasAnswered first call.exchanges farm call.written call.readings goes_on
+  pub given : HasGiven LINE_LIMIT call.taken (lines_in call.exchanges) reader unread
 
--- the lines are all those of the bytes taken, and the source has none left
-pub record AreAllLines (taken : List ℕ) (lines : List (List ℕ)) (left : Option (List ℕ)) : Type 0 where
-  pub cut : lines_of taken ≡ lines
-  pub none_left : IsAtEnd left
-
--- the lines are the first of the bytes taken, cut at their newlines
-abbrev pub AreFirstLines : List ℕ → List (List ℕ) → Type 0
-AreFirstLines taken lines = (rest : List (List ℕ)) × (lines_of taken ≡ lines ++ rest)
-
--- The lines that were answered, of the bytes taken, by how the session ended: all; or each whole one, and what was taken after it has no
--- newline; or the first ones. It ends as Spent exactly where the bytes that one session takes are spent and each whole line is answered.
+-- The lines that were answered, of the bytes taken, by how the session ended: all; or each whole one, and what was taken after it has no newline; or the
+-- first ones, which are whole or, at the end of the source, all there was. It ends as Spent exactly where the bytes that one session takes are spent and
+-- each whole line is answered.
 abbrev pub HasLines : Exchanged → List ℕ → List (List ℕ) → Option (List ℕ) → Type 0
-HasLines exchanged.Went taken lines left = ⊥
-HasLines exchanged.End taken lines left = AreAllLines taken lines left × (length taken < BYTE_LIMIT)
-HasLines exchanged.Read taken lines left = IsUnfinished taken lines × (length taken < BYTE_LIMIT)
-HasLines exchanged.Spent taken lines left = IsUnfinished taken lines × (length taken ≡ BYTE_LIMIT)
-HasLines exchanged.Write taken lines left = AreFirstLines taken lines
+HasLines exchanged.Went taken lines unread = ⊥
+HasLines exchanged.End taken lines unread = AreAllLines taken lines unread × (length taken < BYTE_LIMIT)
+HasLines exchanged.Read taken lines unread = IsUnfinished taken lines × (length taken < BYTE_LIMIT)
+HasLines exchanged.Spent taken lines unread = IsUnfinished taken lines × (length taken ≡ BYTE_LIMIT)
+HasLines exchanged.Write taken lines unread = AreFirstLines taken lines unread
 
 -- The exchanges are those before and one last: the replies of those before were written, and a part of the last one's.
 pub record EndsInReply (first : Farm) (exchanges : List Exchange) (wrote : List ℕ) : Type 0 where
@@ -178,40 +196,40 @@ abbrev pub HasReplies : Exchanged → Farm → List Exchange → List ℕ → Ty
 HasReplies exchanged.Write first exchanges wrote = EndsInReply first exchanges wrote
 HasReplies ended first exchanges wrote = wrote ≡ transcript first exchanges
 
--- how a session ended that began with this farm, and left that one
-pub record Ends (ended : Exchanged) (first last : Farm) (call : Call) (left : Option (List ℕ)) (faults faults_now : ℕ) : Type 0 where
-  pub lines : HasLines ended call.taken (lines_in call.exchanges) left
+-- how a session ended that began with this farm, and went on to that one
+pub record EndsSession (ended : Exchanged) (first last : Farm) (call : Call) (unread : Option (List ℕ)) (goes_on : List Exchange → Type 0) : Type 0 where
+  pub lines : HasLines ended call.taken (lines_in call.exchanges) unread
   pub replies : HasReplies ended first call.exchanges call.written
   pub moments : call.readings ≡ moments_in call.exchanges
   pub within : All (λ (t : Exchange). t.moment < 2 ^ 64) call.exchanges
   pub farm_is : last ≡ farm_after first call.exchanges
   pub marked : AreMarked first call.exchanges
-  pub causes : HaveCauses call.exchanges faults faults_now
+  pub keeper : goes_on call.exchanges
 
 -- ---- the call
 
 -- the status of a session, by how it ended
-abbrev pub status_of : Exchanged → ℕ
-status_of exchanged.Went = 0
-status_of exchanged.End = 0
-status_of exchanged.Read = 4
-status_of exchanged.Write = 5
-status_of exchanged.Spent = 8
+abbrev pub status_of : Exchanged → Status
+status_of exchanged.Went = exit.Done
+status_of exchanged.End = exit.Done
+status_of exchanged.Read = exit.ReadFailed
+status_of exchanged.Write = exit.WriteFailed
+status_of exchanged.Spent = exit.Spent
 
 -- A session over a farm that was opened ended with this status. The entries that it recorded are a legal run from that farm, and a safe one, and the
 -- store holds the farm that they make.
-pub record AnswersAll (status : ℕ) (first : Farm) (before after : Streams) (call : Call) (holds : Farm → Type 0) : Type 0 where
+pub record AnswersAll (status : Status) (first : Farm) (before after : Streams) (call : Call) (goes_on : List Exchange → Type 0) (holds : Farm → Type 0) : Type 0 where
   pub ended : Exchanged
   pub last : Farm
   pub status_is : status ≡ status_of ended
   pub moved : HasMoved before after call
-  pub ends : Ends ended first last call after.left before.store_faults after.store_faults
+  pub ends : EndsSession ended first last call after.unread goes_on
   pub legal : IsLegal first (entries_in first call.exchanges)
   pub safe : IsSafe first (entries_in first call.exchanges)
   pub held : holds last
 
 -- A load over a farm that was opened moved nothing but its sink and the keeper.
-pub record AnswersLoadCall (n : ℕ) (status : ℕ) (first : Farm) (before after : Streams) (call : Call) (holds : Farm → Type 0) : Type 0 where
+pub record AnswersLoadCall (n : ℕ) (status : Status) (first : Farm) (before after : Streams) (call : Call) (holds : Farm → Type 0) : Type 0 where
   pub moved : HasMoved before after call
   pub none_taken : call.taken ≡ []
   pub none_read : call.readings ≡ []
@@ -219,40 +237,44 @@ pub record AnswersLoadCall (n : ℕ) (status : ℕ) (first : Farm) (before after
   pub answered : AnswersLoad n first status call.written before.store_faults after.store_faults holds
 
 -- what the arguments ask for was done over a farm that was opened
-abbrev pub AnswersForm : WordForm → ℕ → Farm → Streams → Streams → Call → (Farm → Type 0) → Type 0
-AnswersForm (Load n) status first before after call holds = AnswersLoadCall n status first before after call holds
-AnswersForm other status first before after call holds = AnswersAll status first before after call holds
+abbrev pub AnswersForm : WordForm → Status → Farm → Streams → Streams → Call → (List Exchange → Type 0) → (Farm → Type 0) → Type 0
+AnswersForm (Load n) status first before after call goes_on holds = AnswersLoadCall n status first before after call holds
+AnswersForm other status first before after call goes_on holds = AnswersAll status first before after call goes_on holds
 
--- The arguments ask for a session of lines, and the farm of the store was opened at the clock's first reading, with the entries of the form. The session over it
--- ended with this status. Its lines are those of the bytes taken, and what it wrote are their replies, each at a reading of the clock. The entries that
--- it recorded are a legal run from the opened farm, and a safe one, and the store holds the farm that they make.
-pub record IsSession (words : List (List ℕ)) (status : ℕ) (call : Call) (left : Option (List ℕ)) (faults faults_now : ℕ) (says holds : Farm → Type 0) : Type 0 where
+-- The arguments ask for a session of lines, and the farm of the store was opened at the clock's first reading, with the entries of the form. The session
+-- over it ended with this status. Its lines are those of the bytes taken, and what it wrote are their replies, each at a reading of the clock. The entries that
+-- it recorded are a legal run from the opened farm, and a safe one, and the store holds the farm that they make. The keeper's count of faults rose by
+-- exactly as many as there are marks of the store, one at the line of each.
+pub record IsSession (words : List (List ℕ)) (status : Status) (call : Call) (unread : Option (List ℕ)) (faults faults_now : ℕ)
+    (says : WordForm → Farm → Type 0) (goes_on : Farm → List Exchange → Type 0) (holds : Farm → Type 0) : Type 0 where
   pub form : WordForm
   pub opened : ℕ
   pub ended : Exchanged
   pub first : Farm
   pub formed : form_of words ≡ Some form
   pub of_lines : TakesLines form
-  pub said : says first
+  pub said : says form first
   pub status_is : status ≡ status_of ended
-  pub lines : HasLines ended call.taken (lines_in call.exchanges) left
+  pub lines : HasLines ended call.taken (lines_in call.exchanges) unread
   pub replies : HasReplies ended (opened_farm form first opened) call.exchanges call.written
   pub readings : call.readings ≡ opened ∷ moments_in call.exchanges
   pub opening_legal : IsLegal first (opening_entries form opened)
   pub legal : IsLegal (opened_farm form first opened) (entries_in (opened_farm form first opened) call.exchanges)
   pub safe : IsSafe (opened_farm form first opened) (entries_in (opened_farm form first opened) call.exchanges)
   pub marked : AreMarked (opened_farm form first opened) call.exchanges
-  pub causes : HaveCauses call.exchanges faults faults_now
+  pub keeper : goes_on (opened_farm form first opened) call.exchanges
+  pub causes : HasRisenBy (store_marks call.exchanges) faults faults_now
   pub held : holds (farm_after (opened_farm form first opened) call.exchanges)
 
 -- The arguments ask for a load, and its farm was opened, at moment 0: the clock was read once, for nothing, and no line was taken. The load was run over
 -- that farm.
-pub record IsLoadCall (words : List (List ℕ)) (status : ℕ) (call : Call) (faults faults_now : ℕ) (says holds : Farm → Type 0) : Type 0 where
+pub record IsLoadCall (words : List (List ℕ)) (status : Status) (call : Call) (faults faults_now : ℕ) (says : WordForm → Farm → Type 0)
+    (holds : Farm → Type 0) : Type 0 where
   pub n : ℕ
   pub reading : ℕ
   pub first : Farm
   pub formed : form_of words ≡ Some (Load n)
-  pub said : says first
+  pub said : says (Load n) first
   pub readings : call.readings ≡ reading ∷ []
   pub none_taken : call.taken ≡ []
   pub no_lines : call.exchanges ≡ []
@@ -260,70 +282,93 @@ pub record IsLoadCall (words : List (List ℕ)) (status : ℕ) (call : Call) (fa
   pub answered : AnswersLoad n (opened_farm (Load n) first reading) status call.written faults faults_now holds
 
 -- The opening, at the clock's one reading, went so far: these of its entries, which are a legal run, are in the store.
-pub record IsOpening (words : List (List ℕ)) (call : Call) (says holds : Farm → Type 0) : Type 0 where
+pub record IsOpening (words : List (List ℕ)) (call : Call) (says : WordForm → Farm → Type 0) (holds : Farm → Type 0) : Type 0 where
   pub form : WordForm
   pub opened : ℕ
   pub first : Farm
   pub done : ℕ
   pub formed : form_of words ≡ Some form
-  pub said : says first
+  pub said : says form first
   pub readings : call.readings ≡ opened ∷ []
   pub opening_legal : IsLegal first (opening_entries form opened)
   pub held : holds (run_of first (take done (opening_entries form opened)))
 
--- The arguments are invalid, or the store failed or memory ran out before the first line: nothing was taken or written.
-pub record IsNoSession (words : List (List ℕ)) (status : ℕ) (call : Call) (says : Farm → Type 0) (untouched : Type 0) (holds : Farm → Type 0) : Type 0 where
-  pub status_is : (status ≡ 2) ⊎ ((status ≡ 3) ⊎ (status ≡ 7))
+-- The arguments are invalid, or memory ran out before anything was done: nothing was taken or written, the clock wasn't read, and the keeper is the one
+-- that was handed in.
+pub record IsUnstarted (status : Status) (before after : Streams) (call : Call) (same : Type 0) : Type 0 where
+  pub status_is : (status ≡ exit.WrongWords) ⊎ (status ≡ exit.NoMemory)
+  pub still : after ≡ before
   pub none_taken : call.taken ≡ []
   pub none_written : call.written ≡ []
+  pub none_read : call.readings ≡ []
+  pub no_lines : call.exchanges ≡ []
+  pub keeper_same : same
+
+-- The store failed or memory ran out in the opening, at the clock's one reading: nothing was taken or written.
+pub record IsUnopened (words : List (List ℕ)) (status : Status) (call : Call) (says : WordForm → Farm → Type 0) (untouched : Type 0)
+    (holds : Farm → Type 0) : Type 0 where
+  pub status_is : (status ≡ exit.StoreFailed) ⊎ (status ≡ exit.NoMemory)
+  pub reading : ℕ
+  pub readings : call.readings ≡ reading ∷ []
+  pub none_taken : call.taken ≡ []
+  pub none_written : call.written ≡ []
+  pub no_lines : call.exchanges ≡ []
   pub kept : untouched ⊎ IsOpening words call says holds
 
 -- all of the line was written, or a write failed and a front of it was
-abbrev pub TellsLine : List ℕ → ℕ → List ℕ → Type 0
-TellsLine line status wrote = ((status ≡ 6) × (wrote ≡ line)) ⊎ ((status ≡ 5) × (unwritten : List ℕ) × (0 < length unwritten) × (wrote ++ unwritten ≡ line))
+abbrev pub TellsLine : List ℕ → Status → List ℕ → Type 0
+TellsLine line status wrote =
+    ((status ≡ exit.BadStore) × (wrote ≡ line)) ⊎ ((status ≡ exit.WriteFailed) × (unwritten : List ℕ) × (0 < length unwritten) × (wrote ++ unwritten ≡ line))
 
 -- the row at fault was told
-abbrev pub TellsBad : RecoverFault → ℕ → List ℕ → Type 0
+abbrev pub TellsBad : RecoverFault → Status → List ℕ → Type 0
 TellsBad (BadBytes kind id) status wrote = TellsLine (bad_store_line kind id) status wrote
 TellsBad (BreaksFarm kind id) status wrote = TellsLine (bad_store_line kind id) status wrote
 TellsBad NoMemory status wrote = ⊥
 
 -- it was told, or memory ran out for its line
-abbrev pub MayTell : Type 0 → ℕ → List ℕ → Type 0
-MayTell told status wrote = told ⊎ ((status ≡ 7) × (wrote ≡ []))
+abbrev pub MayTell : Type 0 → Status → List ℕ → Type 0
+MayTell told status wrote = told ⊎ ((status ≡ exit.NoMemory) × (wrote ≡ []))
 
 -- what is told where no farm was opened: of the store's failure and of memory the status alone, and of a row at fault its line
-abbrev pub TellsFault : OpenFault → ℕ → List ℕ → Type 0
-TellsFault fault.Store status wrote = (status ≡ 3) × (wrote ≡ [])
+abbrev pub TellsFault : OpenFault → Status → List ℕ → Type 0
+TellsFault fault.Store status wrote = (status ≡ exit.StoreFailed) × (wrote ≡ [])
 TellsFault (fault.Bad why) status wrote = MayTell (TellsBad why status wrote) status wrote
-TellsFault fault.NoMemory status wrote = (status ≡ 7) × (wrote ≡ [])
+TellsFault fault.NoMemory status wrote = (status ≡ exit.NoMemory) × (wrote ≡ [])
 
--- The store's rows say no farm: the first one at fault was told, nothing was taken, and the store is as it was.
-pub record IsBadStore (status : ℕ) (call : Call) (bad : RecoverFault → Type 0) (untouched : Type 0) : Type 0 where
+-- The store's rows, which were read at the clock's one reading, say no farm: the first one at fault was told, nothing was taken, and the store is as it was.
+pub record IsBadStore (words : List (List ℕ)) (status : Status) (call : Call) (bad : WordForm → RecoverFault → Type 0) (untouched : Type 0) : Type 0 where
+  pub form : WordForm
   pub fault : RecoverFault
-  pub is_bad : bad fault
+  pub reading : ℕ
+  pub formed : form_of words ≡ Some form
+  pub is_bad : bad form fault
   pub told : TellsBad fault status call.written
+  pub readings : call.readings ≡ reading ∷ []
   pub none_taken : call.taken ≡ []
+  pub no_lines : call.exchanges ≡ []
   pub kept : untouched
 
 -- the input was read to its end, each of its lines answered, or the job of a load finished; or memory ran out, and nothing was taken or written
-abbrev pub EndsEarly : ℕ → Call → Type 0
-EndsEarly status call = (status ≡ 0) ⊎ ((status ≡ 7) × (call.taken ≡ []) × (call.written ≡ []))
+abbrev pub EndsEarly : Status → Call → Type 0
+EndsEarly status call = (status ≡ exit.Done) ⊎ ((status ≡ exit.NoMemory) × (call.taken ≡ []) × (call.written ≡ []))
 
 -- or the job of a load isn't finished after the most rounds
-abbrev pub EndsWell : Option WordForm → ℕ → Call → Type 0
-EndsWell (Some (Load n)) status call = EndsEarly status call ⊎ (status ≡ 8)
+abbrev pub EndsWell : WordForm → Status → Call → Type 0
+EndsWell (Load n) status call = EndsEarly status call ⊎ (status ≡ exit.Spent)
 EndsWell other status call = EndsEarly status call
 
--- A call for these arguments that answered this status. Of its keeper it is known which farm its rows say, or why they say none, that it is as it was, or
--- that it holds a farm. It was a session, a load, or none. But for a load, status 8 comes exactly where the bytes that one session
--- takes are spent and no write failed. Where the arguments are valid and the store's rows say a farm, nothing but an I/O error, a fault of the store and
--- that limit ends the call early.
-pub record IsCall (words : List (List ℕ)) (status : ℕ) (before after : Streams) (call : Call) (says : Farm → Type 0) (bad : RecoverFault → Type 0) (untouched : Type 0)
-    (holds : Farm → Type 0) : Type 0 where
+-- A call for these arguments that answered this status. Of its keeper it is known which farm is said, or why none is, that it is the one that was handed
+-- in, that its rows are as they were, how it went on line by line, or that it holds a farm. It was a session, a load, or none. But for a load, status 8
+-- comes exactly where the bytes that one session takes are spent and no write failed. Where the arguments are valid and a farm is said, nothing but an I/O
+-- error, a fault of the store and that limit ends the call early.
+pub record IsCall (words : List (List ℕ)) (status : Status) (before after : Streams) (call : Call) (says : WordForm → Farm → Type 0)
+    (bad : WordForm → RecoverFault → Type 0) (same untouched : Type 0) (goes_on : Farm → List Exchange → Type 0) (holds : Farm → Type 0) : Type 0 where
   pub moved : HasMoved before after call
-  pub session : IsNoSession words status call says untouched holds ⊎ (IsBadStore status call bad untouched
-      ⊎ (IsSession words status call after.left before.store_faults after.store_faults says holds ⊎ IsLoadCall words status call before.store_faults after.store_faults says holds))
-  pub spent : is_load (form_of words) ≡ false → (status ≡ 8) ↔ ((length call.taken ≡ BYTE_LIMIT) × (status ≡ 5 → ⊥))
-  pub complete : is_some (form_of words) ≡ true → ((fault : RecoverFault) → bad fault → ⊥) → (HasRisen before.store_faults after.store_faults → ⊥)
-      → (HasRisen before.read_faults after.read_faults → ⊥) → (HasRisen before.write_faults after.write_faults → ⊥) → length call.taken < BYTE_LIMIT → EndsWell (form_of words) status call
+  pub session : IsUnstarted status before after call same ⊎ (IsUnopened words status call says untouched holds ⊎ (IsBadStore words status call bad untouched
+      ⊎ (IsSession words status call after.unread before.store_faults after.store_faults says goes_on holds
+      ⊎ IsLoadCall words status call before.store_faults after.store_faults says holds)))
+  pub spent : is_load (form_of words) ≡ false → (status ≡ exit.Spent) ↔ ((length call.taken ≡ BYTE_LIMIT) × (status ≡ exit.WriteFailed → ⊥))
+  pub complete : (form : WordForm) → form_of words ≡ Some form → ((fault : RecoverFault) → bad form fault → ⊥)
+      → (HasRisen before.store_faults after.store_faults → ⊥) → (HasRisen before.read_faults after.read_faults → ⊥)
+      → (HasRisen before.write_faults after.write_faults → ⊥) → length call.taken < BYTE_LIMIT → EndsWell form status call

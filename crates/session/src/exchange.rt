@@ -6,6 +6,7 @@ ghost use Rattle.cue_io.specs.Input.{Takes};
 ghost use Rattle.cue_io.specs.Output.{Adds};
 ghost use Rattle.cue_io.specs.Reader.{IsPending};
 ghost use Rattle.cue_io.specs.Readings.{Tells};
+ghost use Rattle.farm_keeper.specs.Keeping.{Continues};
 ghost use Rattle.session.specs.Sessions.{IsStep, Sends};
 ghost use Rattle.line_answers.specs.Lines.{shown};
 ghost use Rattle.farm_lines.specs.declared.limits.TheConstants.{LINE_LIMIT};
@@ -29,13 +30,13 @@ pub fn exchange<S: Source, W: Sink, K: Keeper, C: Clock>(
     requires limit { reader.old.limit ≡ LINE_LIMIT }
     requires pending { (pending : List ℕ) × IsPending reader.old pending }
     ensures step { (took wrote seen : List ℕ) × Takes (S.left source.old) (S.left source.new) took × Adds (W.written sink.old) (W.written sink.new) wrote
-        × Tells (C.readings clock.old) (C.readings clock.new) seen × IsStep result reader.old reader.new (S.left source.new) recorder.old.farm recorder.new.farm took wrote seen
-        (K.faults recorder.old.keeper) (K.faults recorder.new.keeper) }
+        × Tells (C.readings clock.old) (C.readings clock.new) seen
+        × IsStep result reader.old reader.new (S.left source.new) recorder.old.farm recorder.new.farm took wrote seen
+        (Continues K.tells K.faults recorder.old.keeper recorder.new.keeper) (recorder.new.keeper ≡ recorder.old.keeper) }
     ensures read { result ≡ Exchanged.Read → HasRisen (S.faults source.old) (S.faults source.new) }
     ensures write { result ≡ Exchanged.Write → HasRisen (W.faults sink.old) (W.faults sink.new) }
     ensures source { S.faults source.old ≤ S.faults source.new }
     ensures sink { W.faults sink.old ≤ W.faults sink.new }
-    ensures told { K.tells recorder.new.keeper → K.tells recorder.old.keeper }
 {
     match reader.next(source) {
         Ok(Line::Bytes(line)) => {

@@ -3,6 +3,7 @@
 
 mod exchange;
 mod exchanged;
+mod laws;
 mod load;
 mod number;
 mod opening;
@@ -12,7 +13,8 @@ mod serve;
 mod word_forms;
 mod words;
 
+pub use laws::{stops_keep_acknowledged_lines, stops_keep_farms};
 pub use program::run_program;
-pub use run::{Status, run_cuebot};
+pub use run::run_cuebot;
 pub use word_forms::form;
 pub use words::Form;

@@ -4,7 +4,7 @@ ghost use Rattle.std.specs.Prelude.{◌≡◌, ◌≤◌};
 ghost use Rattle.std.specs.Option.{IfSome};
 ghost use Rattle.session.specs.Words.{checked_between, number_between};
 
-use number_words::number_of;
+use farm_lines::number_of;
 
 /// The number that 1 to 10 decimal digits write, where it is one from `least` to `most`. Zeros may stand in front.
 pub(crate) fn read_number(text: &str, least: u32, most: u32) -> Option<u32>

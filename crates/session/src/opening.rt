@@ -1,14 +1,12 @@
 //! The farm that a session begins with.
 
-ghost use Rattle.std.specs.Prelude.{◌≡◌, ◌≤◌, ◌∷◌, []};
-ghost use Rattle.std.specs.Result.{IsErrOf};
+ghost use Rattle.std.specs.Prelude.{◌≡◌, ◌∷◌, []};
 ghost use Rattle.farm_law.specs.DemoRun.{demo_entries};
 ghost use Rattle.farm_types.specs.Run.{IsLegal, IsLegalStep};
-ghost use Rattle.recorder.specs.declared.refusal.RecordFault.TheVariants as fault;
-ghost use Rattle.farm_keeper.specs.Faults.{HasRisen};
-ghost use Rattle.farm_keeper.specs.Keeping.{Keeps};
+ghost use Rattle.recorder.specs.Faults.{is_store_fault};
+ghost use Rattle.farm_keeper.specs.Keeping.{Continues, Keeps};
 ghost use Rattle.recovery.specs.Recovered.{recovered};
-ghost use Rattle.session.specs.Opening.{Begins, GoesThrough, HasRecovered, IsLoaded, MayOpen, Opens, of_keeper, of_record, of_recovery};
+ghost use Rattle.session.specs.Opening.{Begins, GoesThrough, HasRecovered, IsLoaded, MayOpen, Opens, is_store_failure, of_keeper, of_record, of_recovery};
 ghost use Rattle.farm_gen.specs.Load.{IsLoad, load_entries};
 ghost use Rattle.session.specs.Words.{IsScript, IsStated, IsWithin, opened_at, opened_entry, opening_entries, word_form};
 
@@ -19,7 +17,7 @@ use farm_keeper::{Keeper, KeeperFault, Row};
 use farm_law::the_demonstration_is_a_run;
 use farm_types::{Act, Entry};
 use recorder::{CommitRefusal, PlainRecorder, RecordFault};
-use recovery::{RecoverFault, no_rows_are_the_empty_farm, recover, rows_recovered_are_the_farms};
+use recovery::{RecoverFault, recover, rows_recovered_are_the_farms};
 use std::alloc::Global;
 
 /// Why no farm was opened: the store failed, the first of its rows at fault is this one, or memory ran out.
@@ -57,7 +55,6 @@ fn open_new<K: Keeper>(alloc: Global, form: Form<'_>, keeper: K, moment: u64) ->
     requires kept { K.tells keeper → MayOpen (word_form form) (K.holds keeper) (K.left keeper) }
     ensures { Opens K.tells K.holds K.left K.faults (word_form form.entry) moment keeper result }
 {
-    no_rows_are_the_empty_farm();
     the_demonstration_is_a_run();
     loads_are_runs();
     match Farm::make(alloc) {
@@ -85,11 +82,10 @@ fn open_stored<K: Keeper>(alloc: Global, form: Form<'_>, keeper: K, moment: u64)
 
 // The farm that the keeper's rows say.
 fn load_farm<K: Keeper>(alloc: Global, keeper: &mut K) -> Result<Farm, OpenFault>
-    ensures farm { IsLoaded (K.tells keeper.new) (K.holds keeper.old) (HasRisen (K.faults keeper.old) (K.faults keeper.new)) result }
-    ensures told { K.tells keeper.new → K.tells keeper.old }
+    ensures farm { IsLoaded (K.tells keeper.new) (K.holds keeper.old) result }
+    ensures keeper { Continues K.tells K.faults keeper.old keeper.new (is_store_failure result) }
     ensures kept { Keeps (K.holds keeper.old) (K.holds keeper.new) }
     ensures left { Keeps (K.left keeper.new) (K.left keeper.old) }
-    ensures rises { K.faults keeper.old ≤ K.faults keeper.new }
 {
     match keeper.load(alloc) {
         Ok(rows) => recover_farm(alloc, rows.as_slice()),
@@ -138,9 +134,7 @@ fn record_opening<K: Keeper>(
     requires within { IsWithin (word_form form) }
     requires legal { IsLegal recorder.old.farm (opening_entries (word_form form) moment) }
     ensures farm { GoesThrough recorder.old.farm (opening_entries (word_form form.entry) moment) result recorder.new.farm }
-    ensures told { K.tells recorder.new.keeper → K.tells recorder.old.keeper }
-    ensures cause { IsErrOf result fault.Store → HasRisen (K.faults recorder.old.keeper) (K.faults recorder.new.keeper) }
-    ensures rises { K.faults recorder.old.keeper ≤ K.faults recorder.new.keeper }
+    ensures keeper { Continues K.tells K.faults recorder.old.keeper recorder.new.keeper (is_store_fault result) }
 {
     record_opened(alloc, recorder, opened_at(form, moment))?;
     match form {
@@ -168,9 +162,7 @@ fn record_opened<K: Keeper>(
 ) -> Result<(), RecordFault>
     requires { IsLegalStep recorder.old.farm (opened_entry moment) }
     ensures farm { GoesThrough recorder.old.farm (opened_entry moment ∷ []) result recorder.new.farm }
-    ensures told { K.tells recorder.new.keeper → K.tells recorder.old.keeper }
-    ensures cause { IsErrOf result fault.Store → HasRisen (K.faults recorder.old.keeper) (K.faults recorder.new.keeper) }
-    ensures rises { K.faults recorder.old.keeper ≤ K.faults recorder.new.keeper }
+    ensures keeper { Continues K.tells K.faults recorder.old.keeper recorder.new.keeper (is_store_fault result) }
 {
     let opened = Entry {
         moment,
@@ -187,9 +179,7 @@ fn record_demo<K: Keeper>(
 ) -> Result<(), RecordFault>
     requires { IsLegal recorder.old.farm (demo_entries moment) }
     ensures farm { GoesThrough recorder.old.farm (demo_entries moment) result recorder.new.farm }
-    ensures told { K.tells recorder.new.keeper → K.tells recorder.old.keeper }
-    ensures cause { IsErrOf result fault.Store → HasRisen (K.faults recorder.old.keeper) (K.faults recorder.new.keeper) }
-    ensures rises { K.faults recorder.old.keeper ≤ K.faults recorder.new.keeper }
+    ensures keeper { Continues K.tells K.faults recorder.old.keeper recorder.new.keeper (is_store_fault result) }
 {
     let entries = demo_entries(alloc, moment)?;
     record_each(alloc, recorder, entries.as_slice())
@@ -204,9 +194,7 @@ fn record_load<K: Keeper>(
     requires load { IsLoad n }
     requires legal { IsLegal recorder.old.farm (load_entries n) }
     ensures farm { GoesThrough recorder.old.farm (load_entries n) result recorder.new.farm }
-    ensures told { K.tells recorder.new.keeper → K.tells recorder.old.keeper }
-    ensures cause { IsErrOf result fault.Store → HasRisen (K.faults recorder.old.keeper) (K.faults recorder.new.keeper) }
-    ensures rises { K.faults recorder.old.keeper ≤ K.faults recorder.new.keeper }
+    ensures keeper { Continues K.tells K.faults recorder.old.keeper recorder.new.keeper (is_store_fault result) }
 {
     let entries = load_entries(alloc, n)?;
     record_each(alloc, recorder, entries.as_slice())
@@ -220,9 +208,7 @@ fn record_each<K: Keeper>(
 ) -> Result<(), RecordFault>
     requires { IsLegal recorder.old.farm entries.now }
     ensures farm { GoesThrough recorder.old.farm entries.now result recorder.new.farm }
-    ensures told { K.tells recorder.new.keeper → K.tells recorder.old.keeper }
-    ensures cause { IsErrOf result fault.Store → HasRisen (K.faults recorder.old.keeper) (K.faults recorder.new.keeper) }
-    ensures rises { K.faults recorder.old.keeper ≤ K.faults recorder.new.keeper }
+    ensures keeper { Continues K.tells K.faults recorder.old.keeper recorder.new.keeper (is_store_fault result) }
 {
     for entry in entries {
         record(alloc, recorder, entry)?;
@@ -238,9 +224,7 @@ fn record<K: Keeper>(
 ) -> Result<(), RecordFault>
     requires { IsLegalStep recorder.old.farm entry.now }
     ensures farm { GoesThrough recorder.old.farm (entry.now ∷ []) result recorder.new.farm }
-    ensures told { K.tells recorder.new.keeper → K.tells recorder.old.keeper }
-    ensures cause { IsErrOf result fault.Store → HasRisen (K.faults recorder.old.keeper) (K.faults recorder.new.keeper) }
-    ensures rises { K.faults recorder.old.keeper ≤ K.faults recorder.new.keeper }
+    ensures keeper { Continues K.tells K.faults recorder.old.keeper recorder.new.keeper (is_store_fault result) }
 {
     match recorder.commit(alloc, entry) {
         Ok(_) => Ok(()),

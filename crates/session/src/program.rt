@@ -3,14 +3,15 @@
 ghost use Rattle.std.specs.Prelude.{◌≡◌, ◌↔◌, None, Some};
 ghost use Rattle.cue_io.specs.Faults.{HasRisen};
 ghost use Rattle.farm_keeper.specs.Faults as keeper_faults;
-ghost use Rattle.session.specs.Opening.{HoldsFarm, IsUntouched, MayOpen, Says, SaysBad};
+ghost use Rattle.session.specs.Opening.{BeginsBad, BeginsWith, HoldsFarm, IsUntouched, MayOpen};
 ghost use Rattle.session.specs.Hints.{HasTold, hint_of};
-ghost use Rattle.session.specs.Sessions.{Call, IsCall, streams};
+ghost use Rattle.session.specs.Sessions.{Call, GoesOnOpened, IsCall, streams};
 ghost use Rattle.session.specs.Words.{WordForm, form_of};
 
-use crate::run::{Status, run_cuebot};
+use crate::run::run_cuebot;
 use crate::word_forms::form;
 use crate::words::Form;
+use command_line::Status;
 use cue_io::{Clock, Sink, Source, write_all};
 use farm_keeper::Keeper;
 use farm_types::Text;
@@ -35,27 +36,28 @@ pub fn run_program<S: Source, W: Sink, E: Sink, K: Keeper, C: Clock>(
 ) -> (Status, K)
     requires { (form : WordForm) → form_of words.now ≡ Some form → K.tells keeper → MayOpen form (K.holds keeper) (K.left keeper) }
 
-    // Status 2 comes exactly where the words are invalid.
-    ensures usage { (result.0 ≡ 2) ↔ (form_of words.now ≡ None) }
+    // WrongWords comes exactly where the words are invalid, and then nothing is read, written or loaded.
+    ensures usage { (result.0 ≡ Status.WrongWords) ↔ (form_of words.now ≡ None) }
+    ensures nothing { form_of words.now ≡ None → (source.new ≡ source.old) × (sink.new ≡ sink.old) × (clock.new ≡ clock.old) × (result.1 ≡ keeper) }
 
     // What was taken, written and read of the clock, and the exchanges, as `run_cuebot` says.
     ensures call { (call : Call) × IsCall words.now result.0
         (streams (S.left source.old) (S.faults source.old) (W.written sink.old) (W.faults sink.old) (C.readings clock.old) (K.faults keeper))
         (streams (S.left source.new) (S.faults source.new) (W.written sink.new) (W.faults sink.new) (C.readings clock.new) (K.faults result.1)) call
-        (Says (K.tells result.1) (K.holds keeper)) (SaysBad (K.tells result.1) (K.holds keeper))
-        (K.tells result.1 → IsUntouched (K.holds keeper) (K.left keeper) (K.holds result.1) (K.left result.1))
-        (HoldsFarm (K.tells result.1) (K.holds result.1) (K.left result.1)) }
+        (λ form. BeginsWith form (K.tells result.1) (K.holds keeper)) (λ form. BeginsBad form (K.tells result.1) (K.holds keeper))
+        (result.1 ≡ keeper) (K.tells result.1 → IsUntouched (K.holds keeper) (K.left keeper) (K.holds result.1) (K.left result.1))
+        (GoesOnOpened K.tells K.faults keeper result.1) (HoldsFarm (K.tells result.1) (K.holds result.1) (K.left result.1)) }
 
     // A fault of the store, a failed read or a failed write is told only where the keeper's, the source's or the sink's count of faults rose in this call.
-    ensures store { result.0 ≡ 3 → keeper_faults.HasRisen (K.faults keeper) (K.faults result.1) }
-    ensures read { result.0 ≡ 4 → HasRisen (S.faults source.old) (S.faults source.new) }
-    ensures write { result.0 ≡ 5 → HasRisen (W.faults sink.old) (W.faults sink.new) }
+    ensures store { result.0 ≡ Status.StoreFailed → keeper_faults.HasRisen (K.faults keeper) (K.faults result.1) }
+    ensures read { result.0 ≡ Status.ReadFailed → HasRisen (S.faults source.old) (S.faults source.new) }
+    ensures write { result.0 ≡ Status.WriteFailed → HasRisen (W.faults sink.old) (W.faults sink.new) }
 
     // The hint was written, and nothing else was written there.
     ensures hint { HasTold (hint_of (form_of words.now) at_terminal) (E.written errors.old) (E.written errors.new)
         (HasRisen (E.faults errors.old) (E.faults errors.new)) }
 {
-    tell(errors, hint_for(words, at_terminal));
+    write_hint(errors, hint_for(words, at_terminal));
     run_cuebot(alloc, words, source, sink, keeper, clock)
 }
 
@@ -72,7 +74,7 @@ fn hint_for(words: &[Text], at_terminal: bool) -> &'static str
 }
 
 // Writes the hint, and passes over what can't be written of it.
-fn tell<E: Sink>(errors: &mut E, hint: &str)
+fn write_hint<E: Sink>(errors: &mut E, hint: &str)
     ensures { HasTold hint.now (E.written errors.old) (E.written errors.new) (HasRisen (E.faults errors.old) (E.faults errors.new)) }
 {
     match write_all(errors, hint.as_bytes()) {

@@ -7,8 +7,8 @@ ghost use Rattle.cue_io.specs.Reader.{new_reader};
 ghost use Rattle.farm_keeper.specs.Faults as keeper_faults;
 ghost use Rattle.farm_lines.specs.Reply.{bad_store_line};
 ghost use Rattle.farm_lines.specs.declared.limits.TheConstants.{LINE_LIMIT};
-ghost use Rattle.session.specs.Opening.{HoldsFarm, IsUntouched, MayOpen, Says, SaysBad};
-ghost use Rattle.session.specs.Sessions.{AnswersAll, AnswersForm, Call, IsCall, MayTell, TellsBad, TellsFault, TellsLine, status_of, streams};
+ghost use Rattle.session.specs.Opening.{BeginsBad, BeginsWith, HoldsFarm, IsUntouched, MayOpen};
+ghost use Rattle.session.specs.Sessions.{AnswersAll, AnswersForm, Call, GoesOnOpened, GoesOnOver, IsCall, MayTell, TellsBad, TellsFault, TellsLine, status_of, streams};
 ghost use Rattle.session.specs.Words.{IsWithin, WordForm, form_of, word_form};
 
 use crate::exchanged::Exchanged;
@@ -17,6 +17,7 @@ use crate::opening::{OpenFault, Opening, open};
 use crate::serve::serve;
 use crate::word_forms::form;
 use crate::words::Form;
+use command_line::Status;
 use cue_io::{Clock, LineReader, Sink, Source, write_all};
 use farm_keeper::Keeper;
 use farm_law::legal_runs_are_safe;
@@ -28,25 +29,15 @@ use recovery::RecoverFault;
 use report_codec::write_bad_store;
 use std::alloc::Global;
 
-/// What a program answers the system: 0 at the end of the input, or where a load's job finished and its summary was written; 2 for invalid arguments, 3 where the store failed before the first line, 4 for a
-/// failed read, 5 for a failed write, 6 where the store's rows are no farm, 7 where memory ran out before the first line, or in a load, and 8 where the bytes that one
-/// session takes are spent, or a load's job isn't finished after 20,000 rounds.
-pub type Status = u8;
-
-const USAGE: Status = 2;
-
-const STORE: Status = 3;
-
-const WRITE: Status = 5;
-
-const BAD_STORE: Status = 6;
-
-const NO_MEMORY: Status = 7;
-
 /// Runs `cuebot` for the words after its name over a keeper of rows, and gives the keeper back: opens the farm of the rows at the clock's first reading,
-/// and answers the source's lines in the sink, each at the clock's next reading, until the source ends or an I/O error comes. A load takes nothing of the source: it is run
-/// over its farm, and its summary is written. No commit of the keeper was
-/// refused since the last one that it took, and for `demo` and `load` it holds no rows. Where its rows are no farm, a line in the sink tells the first one at fault.
+/// and answers the source's lines in the sink, each at the clock's next reading, until the source ends or an I/O error comes. A load takes nothing of the
+/// source: it is run over its farm, and its summary is written. No commit of the keeper was refused since the last one that it took, and for `demo` and
+/// `load` it holds no rows. Where its rows are no farm, a line in the sink tells the first one at fault.
+///
+/// The status is Done at the end of the input, or where a load's job finished and its summary was written; WrongWords for invalid arguments, StoreFailed
+/// where the store failed before the first line, ReadFailed and WriteFailed for a failed read or write, BadStore where the store's rows are no farm,
+/// NoMemory where memory ran out before the first line, or in a load, and Spent where the bytes that one session takes are spent, or a load's job isn't
+/// finished after 20,000 rounds.
 pub fn run_cuebot<S: Source, W: Sink, K: Keeper, C: Clock>(
     alloc: Global,
     words: &[Text],
@@ -57,29 +48,30 @@ pub fn run_cuebot<S: Source, W: Sink, K: Keeper, C: Clock>(
 ) -> (Status, K)
     requires { (form : WordForm) → form_of words.now ≡ Some form → K.tells keeper → MayOpen form (K.holds keeper) (K.left keeper) }
 
-    // Status 2 comes exactly where the words are invalid.
-    ensures usage { (result.0 ≡ 2) ↔ (form_of words.now ≡ None) }
+    // WrongWords comes exactly where the words are invalid, and then nothing is read, written or loaded.
+    ensures usage { (result.0 ≡ Status.WrongWords) ↔ (form_of words.now ≡ None) }
+    ensures nothing { form_of words.now ≡ None → (source.new ≡ source.old) × (sink.new ≡ sink.old) × (clock.new ≡ clock.old) × (result.1 ≡ keeper) }
 
     // What was taken, written and read of the clock, and the exchanges: the bytes written are the replies to the lines taken, the entries
-    // recorded are a legal and safe run from the opened farm, the keeper holds the farm that they make, and nothing but an I/O error, a fault of the
-    // store or the limit of bytes ends the call before the input does.
+    // recorded are a legal and safe run from the opened farm, the keeper holds the farm that they make and failed exactly at the lines that tell of the
+    // store, and nothing but an I/O error, a fault of the store or the limit of bytes ends the call before the input does.
     ensures call { (call : Call) × IsCall words.now result.0
         (streams (S.left source.old) (S.faults source.old) (W.written sink.old) (W.faults sink.old) (C.readings clock.old) (K.faults keeper))
         (streams (S.left source.new) (S.faults source.new) (W.written sink.new) (W.faults sink.new) (C.readings clock.new) (K.faults result.1)) call
-        (Says (K.tells result.1) (K.holds keeper)) (SaysBad (K.tells result.1) (K.holds keeper))
-        (K.tells result.1 → IsUntouched (K.holds keeper) (K.left keeper) (K.holds result.1) (K.left result.1))
-        (HoldsFarm (K.tells result.1) (K.holds result.1) (K.left result.1)) }
+        (λ form. BeginsWith form (K.tells result.1) (K.holds keeper)) (λ form. BeginsBad form (K.tells result.1) (K.holds keeper))
+        (result.1 ≡ keeper) (K.tells result.1 → IsUntouched (K.holds keeper) (K.left keeper) (K.holds result.1) (K.left result.1))
+        (GoesOnOpened K.tells K.faults keeper result.1) (HoldsFarm (K.tells result.1) (K.holds result.1) (K.left result.1)) }
 
     // A fault of the store, a failed read or a failed write is told only where the keeper's, the source's or the sink's count of faults rose in this call.
-    ensures store { result.0 ≡ 3 → keeper_faults.HasRisen (K.faults keeper) (K.faults result.1) }
-    ensures read { result.0 ≡ 4 → HasRisen (S.faults source.old) (S.faults source.new) }
-    ensures write { result.0 ≡ 5 → HasRisen (W.faults sink.old) (W.faults sink.new) }
+    ensures store { result.0 ≡ Status.StoreFailed → keeper_faults.HasRisen (K.faults keeper) (K.faults result.1) }
+    ensures read { result.0 ≡ Status.ReadFailed → HasRisen (S.faults source.old) (S.faults source.new) }
+    ensures write { result.0 ≡ Status.WriteFailed → HasRisen (W.faults sink.old) (W.faults sink.new) }
 {
     let Some(form) = form(words) else {
-        return (USAGE, keeper);
+        return (Status::WrongWords, keeper);
     };
     let Ok(mut reader) = LineReader::make(alloc, LINE_LIMIT as usize) else {
-        return (NO_MEMORY, keeper);
+        return (Status::NoMemory, keeper);
     };
     let moment = clock.now();
     match open(alloc, form, keeper, moment) {
@@ -111,10 +103,11 @@ fn answer_opened<S: Source, W: Sink, K: Keeper, C: Clock>(
     ensures answered { (call : Call) × AnswersForm (word_form form.entry) result.0 recorder.farm
         (streams (S.left source.old) (S.faults source.old) (W.written sink.old) (W.faults sink.old) (C.readings clock.old) (K.faults recorder.keeper))
         (streams (S.left source.new) (S.faults source.new) (W.written sink.new) (W.faults sink.new) (C.readings clock.new) (K.faults result.1)) call
+        (λ exchanges. GoesOnOver K.tells K.faults recorder.farm exchanges recorder.keeper result.1)
         (HoldsFarm (K.tells result.1) (K.holds result.1) (K.left result.1)) }
     ensures told { K.tells result.1 → K.tells recorder.keeper }
-    ensures read { result.0 ≡ 4 → HasRisen (S.faults source.old) (S.faults source.new) }
-    ensures write { result.0 ≡ 5 → HasRisen (W.faults sink.old) (W.faults sink.new) }
+    ensures read { result.0 ≡ Status.ReadFailed → HasRisen (S.faults source.old) (S.faults source.new) }
+    ensures write { result.0 ≡ Status.WriteFailed → HasRisen (W.faults sink.old) (W.faults sink.new) }
 {
     match form {
         Form::Demo | Form::Script { .. } => {
@@ -137,10 +130,11 @@ fn answer_all<S: Source, W: Sink, K: Keeper, C: Clock>(
     ensures answered { (call : Call) × AnswersAll result.0 recorder.farm
         (streams (S.left source.old) (S.faults source.old) (W.written sink.old) (W.faults sink.old) (C.readings clock.old) (K.faults recorder.keeper))
         (streams (S.left source.new) (S.faults source.new) (W.written sink.new) (W.faults sink.new) (C.readings clock.new) (K.faults result.1)) call
+        (λ exchanges. GoesOnOver K.tells K.faults recorder.farm exchanges recorder.keeper result.1)
         (HoldsFarm (K.tells result.1) (K.holds result.1) (K.left result.1)) }
     ensures told { K.tells result.1 → K.tells recorder.keeper }
-    ensures read { result.0 ≡ 4 → HasRisen (S.faults source.old) (S.faults source.new) }
-    ensures write { result.0 ≡ 5 → HasRisen (W.faults sink.old) (W.faults sink.new) }
+    ensures read { result.0 ≡ Status.ReadFailed → HasRisen (S.faults source.old) (S.faults source.new) }
+    ensures write { result.0 ≡ Status.WriteFailed → HasRisen (W.faults sink.old) (W.faults sink.new) }
 {
     let mut recorder = recorder;
     recorder.read().kept();
@@ -153,38 +147,39 @@ fn answer_all<S: Source, W: Sink, K: Keeper, C: Clock>(
 // Tells why no farm was opened, with a line where a row is at fault.
 fn tell_fault<W: Sink>(alloc: Global, sink: &mut W, fault: OpenFault) -> Status
     ensures told { (wrote : List ℕ) × Adds (W.written sink.old) (W.written sink.new) wrote × TellsFault fault result wrote }
-    ensures write { result ≡ 5 → HasRisen (W.faults sink.old) (W.faults sink.new) }
+    ensures write { result ≡ Status.WriteFailed → HasRisen (W.faults sink.old) (W.faults sink.new) }
 {
     match fault {
-        OpenFault::Store => STORE,
+        OpenFault::Store => Status::StoreFailed,
         OpenFault::Bad { fault } => tell_bad(alloc, sink, fault),
-        OpenFault::NoMemory => NO_MEMORY,
+        OpenFault::NoMemory => Status::NoMemory,
     }
 }
 
 // Tells the row at fault.
 fn tell_bad<W: Sink>(alloc: Global, sink: &mut W, fault: RecoverFault) -> Status
     ensures told { (wrote : List ℕ) × Adds (W.written sink.old) (W.written sink.new) wrote × MayTell (TellsBad fault result wrote) result wrote }
-    ensures write { result ≡ 5 → HasRisen (W.faults sink.old) (W.faults sink.new) }
+    ensures write { result ≡ Status.WriteFailed → HasRisen (W.faults sink.old) (W.faults sink.new) }
 {
     match fault {
         RecoverFault::BadBytes { kind, id } => tell_row(alloc, sink, kind, id),
         RecoverFault::BreaksFarm { kind, id } => tell_row(alloc, sink, kind, id),
-        RecoverFault::NoMemory => NO_MEMORY,
+        RecoverFault::NoMemory => Status::NoMemory,
     }
 }
 
 // Tells that the row of this kind and id is at fault.
 fn tell_row<W: Sink>(alloc: Global, sink: &mut W, kind: u8, id: u64) -> Status
-    ensures told { (wrote : List ℕ) × Adds (W.written sink.old) (W.written sink.new) wrote × MayTell (TellsLine (bad_store_line kind id) result wrote) result wrote }
-    ensures write { result ≡ 5 → HasRisen (W.faults sink.old) (W.faults sink.new) }
+    ensures told { (wrote : List ℕ) × Adds (W.written sink.old) (W.written sink.new) wrote
+        × MayTell (TellsLine (bad_store_line kind id) result wrote) result wrote }
+    ensures write { result ≡ Status.WriteFailed → HasRisen (W.faults sink.old) (W.faults sink.new) }
 {
     let Ok(line) = write_bad_store(alloc, kind, id) else {
-        return NO_MEMORY;
+        return Status::NoMemory;
     };
     match write_all(sink, line.as_str().as_bytes()) {
-        Ok(()) => BAD_STORE,
-        Err(_) => WRITE,
+        Ok(()) => Status::BadStore,
+        Err(_) => Status::WriteFailed,
     }
 }
 
@@ -193,9 +188,9 @@ fn status(ended: Exchanged) -> Status
     ensures { result ≡ status_of ended }
 {
     match ended {
-        Exchanged::Went | Exchanged::End => 0,
-        Exchanged::Read => 4,
-        Exchanged::Write => 5,
-        Exchanged::Spent => 8,
+        Exchanged::Went | Exchanged::End => Status::Done,
+        Exchanged::Read => Status::ReadFailed,
+        Exchanged::Write => Status::WriteFailed,
+        Exchanged::Spent => Status::Spent,
     }
 }

@@ -3,7 +3,7 @@
 ghost use Rattle.std.specs.Prelude.{◌≡◌};
 ghost use Rattle.cue_io.specs.Faults.{HasRisen};
 ghost use Rattle.cue_io.specs.Reader.{new_reader};
-ghost use Rattle.session.specs.Sessions.{Call, Ends, HasMoved, streams};
+ghost use Rattle.session.specs.Sessions.{Call, EndsSession, GoesOnOver, HasMoved, streams};
 ghost use Rattle.farm_lines.specs.declared.limits.TheConstants.{LINE_LIMIT};
 
 use crate::exchange::exchange;
@@ -26,10 +26,10 @@ pub fn serve<S: Source, W: Sink, K: Keeper, C: Clock>(
     ensures ends { (call : Call) × HasMoved
         (streams (S.left source.old) (S.faults source.old) (W.written sink.old) (W.faults sink.old) (C.readings clock.old) (K.faults recorder.old.keeper))
         (streams (S.left source.new) (S.faults source.new) (W.written sink.new) (W.faults sink.new) (C.readings clock.new) (K.faults recorder.new.keeper)) call
-        × Ends result recorder.old.farm recorder.new.farm call (S.left source.new) (K.faults recorder.old.keeper) (K.faults recorder.new.keeper) }
+        × EndsSession result recorder.old.farm recorder.new.farm call (S.left source.new)
+        (λ exchanges. GoesOnOver K.tells K.faults recorder.old.farm exchanges recorder.old.keeper recorder.new.keeper) }
     ensures read { result ≡ Exchanged.Read → HasRisen (S.faults source.old) (S.faults source.new) }
     ensures write { result ≡ Exchanged.Write → HasRisen (W.faults sink.old) (W.faults sink.new) }
-    ensures told { K.tells recorder.new.keeper → K.tells recorder.old.keeper }
 {
     'exchanges: loop {
         match exchange(alloc, recorder, reader, source, sink, clock) {

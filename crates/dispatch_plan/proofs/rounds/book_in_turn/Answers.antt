@@ -1,4 +1,8 @@
-use Rattle.dispatch_plan.proofs.UnderWay.{no_less, then_offered}
+use Rattle.std.proofs.Common.{ap, false, sym, ◌∙◌}
+use Rattle.farm_keeper.proofs.KeepingLaws.{Continues-as, Continues-then}
+use Rattle.recorder.specs.Faults.{is_store_fault}
+use Rattle.dispatch_plan.specs.Rounds.{is_store_cut}
+use Rattle.dispatch_plan.proofs.UnderWay.{store_cut, then_offered, then_stopped, unstored_at}
 use Rattle.dispatch_plan.proofs.rounds.book_in_turn.Goals as goal
 
 pub loop-candidate-preserved : goal.loop-candidate-preserved
@@ -7,8 +11,37 @@ loop-candidate-preserved g c = record {
       then_offered c.args.recorder.now.farm c.args.moment c.args.candidates.now c.loop-candidate.left c.loop-candidate.recorder.farm c.candidate-item.result
       c.loop-candidate.candidate-index c.loop-candidate-test.true c.candidate-item.is c.loop-candidate.invariant.round c.offer.new.recorder.farm c.in-Ok.left
       c.in-Ok.ensures.went;
-  told = λ tells. c.loop-candidate.invariant.told (c.in-Ok.ensures.told tells);
-  rises =
-      no_less (g.K.Keeper.faults c.args.recorder.now.keeper) (g.K.Keeper.faults c.loop-candidate.recorder.keeper) (g.K.Keeper.faults c.offer.new.recorder.keeper)
-      c.loop-candidate.invariant.rises c.in-Ok.ensures.rises;
+  keeper =
+      Continues-then g.K.Keeper.tells g.K.Keeper.faults c.args.recorder.now.keeper c.loop-candidate.recorder.keeper c.offer.new.recorder.keeper false
+      c.loop-candidate.invariant.keeper
+      (Continues-as g.K.Keeper.tells g.K.Keeper.faults c.loop-candidate.recorder.keeper c.offer.new.recorder.keeper (is_store_fault c.offer.result) false
+      (ap is_store_fault c.in-Ok.is) c.offer.ensures.keeper);
+  same = λ none.
+      c.offer.ensures.same (unstored_at c.args.recorder.now.farm c.args.moment c.args.candidates.now c.loop-candidate.left c.loop-candidate.recorder.farm c.candidate-item.result
+      c.loop-candidate.candidate-index c.loop-candidate-test.true c.candidate-item.is c.loop-candidate.invariant.round none)
+      ∙ c.loop-candidate.invariant.same none;
 }
+
+pub returns-in-Err-clause-round : goal.returns-in-Err-clause-round
+returns-in-Err-clause-round g c =
+    then_stopped c.args.recorder.now.farm c.args.moment c.args.candidates.now c.loop-candidate.left c.loop-candidate.recorder.farm c.candidate-item.result c.cut_by.result
+    c.cut_by.ensures.booked c.loop-candidate.candidate-index c.loop-candidate-test.true c.candidate-item.is c.loop-candidate.invariant.round c.offer.new.recorder.farm
+    c.in-Err.fault c.cut_by.ensures.cut c.in-Err.ensures.failed
+
+pub returns-in-Err-clause-keeper : goal.returns-in-Err-clause-keeper
+returns-in-Err-clause-keeper g c =
+    Continues-then g.K.Keeper.tells g.K.Keeper.faults c.args.recorder.now.keeper c.loop-candidate.recorder.keeper c.offer.new.recorder.keeper (is_store_cut c.cut_by.result.cut)
+    c.loop-candidate.invariant.keeper
+    (Continues-as g.K.Keeper.tells g.K.Keeper.faults c.loop-candidate.recorder.keeper c.offer.new.recorder.keeper (is_store_fault c.offer.result)
+    (is_store_cut c.cut_by.result.cut) (ap is_store_fault c.in-Err.is ∙ store_cut c.in-Err.fault c.cut_by.result c.cut_by.ensures.cut) c.offer.ensures.keeper)
+
+pub returns-in-Err-clause-same : goal.returns-in-Err-clause-same
+returns-in-Err-clause-same g c = λ none.
+    c.offer.ensures.same (unstored_at c.args.recorder.now.farm c.args.moment c.args.candidates.now c.loop-candidate.left c.loop-candidate.recorder.farm c.candidate-item.result
+    c.loop-candidate.candidate-index c.loop-candidate-test.true c.candidate-item.is c.loop-candidate.invariant.round none)
+    ∙ c.loop-candidate.invariant.same none
+
+pub returns-clause-keeper : goal.returns-clause-keeper
+returns-clause-keeper g c =
+    Continues-as g.K.Keeper.tells g.K.Keeper.faults c.args.recorder.now.keeper c.loop-candidate.recorder.keeper false (is_store_cut c.walked.result.cut)
+    (sym (ap is_store_cut c.walked.ensures.cut)) c.loop-candidate.invariant.keeper

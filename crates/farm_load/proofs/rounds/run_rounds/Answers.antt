@@ -1,6 +1,7 @@
 use Rattle.std.proofs.Common.{◌≡◌, ◌<◌, false, arith, rules}
+use Rattle.farm_keeper.specs.Keeping.{Continues}
 use Rattle.farm_load.specs.Loads.{has_finished, most_reports}
-use Rattle.farm_load.proofs.RunLemmas.{begins, breaks_off, goes_on, no_less}
+use Rattle.farm_load.proofs.RunLemmas.{begins, breaks_off, goes_on}
 use Rattle.farm_load.proofs.rounds.run_rounds.Goals as goal
 
 -- src/rounds.rt:54:5
@@ -9,7 +10,6 @@ loop-reports-init g c =
     record {
       running = begins c.args.n c.args.recorder.now.farm c.args.hosts.items (g.K.Keeper.faults c.args.recorder.now.keeper) c.requires.hosts;
       told = λ tells. tells;
-      rises = omega arith;
     }
 
 -- src/rounds.rt:59:13
@@ -19,8 +19,9 @@ returns-in_default-clause-run g c =
     let going : has_finished f ≡ false = search rules in
     let left : c.loop-reports.reports < most_reports = omega arith in
     breaks_off c.args.n c.args.recorder.now.farm f c.loop-reports.reports c.loop-reports.hosts.items c.loop-reports.counts (g.K.Keeper.faults c.args.recorder.now.keeper)
-    (g.K.Keeper.faults c.loop-reports.recorder.keeper) (g.K.Keeper.faults c.take_turn.new.recorder.keeper) c.take_turn.result c.take_turn.new.recorder.farm c.take_turn.new.hosts.items
-    c.take_turn.new.counts c.loop-reports.invariant.running going left c.take_turn.ensures.turn c.take_turn.ensures.rises
+    (g.K.Keeper.faults c.loop-reports.recorder.keeper) (g.K.Keeper.faults c.take_turn.new.recorder.keeper)
+    (Continues g.K.Keeper.tells g.K.Keeper.faults c.loop-reports.recorder.keeper c.take_turn.new.recorder.keeper) c.take_turn.result c.take_turn.new.recorder.farm c.take_turn.new.hosts.items
+    c.take_turn.new.counts c.loop-reports.invariant.running going left c.take_turn.ensures (λ b goes. goes.counted)
 
 -- src/rounds.rt:54:5
 pub loop-reports-preserved : goal.loop-reports-preserved
@@ -31,10 +32,12 @@ loop-reports-preserved g c =
     record {
       running =
           goes_on c.args.n c.args.recorder.now.farm f c.loop-reports.reports c.loop-reports.hosts.items c.loop-reports.counts (g.K.Keeper.faults c.args.recorder.now.keeper)
-          (g.K.Keeper.faults c.loop-reports.recorder.keeper) (g.K.Keeper.faults c.take_turn.new.recorder.keeper) c.in-Ok.field-0 c.take_turn.new.recorder.farm c.take_turn.new.hosts.items
-          c.take_turn.new.counts c.loop-reports.invariant.running going left c.in-Ok.ensures.turn c.in-Ok.ensures.rises;
-      told = λ tells. c.loop-reports.invariant.told (c.in-Ok.ensures.told tells);
-      rises =
-          no_less (g.K.Keeper.faults c.args.recorder.now.keeper) (g.K.Keeper.faults c.loop-reports.recorder.keeper) (g.K.Keeper.faults c.take_turn.new.recorder.keeper)
-          c.loop-reports.invariant.rises c.in-Ok.ensures.rises;
+          (g.K.Keeper.faults c.loop-reports.recorder.keeper) (g.K.Keeper.faults c.take_turn.new.recorder.keeper)
+          (Continues g.K.Keeper.tells g.K.Keeper.faults c.loop-reports.recorder.keeper c.take_turn.new.recorder.keeper) c.in-Ok.field-0 c.take_turn.new.recorder.farm c.take_turn.new.hosts.items
+          c.take_turn.new.counts c.loop-reports.invariant.running going left c.in-Ok.ensures (λ b goes. goes.counted);
+      told = λ tells. c.loop-reports.invariant.told (c.in-Ok.ensures.keeper.told tells);
     }
+
+-- src/rounds.rt:59:13
+pub returns-in_default-clause-told : goal.returns-in_default-clause-told
+returns-in_default-clause-told g c = λ tells. c.loop-reports.invariant.told (c.take_turn.ensures.keeper.told tells)

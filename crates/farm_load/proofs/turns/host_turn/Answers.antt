@@ -1,4 +1,5 @@
-use Rattle.std.proofs.Common.{ℕ, sym, subst}
+use Rattle.std.proofs.Common.{ℕ, refl, sym, subst}
+use Rattle.farm_keeper.specs.Keeping.{Continues}
 use Rattle.farm_types.specs.Formed.{IsFormed}
 use Rattle.farm_lines.specs.Asked.{heard_entry}
 use Rattle.farm_lines.specs.declared.report.Report.{Report}
@@ -8,10 +9,11 @@ use Rattle.farm_load.proofs.TurnLemmas.{not_reported}
 use Rattle.farm_load.proofs.turns.host_turn.Goals as goal
 
 -- src/turns.rt:69:18
-pub returns-in_err-report-clause-turn : goal.returns-in_err-report-clause-turn
-returns-in_err-report-clause-turn g c =
+pub returns-in_err-report : goal.returns-in_err-report
+returns-in_err-report g c =
     not_reported _ c.args.n c.args.recorder.now.farm (load_report c.args.n (round_after c.args.reports) c.args.host.now) (round_after c.args.reports) c.args.counts.now c.from_residual.result
-    (g.K.Keeper.faults c.args.recorder.now.keeper) c.from_residual.ensures.1
+    (Continues g.K.Keeper.tells g.K.Keeper.faults c.args.recorder.now.keeper c.args.recorder.now.keeper) c.from_residual.ensures.1
+    (record { told = λ tells. tells; counted = refl })
 
 -- src/turns.rt:70:5
 pub take_counted-requires-clause-formed : goal.take_counted-requires-clause-formed

@@ -1,5 +1,6 @@
 -- The change was recorded, or the store failed or memory ran out.
-use Rattle.std.proofs.Common.{Err, ap}
+use Rattle.farm_keeper.proofs.KeepingLaws.{Continues-as}
+use Rattle.recorder.specs.Faults.{is_store_refusal}
 use Rattle.line_answers.proofs.ReportLemmas.{made_told, store_told, unheard, was_heard}
 use Rattle.line_answers.proofs.answer_report.record_change.Goals as goal
 
@@ -11,8 +12,10 @@ returns-in_err-record-clause-farm g c =
     unheard c.args.recorder.now.farm c.record.new.self.farm c.args.entry.now c.args.change _ c.from_residual.result c.from_residual.ensures.1
     c.requires.of_entry.makes c.in_err-record.ensures.farm
 
-pub returns-in_err-record-clause-cause : goal.returns-in_err-record-clause-cause
-returns-in_err-record-clause-cause g c = λ is. c.in_err-record.ensures.cause (ap Err (store_told _ c.from_residual.result c.from_residual.ensures.1 is))
+pub returns-in_err-record-clause-keeper : goal.returns-in_err-record-clause-keeper
+returns-in_err-record-clause-keeper g c =
+    Continues-as g.K.Keeper.tells g.K.Keeper.faults c.args.recorder.now.keeper c.record.new.self.keeper _ (is_store_refusal c.from_residual.result)
+    (store_told _ c.from_residual.result c.from_residual.ensures.1) c.in_err-record.ensures.keeper
 
 pub returns-clause-farm : goal.returns-clause-farm
 returns-clause-farm g c =

@@ -1,4 +1,7 @@
 -- A change was prepared and recorded, or no change was prepared.
+use Rattle.std.proofs.Common.{false, sym}
+use Rattle.farm_keeper.proofs.KeepingLaws.{Continues-as, Continues-same}
+use Rattle.recorder.specs.Faults.{is_store_refusal}
 use Rattle.line_answers.proofs.AnswerLemmas.{entry_made}
 use Rattle.line_answers.proofs.ReportLemmas.{heard_condition, never_store, unprepared}
 use Rattle.line_answers.proofs.answer_report.record_heard.Goals as goal
@@ -14,5 +17,10 @@ record_change-requires-clause-of_entry g c =
 pub returns-in_err-change-clause-farm : goal.returns-in_err-change-clause-farm
 returns-in_err-change-clause-farm g c = unprepared c.args.recorder.now.farm c.args.entry.now _ c.from_residual.result c.from_residual.ensures.1 c.in_err-change.ensures
 
-pub returns-in_err-change-clause-cause : goal.returns-in_err-change-clause-cause
-returns-in_err-change-clause-cause g c = λ is. absurd (never_store _ c.from_residual.result c.from_residual.ensures.1 is)
+pub returns-in_err-change-clause-keeper : goal.returns-in_err-change-clause-keeper
+returns-in_err-change-clause-keeper g c =
+    Continues-as g.K.Keeper.tells g.K.Keeper.faults c.args.recorder.now.keeper c.args.recorder.now.keeper false (is_store_refusal c.from_residual.result)
+    (sym (never_store _ c.from_residual.result c.from_residual.ensures.1)) (Continues-same g.K.Keeper.tells g.K.Keeper.faults c.args.recorder.now.keeper)
+
+pub returns-clause-same : goal.returns-clause-same
+returns-clause-same g c = λ unstored. c.record_change.ensures.same (unstored c.in_ok-change.ensures.accepted)

@@ -1,5 +1,7 @@
+use Rattle.farm_keeper.proofs.KeepingLaws.{Continues-as}
+use Rattle.recorder.specs.Faults.{is_store_fault}
 use Rattle.recorder.specs.Recording.{booking}
-use Rattle.recorder.proofs.Recorded.{booked_then, books_at_fault, stays_at_fault}
+use Rattle.recorder.proofs.Recorded.{booked_then, books_at_fault, passed_on, stays_at_fault}
 use Rattle.recorder.proofs.keeping.book_there.Goals as goal
 
 pub returns-in_err-keep_booking-clause-farm : goal.returns-in_err-keep_booking-clause-farm
@@ -19,3 +21,8 @@ returns-clause-kept g c =
     λ has.
     booked_then (g.K.Keeper.holds c.keep_booking.new.keeper) (g.K.Keeper.left c.keep_booking.new.keeper) c.args.farm.now c.book_if.new.self c.args.slot c.args.host c.args.moment
     c.requires c.book_if.ensures.farm (c.in_ok-keep_booking.ensures.kept has)
+
+pub returns-in_err-keep_booking-clause-keeper : goal.returns-in_err-keep_booking-clause-keeper
+returns-in_err-keep_booking-clause-keeper g c =
+    Continues-as g.K.Keeper.tells g.K.Keeper.faults c.args.keeper.now c.keep_booking.new.keeper _ (is_store_fault c.from_residual.result)
+    (passed_on _ c.from_residual.result c.from_residual.ensures.1) c.in_err-keep_booking.ensures.keeper

@@ -1,4 +1,4 @@
-use Rattle.recorder.proofs.Recorded.{names_then, unchanged}
+use Rattle.recorder.proofs.Recorded.{names_then, ran_out, unchanged}
 use Rattle.recorder.proofs.keeping.make_ready.Goals as goal
 
 pub changes-requires : goal.changes-requires
@@ -11,4 +11,12 @@ returns-in_err-rows-clause-kept g c =
 pub returns-clause-kept : goal.returns-clause-kept
 returns-clause-kept g c =
     c.reserve_and_keep.ensures.kept c.args.farm.now c.args.entry.now c.kept.ensures c.requires.legal
+    (names_then c.args.farm.now c.args.entry.now c.args.change.now c.requires.makes c.in_ok-rows.rows c.as_slice.result.now c.as_slice.ensures c.in_ok-rows.ensures)
+
+pub returns-in_err-rows-clause-keeper : goal.returns-in_err-rows-clause-keeper
+returns-in_err-rows-clause-keeper g c = ran_out g.K.Keeper.tells g.K.Keeper.faults c.args.keeper.now c.from_residual.result c.from_residual.ensures.1
+
+pub returns-clause-same : goal.returns-clause-same
+returns-clause-same g c =
+    c.reserve_and_keep.ensures.same c.args.farm.now c.args.entry.now c.kept.ensures c.requires.legal
     (names_then c.args.farm.now c.args.entry.now c.args.change.now c.requires.makes c.in_ok-rows.rows c.as_slice.result.now c.as_slice.ensures c.in_ok-rows.ensures)

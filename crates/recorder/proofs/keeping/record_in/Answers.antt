@@ -1,4 +1,6 @@
-use Rattle.std.proofs.Common.{sym, subst, ◌∙◌}
+use Rattle.std.proofs.Common.{ap, sym, subst, ◌∙◌}
+use Rattle.farm_keeper.proofs.KeepingLaws.{Continues-as}
+use Rattle.recorder.specs.Faults.{is_store_fault}
 use Rattle.farm_types.specs.Farm.{Farm}
 use Rattle.farm_core.specs.Change.{IsReady, IsReserved}
 use Rattle.farm_core.proofs.Applying.{ready_reserved}
@@ -43,5 +45,7 @@ returns-in-Err-clause-kept g c =
     (stays_at_fault (g.K.Keeper.holds c.args.keeper.now) (g.K.Keeper.left c.args.keeper.now) holds' left' c.args.farm.now c.args.entry.now c.in-Err.fault
     c.in-Err.ensures.kept has)
 
-pub returns-in-Err-clause-cause : goal.returns-in-Err-clause-cause
-returns-in-Err-clause-cause g c = λ is. c.in-Err.ensures.cause (sym c.refused.ensures ∙ is)
+pub returns-in-Err-clause-keeper : goal.returns-in-Err-clause-keeper
+returns-in-Err-clause-keeper g c =
+    Continues-as g.K.Keeper.tells g.K.Keeper.faults c.args.keeper.now c.make_ready.new.keeper _ (is_store_fault c.refused.result)
+    (sym (ap is_store_fault c.refused.ensures)) c.in-Err.ensures.keeper

@@ -1,4 +1,4 @@
-use Rattle.recorder.proofs.Recorded.{on_ok, unchanged}
+use Rattle.recorder.proofs.Recorded.{on_ok, ran_out, unchanged}
 use Rattle.recorder.proofs.keeping.reserve_and_keep.Goals as goal
 
 pub returns-in_err-reserve-clause-kept : goal.returns-in_err-reserve-clause-kept
@@ -11,3 +11,9 @@ returns-clause-ok g c = on_ok c.keep.result c.in_ok-reserve.ensures.ok
 
 pub returns-clause-kept : goal.returns-clause-kept
 returns-clause-kept g c = c.keep.ensures.kept
+
+pub returns-in_err-reserve-clause-keeper : goal.returns-in_err-reserve-clause-keeper
+returns-in_err-reserve-clause-keeper g c = ran_out g.K.Keeper.tells g.K.Keeper.faults c.args.keeper.now c.from_residual.result c.from_residual.ensures.1
+
+pub returns-clause-same : goal.returns-clause-same
+returns-clause-same g c = c.keep.ensures.same

@@ -1,8 +1,10 @@
 -- A line that is within the limit or too long is answered.
-use Rattle.std.proofs.Common.{◌≡◌, ◌≤◌, ℕ, List, [], ◌∷◌, ◌++◌, length, Ok, ap, ◌∙◌, refl, subst, arith}
+use Rattle.std.proofs.Common.{◌≡◌, ◌≤◌, ℕ, Bool, List, [], ◌∷◌, ◌++◌, length, Ok, ap, ◌∙◌, refl, subst, arith}
 use Rattle.cue_io.specs.Reader.{Whole, Long, given_by}
 use Rattle.farm_lines.specs.declared.reply.Reply.TheVariants as reply
 use Rattle.farm_lines.specs.Reply.{reply_text}
+use Rattle.farm_keeper.proofs.KeepingLaws.{Continues-same}
+use Rattle.farm_keeper.specs.Keeping.{Continues}
 use Rattle.farm_types.specs.Farm.{Farm}
 use Rattle.line_answers.specs.Lines.{shown}
 use Rattle.session.proofs.ExchangeLemmas.{step_answered, line_fits, answers_long, answers_whole}
@@ -28,9 +30,11 @@ returns-in-Ok-Bytes-clause-step g c =
       c.now-moment.ensures,
       step_answered c.send.result c.next.result (Whole c.in-Ok-Bytes.line.now) c.args.reader.now c.next.follows.lender-at-none (g.S.Source.left c.next.new.source)
           c.args.recorder.now.farm c.answer_line-reply.new.recorder.farm moves.took c.now-moment.result (shown c.answer_line-reply.result) sent.0
-          (g.K.Keeper.faults c.args.recorder.now.keeper) (g.K.Keeper.faults c.answer_line-reply.new.recorder.keeper) (omega arith) is moves.goes moves.end
+          (Continues g.K.Keeper.tells g.K.Keeper.faults c.args.recorder.now.keeper c.answer_line-reply.new.recorder.keeper)
+          (c.answer_line-reply.new.recorder.keeper ≡ c.args.recorder.now.keeper) (omega arith) is moves.goes moves.end
           (answers_whole c.in-Ok-Bytes.line.now c.args.recorder.now.farm c.answer_line-reply.new.recorder.farm c.now-moment.result (shown c.answer_line-reply.result)
-          (g.K.Keeper.faults c.args.recorder.now.keeper) (g.K.Keeper.faults c.answer_line-reply.new.recorder.keeper) c.answer_line-reply.ensures.answer c.answer_line-reply.ensures.rises) sent.2,
+          (Continues g.K.Keeper.tells g.K.Keeper.faults c.args.recorder.now.keeper c.answer_line-reply.new.recorder.keeper)
+          (c.answer_line-reply.new.recorder.keeper ≡ c.args.recorder.now.keeper) c.answer_line-reply.ensures.answer c.answer_line-reply.ensures.same) sent.2,
     )
 
 pub returns-in-Ok-TooLong-clause-step : goal.returns-in-Ok-TooLong-clause-step
@@ -39,7 +43,8 @@ returns-in-Ok-TooLong-clause-step g c =
     let moves = c.next.follows.holds-at-none in
     let sent = c.send-in-Ok-TooLong.ensures.sends in
     let f : Farm = c.args.recorder.now.farm in
-    let faults : ℕ = g.K.Keeper.faults c.args.recorder.now.keeper in
+    let k = c.args.recorder.now.keeper in
+    let goes : Bool → Type 0 = Continues g.K.Keeper.tells g.K.Keeper.faults k k in
     let text : List ℕ = reply_text reply.TooLong ++ 10 ∷ [] in (
       moves.took,
       sent.0,
@@ -48,6 +53,7 @@ returns-in-Ok-TooLong-clause-step g c =
       sent.1,
       c.now-moment-in-Ok-TooLong.ensures,
       step_answered c.send-in-Ok-TooLong.result c.next.result Long c.args.reader.now c.next.follows.lender-at-none (g.S.Source.left c.next.new.source)
-          f f moves.took c.now-moment-in-Ok-TooLong.result text sent.0 faults faults (omega arith) is moves.goes moves.end
-          (answers_long f c.now-moment-in-Ok-TooLong.result text faults (λ line. c.lines_are_answered_by_what_they_ask.ensures f line c.now-moment-in-Ok-TooLong.result) refl) sent.2,
+          f f moves.took c.now-moment-in-Ok-TooLong.result text sent.0 goes (k ≡ k) (omega arith) is moves.goes moves.end
+          (answers_long f c.now-moment-in-Ok-TooLong.result text goes (k ≡ k) (λ line. c.lines_are_answered_by_what_they_ask.ensures f line c.now-moment-in-Ok-TooLong.result) refl
+          (Continues-same g.K.Keeper.tells g.K.Keeper.faults k) refl) sent.2,
     )

@@ -1,7 +1,7 @@
-use Rattle.std.proofs.Common.{arith}
+use Rattle.farm_keeper.proofs.KeepingLaws.{Continues-same}
 use Rattle.session.specs.Words.{opening_entries, word_form}
 use Rattle.session.proofs.OpenedLegal.{made_opened}
-use Rattle.session.proofs.OpenedStore.{made_recorded, made_says}
+use Rattle.session.proofs.OpenedStore.{made_recorded, stated_begins}
 use Rattle.session.proofs.OpenedWays.{begun_legal, begun_opens}
 use Rattle.session.proofs.opening.open_new.Goals as goal
 
@@ -24,7 +24,6 @@ returns-in-Ok g c =
     let k = c.args.keeper in
     let moment = c.args.moment in
     begun_opens g.K.Keeper.tells g.K.Keeper.holds g.K.Keeper.left g.K.Keeper.faults form moment k k first
-    (made_says form (g.K.Keeper.tells k) (g.K.Keeper.holds k) (g.K.Keeper.left k) first c.in-Ok.ensures c.requires.stated c.requires.kept c.no_rows_are_the_empty_farm.ensures)
-    (λ tells. tells) (omega arith)
+    (stated_begins form (g.K.Keeper.tells k) (g.K.Keeper.holds k) first c.requires.stated c.in-Ok.ensures) (Continues-same g.K.Keeper.tells g.K.Keeper.faults k)
     (made_opened form c.requires.stated c.requires.within c.the_demonstration_is_a_run.ensures.legal c.loads_are_runs.ensures first c.in-Ok.ensures moment c.ranges.moment.fits)
     c.make-in-Ok.result c.make-in-Ok.ensures c.begin.result c.begin.ensures

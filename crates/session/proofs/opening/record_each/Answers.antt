@@ -1,6 +1,7 @@
-use Rattle.std.proofs.Common.{◌≡◌, ◌∙◌, ◌+◌, ◌∷◌, [], drop, ap, sym, subst, arith}
+use Rattle.std.proofs.Common.{false, ◌≡◌, ◌∙◌, ◌+◌, ◌∷◌, [], drop, ap, sym, subst, arith}
 use Rattle.std.proofs.lemmas.List.{drop_all, drop_more}
 use Rattle.farm_types.specs.declared.entry.Entry.{Entry}
+use Rattle.farm_keeper.proofs.KeepingLaws.{Continues-then}
 use Rattle.session.proofs.OpenedRun.{IsUnderWay, way_ends, way_next, way_stops}
 use Rattle.session.proofs.opening.record_each.Goals as goal
 
@@ -27,8 +28,8 @@ loop-entry-preserved g c =
     let here : drop i es ≡ e ∷ rest = drop_more es i e (omega arith) ∙ ap (λ (x : Entry). x ∷ rest) (sym c.entry-item.is) in
     record {
       way = way_next first es now c.record.new.recorder.farm e rest c.in_ok-record.ensures.farm (subst (IsUnderWay first es now) here c.loop-entry.invariant.way);
-      told = λ tells. c.loop-entry.invariant.told (c.in_ok-record.ensures.told tells);
-      rises = omega (arith, c.loop-entry.invariant.rises, c.in_ok-record.ensures.rises);
+      keeper = Continues-then g.K.Keeper.tells g.K.Keeper.faults c.args.recorder.now.keeper c.loop-entry.recorder.keeper c.record.new.recorder.keeper false c.loop-entry.invariant.keeper
+          c.in_ok-record.ensures.keeper;
     }
 
 pub returns-clause-farm : goal.returns-clause-farm

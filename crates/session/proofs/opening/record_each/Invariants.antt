@@ -1,11 +1,11 @@
 -- The entries that are left go on from the farm at hand, and the keeper has only gone on from the one at entry.
-use Rattle.std.proofs.Common.{◌≤◌, drop}
+use Rattle.std.proofs.Common.{false, drop}
+use Rattle.farm_keeper.specs.Keeping.{Continues}
 use Rattle.session.proofs.OpenedRun.{IsUnderWay}
 use Rattle.session.proofs.opening.record_each.Given as goal
 
 abbrev pub invariant-loop-entry : goal.invariant-loop-entry
 invariant-loop-entry g l = record {
   way : IsUnderWay l.fn.recorder.farm l.entries l.recorder.farm (drop l.entry-index l.entries);
-  told : g.K.Keeper.tells l.recorder.keeper → g.K.Keeper.tells l.fn.recorder.keeper;
-  rises : g.K.Keeper.faults l.fn.recorder.keeper ≤ g.K.Keeper.faults l.recorder.keeper;
+  keeper : Continues g.K.Keeper.tells g.K.Keeper.faults l.fn.recorder.keeper l.recorder.keeper false;
 }

@@ -1,9 +1,11 @@
 -- The farm keeps what every farm keeps, so that the session's entries are safe; and what the recorder's keeper holds is given back.
-use Rattle.std.proofs.Common.{ℕ, sym, ap, subst}
+use Rattle.std.proofs.Common.{ℕ, List, sym, subst}
+use Rattle.farm_lines.specs.Transcript.{Exchange}
 use Rattle.farm_types.specs.Farm.{Farm}
 use Rattle.farm_types.specs.Kept.{IsKeptFarm}
 use Rattle.session.specs.Opening.{HoldsFarm}
-use Rattle.session.specs.Sessions.{AnswersAll, Streams, streams}
+use Rattle.session.specs.Sessions.{AnswersAll, GoesOnOver, Streams, streams}
+use Rattle.session.proofs.KeeperLemmas.{over_told}
 use Rattle.session.proofs.RunLemmas.{answers_all}
 use Rattle.session.proofs.run.answer_all.Goals as goal
 
@@ -11,14 +13,23 @@ pub returns-clause-answered : goal.returns-clause-answered
 returns-clause-answered g c =
     let session = c.serve-ended.ensures.ends in
     let first : Farm = c.args.recorder.farm in
+    let given = c.args.recorder.keeper in
+    let left = c.serve-ended.new.recorder.keeper in
     let before : Streams = streams (g.S.Source.left c.args.source.now) (g.S.Source.faults c.args.source.now) (g.W.Sink.written c.args.sink.now) (g.W.Sink.faults c.args.sink.now)
-    (g.C.Clock.readings c.args.clock.now) (g.K.Keeper.faults c.args.recorder.keeper) in
+    (g.C.Clock.readings c.args.clock.now) (g.K.Keeper.faults given) in
     let after : ℕ → Streams = λ faults. streams (g.S.Source.left c.serve-ended.new.source) (g.S.Source.faults c.serve-ended.new.source) (g.W.Sink.written c.serve-ended.new.sink)
     (g.W.Sink.faults c.serve-ended.new.sink) (g.C.Clock.readings c.serve-ended.new.clock) faults in
-    let holds : Farm → Type 0 = HoldsFarm (g.K.Keeper.tells c.close.result) (g.K.Keeper.holds c.close.result) (g.K.Keeper.left c.close.result) in (
+    let holds : Farm → Type 0 = HoldsFarm (g.K.Keeper.tells c.close.result) (g.K.Keeper.holds c.close.result) (g.K.Keeper.left c.close.result) in
+    let goes_on : g.row.K.Denot → List Exchange → Type 0 = λ k ts. GoesOnOver g.K.Keeper.tells g.K.Keeper.faults first ts given k in (
       session.0,
-      subst (λ (faults : ℕ). AnswersAll c.status.result first before (after faults) session.0 holds) (ap g.K.Keeper.faults (sym c.close.ensures.value))
-          (answers_all c.status.result c.serve-ended.result first c.serve-ended.new.recorder.farm before
-          (after (g.K.Keeper.faults c.serve-ended.new.recorder.keeper)) session.0 holds c.status.ensures
+      subst (λ (k : g.row.K.Denot). AnswersAll c.status.result first before (after (g.K.Keeper.faults k)) session.0 (goes_on k) holds) (sym c.close.ensures.value)
+          (answers_all c.status.result c.serve-ended.result first c.serve-ended.new.recorder.farm before (after (g.K.Keeper.faults left)) session.0 (goes_on left) holds c.status.ensures
           (subst IsKeptFarm c.read.ensures c.kept.ensures) c.sessions_are_legal.ensures c.legal_runs_are_safe.ensures session.1 session.2 c.close.ensures.recorded),
     )
+
+pub returns-clause-told : goal.returns-clause-told
+returns-clause-told g c =
+    let session = c.serve-ended.ensures.ends in
+    λ tells.
+    over_told g.K.Keeper.tells g.K.Keeper.faults c.args.recorder.farm session.0.exchanges c.args.recorder.keeper c.serve-ended.new.recorder.keeper session.2.keeper
+    (subst g.K.Keeper.tells c.close.ensures.value tells)

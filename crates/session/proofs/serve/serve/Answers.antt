@@ -1,5 +1,5 @@
 -- Before the first exchange, after one more, and at the last.
-use Rattle.std.proofs.Common.{ℕ, [], ◌++◌, ◌<◌, ◌^◌, inl, refl, sym, subst, arith}
+use Rattle.std.proofs.Common.{◌≡◌, [], ◌++◌, ◌<◌, ◌^◌, refl, sym, subst, arith}
 use Rattle.std.proofs.lemmas.List.Elements.{All-nil}
 use Rattle.cue_io.specs.Faults.{HasRisen-earlier}
 use Rattle.cue_io.specs.History.{HasGiven, HasGiven-new}
@@ -7,8 +7,11 @@ use Rattle.cue_io.specs.Input.{Takes-none}
 use Rattle.cue_io.specs.Output.{Adds-none}
 use Rattle.cue_io.specs.Reader.{Held}
 use Rattle.cue_io.specs.Readings.{Tells-none}
+use Rattle.farm_keeper.specs.Keeping.{Continues}
 use Rattle.farm_lines.specs.Transcript.{Exchange}
-use Rattle.session.specs.Sessions.{Call, Streams, streams}
+use Rattle.farm_types.specs.Farm.{Farm}
+use Rattle.session.specs.Sessions.{Call, GoesOnOver, Streams, streams}
+use Rattle.session.proofs.KeeperLemmas.{over_more, over_still}
 use Rattle.session.proofs.SessionLemmas.{moved_more, served_went, served_ended}
 use Rattle.session.proofs.serve.serve.Goals as goal
 use Rattle.farm_lines.specs.declared.limits.TheConstants.{LINE_LIMIT}
@@ -24,12 +27,11 @@ exchanges-init g c =
           readings = Tells-none (g.C.Clock.readings c.args.clock.now);
         };
         served = record {
-          answered = record { farm_is = refl; replies = refl; moments = refl; within = All-nil (λ (t : Exchange). t.moment < 2 ^ 64); marked = tt; causes = inl (omega arith) };
+          answered = record { farm_is = refl; replies = refl; moments = refl; within = All-nil (λ (t : Exchange). t.moment < 2 ^ 64); marked = tt; keeper = refl };
           given = subst (λ (reader : Held). HasGiven LINE_LIMIT [] [] reader left) (sym c.requires) (HasGiven-new LINE_LIMIT left);
         };
         source = omega arith;
         sink = omega arith;
-        told = λ tells. tells;
       },
     )
 
@@ -44,18 +46,22 @@ exchanges-preserved g c =
     (g.C.Clock.readings c.exchanges.clock) (g.K.Keeper.faults c.exchanges.recorder.keeper) in
     let after : Streams = streams (g.S.Source.left c.exchange.new.source) (g.S.Source.faults c.exchange.new.source) (g.W.Sink.written c.exchange.new.sink)
     (g.W.Sink.faults c.exchange.new.sink) (g.C.Clock.readings c.exchange.new.clock) (g.K.Keeper.faults c.exchange.new.recorder.keeper) in
-    let first_faults : ℕ = g.K.Keeper.faults c.args.recorder.now.keeper in
-    let mid_faults : ℕ = g.K.Keeper.faults c.exchanges.recorder.keeper in
-    let now_faults : ℕ = g.K.Keeper.faults c.exchange.new.recorder.keeper in
+    let first : Farm = c.args.recorder.now.farm in
+    let tells = g.K.Keeper.tells in
+    let faults = g.K.Keeper.faults in
+    let k = c.args.recorder.now.keeper in
+    let k_mid = c.exchanges.recorder.keeper in
+    let k_now = c.exchange.new.recorder.keeper in
     let more = served_went c.args.recorder.now.farm call c.exchanges.recorder.farm c.exchange.new.recorder.farm c.exchanges.reader c.exchange.new.reader
-    (g.S.Source.left c.exchanges.source) (g.S.Source.left c.exchange.new.source) step.0 step.1 step.2 first_faults mid_faults now_faults now.served step.3 step.6 in (
+    (g.S.Source.left c.exchanges.source) (g.S.Source.left c.exchange.new.source) step.0 step.1 step.2 (Continues tells faults k_mid k_now) (k_now ≡ k_mid)
+    (λ exchanges. GoesOnOver tells faults first exchanges k k_mid) (λ exchanges. GoesOnOver tells faults first exchanges k k_now)
+    (over_more tells faults first k k_mid k_now) (over_still tells faults first k k_mid k_now) now.served step.3 step.6 in (
       record { taken = call.taken ++ step.0; written = call.written ++ step.1; readings = call.readings ++ step.2; exchanges = more.0 },
       record {
         moved = moved_more before mid after call step.0 step.1 step.2 more.0 now.moved step.3 step.4 step.5;
         served = more.1;
         source = omega (arith, now.source, c.exchange.ensures.source);
         sink = omega (arith, now.sink, c.exchange.ensures.sink);
-        told = λ tells. now.told (c.exchange.ensures.told tells);
       },
     )
 
@@ -70,11 +76,16 @@ returns-in_default g c =
     (g.C.Clock.readings c.exchanges.clock) (g.K.Keeper.faults c.exchanges.recorder.keeper) in
     let after : Streams = streams (g.S.Source.left c.exchange.new.source) (g.S.Source.faults c.exchange.new.source) (g.W.Sink.written c.exchange.new.sink)
     (g.W.Sink.faults c.exchange.new.sink) (g.C.Clock.readings c.exchange.new.clock) (g.K.Keeper.faults c.exchange.new.recorder.keeper) in
-    let first_faults : ℕ = g.K.Keeper.faults c.args.recorder.now.keeper in
-    let mid_faults : ℕ = g.K.Keeper.faults c.exchanges.recorder.keeper in
-    let now_faults : ℕ = g.K.Keeper.faults c.exchange.new.recorder.keeper in
+    let first : Farm = c.args.recorder.now.farm in
+    let tells = g.K.Keeper.tells in
+    let faults = g.K.Keeper.faults in
+    let k = c.args.recorder.now.keeper in
+    let k_mid = c.exchanges.recorder.keeper in
+    let k_now = c.exchange.new.recorder.keeper in
     let ended = served_ended c.args.recorder.now.farm call c.exchanges.recorder.farm c.exchange.new.recorder.farm c.exchanges.reader c.exchange.new.reader
-    (g.S.Source.left c.exchanges.source) (g.S.Source.left c.exchange.new.source) step.0 step.1 step.2 first_faults mid_faults now_faults now.served step.3 c.exchange.result c.in_default.not-Went step.6 in
+    (g.S.Source.left c.exchanges.source) (g.S.Source.left c.exchange.new.source) step.0 step.1 step.2 (Continues tells faults k_mid k_now) (k_now ≡ k_mid)
+    (λ exchanges. GoesOnOver tells faults first exchanges k k_mid) (λ exchanges. GoesOnOver tells faults first exchanges k k_now)
+    (over_more tells faults first k k_mid k_now) (over_still tells faults first k k_mid k_now) now.served step.3 c.exchange.result c.in_default.not-Went step.6 in
     record {
       ends = (
         record { taken = call.taken ++ step.0; written = call.written ++ step.1; readings = call.readings ++ step.2; exchanges = ended.0 },
@@ -85,5 +96,4 @@ returns-in_default g c =
           (c.exchange.ensures.read is);
       write = λ is. HasRisen-earlier (g.W.Sink.faults c.args.sink.now) (g.W.Sink.faults c.exchanges.sink) (g.W.Sink.faults c.exchange.new.sink) now.sink
           (c.exchange.ensures.write is);
-      told = λ tells. now.told (c.exchange.ensures.told tells);
     }

@@ -1,7 +1,7 @@
 -- The exchanges so far were served, and each one more leaves the reader with less to give.
 use Rattle.std.proofs.Common.{◌≤◌}
 use Rattle.cue_io.specs.Reader.{lines_left}
-use Rattle.session.specs.Sessions.{Call, HasMoved, HasServed, streams}
+use Rattle.session.specs.Sessions.{Call, GoesOnOver, HasMoved, HasServed, streams}
 use Rattle.session.proofs.serve.serve.Given as goal
 
 abbrev pub invariant-exchanges : goal.invariant-exchanges
@@ -12,10 +12,10 @@ invariant-exchanges g l = (call : Call) × record {
       (streams (g.S.Source.left l.source) (g.S.Source.faults l.source) (g.W.Sink.written l.sink) (g.W.Sink.faults l.sink) (g.C.Clock.readings l.clock)
       (g.K.Keeper.faults l.recorder.keeper))
       call;
-  served : HasServed l.fn.recorder.farm call l.recorder.farm l.reader (g.S.Source.left l.source) (g.K.Keeper.faults l.fn.recorder.keeper) (g.K.Keeper.faults l.recorder.keeper);
+  served : HasServed l.fn.recorder.farm call l.recorder.farm l.reader (g.S.Source.left l.source)
+      (λ exchanges. GoesOnOver g.K.Keeper.tells g.K.Keeper.faults l.fn.recorder.farm exchanges l.fn.recorder.keeper l.recorder.keeper);
   source : g.S.Source.faults l.fn.source ≤ g.S.Source.faults l.source;
   sink : g.W.Sink.faults l.fn.sink ≤ g.W.Sink.faults l.sink;
-  told : g.K.Keeper.tells l.recorder.keeper → g.K.Keeper.tells l.fn.recorder.keeper;
 }
 
 abbrev pub decreases-exchanges : goal.decreases-exchanges

@@ -1,3 +1,6 @@
+use Rattle.std.proofs.Common.{false, sym}
+use Rattle.farm_keeper.proofs.KeepingLaws.{Continues-as, Continues-same}
+use Rattle.recorder.specs.Faults.{is_store_refusal}
 use Rattle.recorder.proofs.Recorded.{commits_made, commits_nothing, never_store, of_entry}
 use Rattle.recorder.proofs.recorder.PlainRecorder.commit.Goals as goal
 
@@ -9,8 +12,13 @@ pub returns-in_err-change-clause-farm : goal.returns-in_err-change-clause-farm
 returns-in_err-change-clause-farm g c =
     commits_nothing c.args.self.now.farm c.args.entry.now _ c.from_residual.result c.from_residual.ensures.1 c.in_err-change.ensures
 
-pub returns-in_err-change-clause-cause : goal.returns-in_err-change-clause-cause
-returns-in_err-change-clause-cause g c = λ is. absurd (never_store _ c.from_residual.result c.from_residual.ensures.1 is)
+pub returns-in_err-change-clause-keeper : goal.returns-in_err-change-clause-keeper
+returns-in_err-change-clause-keeper g c =
+    Continues-as g.K.Keeper.tells g.K.Keeper.faults c.args.self.now.keeper c.args.self.now.keeper false (is_store_refusal c.from_residual.result)
+    (sym (never_store _ c.from_residual.result c.from_residual.ensures.1)) (Continues-same g.K.Keeper.tells g.K.Keeper.faults c.args.self.now.keeper)
+
+pub returns-clause-same : goal.returns-clause-same
+returns-clause-same g c = λ unstored. c.record_answered.ensures.same (unstored c.in_ok-change.ensures.accepted)
 
 pub returns-clause-farm : goal.returns-clause-farm
 returns-clause-farm g c =

@@ -1,0 +1,47 @@
+//! The law of stops. Its functions do nothing: their contracts are the law.
+
+ghost use Rattle.std.specs.Prelude.{◌≡◌, ◌<◌, ◌^◌, ℕ, List, Ok};
+ghost use Rattle.std.specs.List.{All};
+ghost use Rattle.farm_keeper.specs.declared.row.Row.{Row};
+ghost use Rattle.farm_keeper.specs.Rows.{Lists, Rows};
+ghost use Rattle.farm_lines.specs.Transcript.{Exchange, farm_after};
+ghost use Rattle.farm_types.specs.Farm.{Farm, empty_farm};
+ghost use Rattle.farm_types.specs.Kept.{IsKeptFarm};
+ghost use Rattle.farm_types.specs.Run.{IsLegal};
+ghost use Rattle.recorder.specs.Recording.{MayBe};
+ghost use Rattle.recovery.specs.Recovered.{recovered};
+ghost use Rattle.session.specs.Stops.{IsOpenedAgain};
+ghost use Rattle.session.specs.Words.{WordForm, opened_farm, opening_entries};
+
+use depend_law::legal_runs_keep_farms;
+use line_answers::sessions_are_legal;
+use recovery::{farms_are_recovered, rows_recovered_are_the_farms};
+use store_law::{rows_fit, stores_are_listed_in_order};
+
+/// The rows that a stop may leave of a farm that was recorded are, opened again, that farm, or the farm one legal entry further.
+pub fn stops_keep_farms()
+    ensures { (f : Farm) (rows : Rows) (list : List Row) → IsKeptFarm f → MayBe f rows → Lists list rows → IsOpenedAgain f (recovered list) }
+{
+    legal_runs_keep_farms();
+    rows_fit();
+    stores_are_listed_in_order();
+    farms_are_recovered();
+}
+
+/// So a stop at any moment of a session keeps each line that was acknowledged, whether its farm was opened over given rows or stated: what the store is,
+/// opened again, is the farm that all lines so far have made, or that farm one legal entry further.
+pub fn stops_keep_acknowledged_lines()
+    ensures given { (given : List Row) (first : Farm) (form : WordForm) (opened : ℕ) (exchanges : List Exchange) (rows : Rows) (list : List Row)
+        → recovered given ≡ Ok first → IsLegal first (opening_entries form opened) → All (λ t. t.moment < 2 ^ 64) exchanges
+        → MayBe (farm_after (opened_farm form first opened) exchanges) rows → Lists list rows
+        → IsOpenedAgain (farm_after (opened_farm form first opened) exchanges) (recovered list) }
+    ensures stated { (form : WordForm) (opened : ℕ) (exchanges : List Exchange) (rows : Rows) (list : List Row)
+        → IsLegal empty_farm (opening_entries form opened) → All (λ t. t.moment < 2 ^ 64) exchanges
+        → MayBe (farm_after (opened_farm form empty_farm opened) exchanges) rows → Lists list rows
+        → IsOpenedAgain (farm_after (opened_farm form empty_farm opened) exchanges) (recovered list) }
+{
+    stops_keep_farms();
+    legal_runs_keep_farms();
+    rows_recovered_are_the_farms();
+    sessions_are_legal();
+}
