@@ -1,6 +1,8 @@
 //! Makes the calls of the operator's tool that rows tell, and writes a line for each: `ok`, or `FAILED` and what came.
 #![tactic(auto)]
 
+mod moves;
+mod programs;
 mod runs;
 mod words;
 
@@ -17,16 +19,17 @@ fn main(rt: HostRuntime) -> io::Result<ExitCode> {
     }
 }
 
-// Calls of the tool: what its words ask, and its whole runs.
+// Calls of the tool: what its words ask, its whole calls, and the runs of its program.
 #[derive(Clone, Copy, Debug, PartialEq, Eq)]
 enum ToolCall {
     Words,
     Runs,
+    Programs,
 }
 
 impl ToolCall {
     // All of them, in the order in which their files are read.
-    const ALL: [ToolCall; 2] = [ToolCall::Words, ToolCall::Runs];
+    const ALL: [ToolCall; 3] = [ToolCall::Words, ToolCall::Runs, ToolCall::Programs];
 }
 
 impl Calls for ToolCall {
@@ -34,6 +37,7 @@ impl Calls for ToolCall {
         match self {
             ToolCall::Words => "tool_words.rows",
             ToolCall::Runs => "tool_runs.rows",
+            ToolCall::Programs => "tool_programs.rows",
         }
     }
 
@@ -41,6 +45,7 @@ impl Calls for ToolCall {
         match self {
             ToolCall::Words => words::asked(alloc, given),
             ToolCall::Runs => runs::ran(alloc, given),
+            ToolCall::Programs => programs::ran(alloc, given),
         }
     }
 }

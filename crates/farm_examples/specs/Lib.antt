@@ -1,4 +1,0 @@
-pub mod Examples
-pub mod Finishing
-pub mod Listing
-pub mod Waiting

@@ -1,0 +1,23 @@
+-- The farms and their lists compute.
+use Rattle.std.proofs.Common.{refl}
+use Rattle.std.specs.Fmt.{digits}
+use Rattle.frame_range.specs.Sections.{section_at}
+use Rattle.frame_range.specs.Sets.{add_section, fault_of, numbers_of, set_of}
+use Rattle.frame_range.specs.Steps.{section_numbers}
+use Rattle.farm_types.specs.Depends.{groups_of}
+use Rattle.farm_types.specs.Ranges.{range_numbers}
+use Rattle.farm_types.specs.Settle.{opened_by, settle, with_blocked}
+use Rattle.farm_types.specs.Step.{finish_all}
+use Rattle.worked_examples.proofs.listing.waiting_jobs_are_listed.Goals as goal
+
+pub returns-clause-frames : goal.returns-clause-frames
+unfolding digits opened_by settle with_blocked finish_all groups_of range_numbers numbers_of set_of add_section section_at fault_of section_numbers
+returns-clause-frames c = refl
+
+pub returns-clause-depends : goal.returns-clause-depends
+unfolding opened_by settle with_blocked finish_all groups_of range_numbers numbers_of set_of add_section section_at fault_of section_numbers
+returns-clause-depends c = refl
+
+pub returns-clause-others : goal.returns-clause-others
+unfolding opened_by settle with_blocked finish_all groups_of range_numbers numbers_of set_of add_section section_at fault_of section_numbers
+returns-clause-others c = refl
