@@ -13,7 +13,7 @@ use Rattle.std.proofs.lemmas.Str.{IsCharBoundary-after_ascii, IsUtf8-append, IsU
 use lib.Utf8.{encodes, scalar, scalars}
 use Rattle.farm_types.specs.Names.{Token, expanded, expanded_from, four_places, frame_name, starts_with, token_at}
 use Rattle.farm_types.proofs.Utf8.{ascii_utf8}
-use Rattle.command_text.proofs.NumberTexts.{places_ascii, signed_ascii}
+use Rattle.farm_types.proofs.NumberTexts.{places_ascii, signed_ascii}
 use Rattle.command_text.proofs.Pieces.{char_first, token_first}
 
 -- what follows a word at the front that ends with `#`

@@ -1,5 +1,4 @@
 mod Digits
 pub mod ExpandedTexts
-pub mod NumberTexts
 mod Pieces
 mod Words

@@ -1,4 +1,3 @@
-pub mod Faults
 pub mod Growth
 pub mod Input
 pub mod Output

@@ -1,7 +1,7 @@
 //! Any reader of std as a source.
 ghost use Rattle.std.specs.Prelude.{◌≡◌, ◌<◌, ◌≤◌, true, false, None, length, take, IfOk, OnOk, OnErr, MatchResult, IsSome};
 ghost use Rattle.cue_io.specs.Adapters.{Inlet};
-ghost use Rattle.cue_io.specs.Faults.{HasRisen, incremented};
+ghost use Rattle.fault_counts.specs.Counts.{HasRisen, incremented};
 ghost use Rattle.cue_io.specs.Input.{Takes, IsAtEnd};
 
 use crate::source::{Source, SourceFault};

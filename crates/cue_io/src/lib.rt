@@ -1,8 +1,7 @@
-//! Input by lines, output, counts of faults, and clocks: what the programs use of their surroundings.
+//! Input by lines, output, and clocks: what the programs use of their surroundings.
 #![tactic(auto)]
 
 mod clock;
-mod fault_plan;
 mod history;
 mod input_source;
 mod limits;

@@ -1,11 +1,12 @@
 //! A sink in memory.
 ghost use Rattle.std.specs.Prelude.{◌≡◌, ◌<◌, ◌≤◌, [], true, false, Some, length, take, IfOk, OnErr};
-ghost use Rattle.cue_io.specs.Faults.{HasRisen};
+ghost use Rattle.fault_counts.specs.Counts.{HasRisen};
 ghost use Rattle.cue_io.specs.Output.{Adds};
-ghost use Rattle.cue_io.specs.Memory.{Store, after_call, after_write, is_to_fail, new_plan, write_count};
+ghost use Rattle.fault_counts.specs.Plans.{after_call, is_to_fail, new_plan};
+ghost use Rattle.cue_io.specs.Memory.{Store, after_write, write_count};
 
-use crate::fault_plan::FaultPlan;
 use crate::sink::{Sink, SinkFault};
+use fault_counts::FaultPlan;
 use std::alloc::{AllocError, Global};
 use std::marker::Model;
 

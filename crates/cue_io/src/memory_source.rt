@@ -1,11 +1,12 @@
 //! A source in memory.
 ghost use Rattle.std.specs.Prelude.{◌≡◌, ◌<◌, ◌≤◌, ◌++◌, true, false, Some, length, take, drop, IfOk, OnErr, MatchResult};
-ghost use Rattle.cue_io.specs.Faults.{HasRisen};
+ghost use Rattle.fault_counts.specs.Counts.{HasRisen};
 ghost use Rattle.cue_io.specs.Input.{Takes, IsAtEnd};
-ghost use Rattle.cue_io.specs.Memory.{Supply, after_read, is_to_fail, new_plan, read_count};
+ghost use Rattle.fault_counts.specs.Plans.{is_to_fail, new_plan};
+ghost use Rattle.cue_io.specs.Memory.{Supply, after_read, read_count};
 
-use crate::fault_plan::FaultPlan;
 use crate::source::{Source, SourceFault};
+use fault_counts::FaultPlan;
 use std::alloc::{AllocError, Global};
 use std::marker::Model;
 

@@ -1,6 +1,6 @@
 //! Writing a whole piece.
 ghost use Rattle.std.specs.Prelude.{◌≤◌, OnOk, OnErr};
-ghost use Rattle.cue_io.specs.Faults.{HasRisen};
+ghost use Rattle.fault_counts.specs.Counts.{HasRisen};
 ghost use Rattle.cue_io.specs.Output.{Adds, AddsPart};
 
 use crate::sink::{Sink, SinkFault};

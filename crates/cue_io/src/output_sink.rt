@@ -1,7 +1,7 @@
 //! Any writer of std as a sink.
 ghost use Rattle.std.specs.Prelude.{◌≡◌, ◌<◌, ◌≤◌, None, if◌then◌else◌, length, take, IfOk, OnErr, IsSome};
 ghost use Rattle.cue_io.specs.Adapters.{Outlet, flushed};
-ghost use Rattle.cue_io.specs.Faults.{HasRisen, incremented};
+ghost use Rattle.fault_counts.specs.Counts.{HasRisen, incremented};
 ghost use Rattle.cue_io.specs.Memory.{takes_none};
 ghost use Rattle.cue_io.specs.Output.{Adds};
 ghost use Rattle.cue_io.specs.declared.sink.SinkFault.TheVariants.{Failed};

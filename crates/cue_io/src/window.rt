@@ -1,6 +1,6 @@
 //! The buffer of a reader of lines: a fixed capacity that the bytes pass through.
 ghost use Rattle.std.specs.Prelude.{◌≡◌, ℕ, ◌+◌, ◌-◌, ◌<◌, ◌≤◌, List, [], ◌++◌, length, take, drop, IfOk, OnErr, MatchResult, slice_range, vec_len};
-ghost use Rattle.cue_io.specs.Faults.{HasRisen};
+ghost use Rattle.fault_counts.specs.Counts.{HasRisen};
 ghost use Rattle.cue_io.specs.Window.{Framed, Fills};
 
 use crate::source::{Source, SourceFault};

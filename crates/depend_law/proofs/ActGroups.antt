@@ -2,7 +2,7 @@
 use Rattle.std.proofs.Common.{◌≡◌, ℕ, true, Option, Some, None, refl, sym, subst}
 use Rattle.farm_types.specs.declared.boot.BootLine.{BootLine}
 use Rattle.farm_types.specs.declared.entry.Act.{Act}
-use Rattle.farm_types.specs.declared.entry.Act.TheVariants.{Opened, Show, Alloc, Sub, Boot, Heard, Submit, AddDepend, DropDepend, Pause, KillJob, KillFrame, EatFrame, RetryFrame, Lock, Tick, Book}
+use Rattle.farm_types.specs.declared.entry.Act.TheVariants.{Sub, Boot, Heard, Submit, Pause, KillJob, KillFrame, EatFrame, RetryFrame, Lock, Tick, Book}
 use Rattle.farm_types.specs.declared.job.JobSpec.{JobSpec}
 use Rattle.farm_types.specs.declared.states.LockState.{LockState}
 use Rattle.farm_types.specs.declared.sub_line.SubLine.{SubLine}
@@ -10,7 +10,7 @@ use Rattle.farm_types.specs.Booking.{may_record}
 use Rattle.farm_types.specs.DependActs.{pending_named}
 use Rattle.farm_types.specs.Farm.{Farm, alloc_named, changed_at, host_named, show_named}
 use Rattle.farm_types.specs.Kept.{KeepsDepends, KeepsRows}
-use Rattle.farm_types.specs.Operators.{retried_row, slot_named, with_frame, with_row_at}
+use Rattle.farm_types.specs.Operators.{retried_row, slot_named, with_row_at}
 use Rattle.farm_types.specs.Run.{IsSound}
 use Rattle.farm_types.specs.Step.{HasCondition, act_refusal, after_act, after_boot, after_lock, after_sub, after_submit, booked_row, expire, new_proc, proc_of, sub_named, with_proc}
 use Rattle.farm_law.proofs.Booked.{booking_makes}

@@ -1,8 +1,8 @@
 -- How a depend's row comes from that of an earlier farm: what is met stays so, and each mark that comes is of a group whose targets are done.
-use Rattle.std.proofs.Common.{◌≡◌, ◌≤◌, ◌<◌, ℕ, suc, zero, ◌+◌, Bool, true, false, cond, ◌&&◌, ◌||◌, not, eqb, List, [], ◌∷◌, ◌++◌, map, Option, Some, None, refl, ap, sym, subst, ◌∙◌, ◌⊎◌, inl, inr, arith, option_map}
-use Rattle.std.specs.List.{filter, list_all, list_any, slice_get}
-use Rattle.std.proofs.lemmas.Bool.{and_left, eqb-true, false≢true, ne_eqb, or_cases, or_from, or_left, or_parts, or_right, true≢false}
-use Rattle.std.proofs.lemmas.Option.{none-some, same_Some, slice_get-map}
+use Rattle.std.proofs.Common.{◌≡◌, ◌≤◌, ℕ, suc, zero, ◌+◌, Bool, true, false, cond, ◌&&◌, ◌||◌, not, eqb, List, [], ◌∷◌, ◌++◌, map, Some, refl, ap, sym, subst, ◌∙◌, ◌⊎◌, inl, inr, arith}
+use Rattle.std.specs.List.{list_all, slice_get}
+use Rattle.std.proofs.lemmas.Bool.{eqb-true, false≢true, or_cases, or_left, or_parts, or_right, true≢false}
+use Rattle.std.proofs.lemmas.Option.{none-some, same_Some}
 use Rattle.farm_types.specs.declared.depend.DependRow.{DependRow}
 use Rattle.farm_types.specs.declared.depend.DependSpec.{DependSpec}
 use Rattle.farm_types.specs.declared.depend.Group.{Group}
@@ -142,7 +142,7 @@ module _ (D : Group → Type 0) (f g : Farm) (same : SameGroups f g) where
 abbrev pub NoneAhead : Farm → Type 0
 NoneAhead f = (d : DependRow) (x : Group) → f.next_depend ≤ d.depend → is_marked f d x ≡ false
 
-at_end : {X : Type 0} (xs : List X) (y : X) (n : ℕ) (x : X) → slice_get (xs ++ y ∷ []) n ≡ Some x → (slice_get xs n ≡ Some x) ⊎ (y ≡ x)
+pub at_end : {X : Type 0} (xs : List X) (y : X) (n : ℕ) (x : X) → slice_get (xs ++ y ∷ []) n ≡ Some x → (slice_get xs n ≡ Some x) ⊎ (y ≡ x)
 at_end [] y zero x at = inr (same_Some y x at)
 at_end [] y (suc n) x at = absurd (none-some x at)
 at_end (z ∷ zs) y zero x at = inl at
@@ -193,7 +193,7 @@ adds_slots f (spec ∷ specs) = adds_slots (add_depend f spec) specs
 
 -- ---- a depend that is dropped
 
-mapped_at : {X Y : Type 0} (change : X → Y) (xs : List X) (n : ℕ) (y : Y) → slice_get (map change xs) n ≡ Some y → (x : X) × (slice_get xs n ≡ Some x) × (change x ≡ y)
+pub mapped_at : {X Y : Type 0} (change : X → Y) (xs : List X) (n : ℕ) (y : Y) → slice_get (map change xs) n ≡ Some y → (x : X) × (slice_get xs n ≡ Some x) × (change x ≡ y)
 mapped_at change [] n y at = absurd (none-some y at)
 mapped_at change (x ∷ xs) zero y at = (x, refl, same_Some (change x) y at)
 mapped_at change (x ∷ xs) (suc n) y at = mapped_at change xs n y at

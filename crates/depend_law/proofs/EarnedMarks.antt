@@ -1,9 +1,9 @@
 -- Along a legal run each mark is earned, and what is met stays so.
-use Rattle.std.proofs.Common.{◌≡◌, ◌≤◌, ◌<◌, ℕ, ◌+◌, Bool, true, false, ◌&&◌, ◌||◌, not, eqb, List, [], ◌∷◌, ◌++◌, Option, Some, None, refl, ap, sym, subst, ◌∙◌, ◌⊎◌, inl, inr, arith}
+use Rattle.std.proofs.Common.{◌≡◌, ◌≤◌, ℕ, ◌+◌, Bool, true, false, ◌||◌, not, List, [], ◌∷◌, Some, refl, ap, sym, subst, ◌∙◌, ◌⊎◌, inl, inr, arith}
 use Rattle.std.specs.List.{AllByRecursion, list_any, slice_get}
-use Rattle.std.proofs.lemmas.Bool.{false≢true, or_from, or_right, true≢false}
+use Rattle.std.proofs.lemmas.Bool.{or_from, or_right, true≢false}
 use Rattle.std.proofs.lemmas.List.Folds.{list_any-append}
-use Rattle.std.proofs.lemmas.Option.{none-some, same_Some}
+use Rattle.std.proofs.lemmas.Option.{same_Some}
 use Rattle.farm_types.specs.declared.depend.DependRow.{DependRow}
 use Rattle.farm_types.specs.declared.depend.DependSpec.{DependSpec}
 use Rattle.farm_types.specs.declared.depend.Group.{Group}
@@ -11,7 +11,7 @@ use Rattle.farm_types.specs.declared.depend.MetRow.{MetRow}
 use Rattle.farm_types.specs.declared.entry.Act.{Act}
 use Rattle.farm_types.specs.declared.entry.Act.TheVariants.{AddDepend, DropDepend, EatFrame, Heard, KillJob, RetryFrame, Submit}
 use Rattle.farm_types.specs.declared.entry.Entry.{Entry}
-use Rattle.farm_types.specs.DependActs.{add_depend, add_depends, after_depend, dropped, with_depends}
+use Rattle.farm_types.specs.DependActs.{add_depends, dropped, with_depends}
 use Rattle.farm_types.specs.Depends.{are_done, groups_of, is_done, is_marked, is_met}
 use Rattle.farm_types.specs.Farm.{Farm}
 use Rattle.farm_types.specs.Finish.{waits_by}
@@ -19,18 +19,18 @@ use Rattle.farm_types.specs.Kept.{IsKeptFarm, KeepsDepends, KeepsRows}
 use Rattle.farm_types.specs.Rising.{IsRising, depend_key}
 use Rattle.farm_types.specs.Run.{IsLegal, IsLegalStep, run_of}
 use Rattle.farm_types.specs.Settle.{kept_version, met_rows, raised, settle, with_blocked}
-use Rattle.farm_types.specs.Step.{acted, after, after_act, at_moment, closed, finish_all, finish_each, finish_one, finishing, followed, moment_of}
+use Rattle.farm_types.specs.Step.{acted, after, at_moment, closed, finish_all, finish_each, finish_one, finishing, followed, moment_of}
 use Rattle.farm_law.proofs.Filtered.{at_kept}
 use Rattle.farm_law.proofs.FinishedKept.{finishing_end, finishing_rise, kept_one, later_ends, number}
 use Rattle.farm_law.proofs.KeptChanges.{kept_later}
 use Rattle.farm_law.proofs.KeptJobsLists.{rising_below}
 use Rattle.farm_law.proofs.KeptRuns.{act_accepted, refusal_later}
 use Rattle.farm_law.proofs.SafeRuns.{allowed_later}
-use Rattle.depend_law.specs.Earned.{AreDoneAt, AreDoneIn, IsMarkedIn, MetStays}
+use Rattle.depend_law.specs.Earned.{AreDoneAt, AreDoneIn, IsMarkedIn, MetStays, SatisfiedStays}
 use Rattle.depend_law.specs.Ending.{Ends}
 use Rattle.depend_law.proofs.ActGroups.{LeavesGroups, act_same}
 use Rattle.depend_law.proofs.Among.{rising_once}
-use Rattle.depend_law.proofs.Comes.{AllCome, Comes, From, IsNew, NoneAhead, adds_come, adds_rise, adds_slots, block_comes, come_same, come_then, come_weaker, drop_comes, drop_rise, settle_comes}
+use Rattle.depend_law.proofs.Comes.{AllCome, From, NoneAhead, adds_come, adds_rise, adds_slots, block_comes, come_same, come_then, come_weaker, drop_comes, drop_rise, settle_comes}
 use Rattle.depend_law.proofs.Finishes.{fewer_groups, finish_keeps, groups_kept}
 use Rattle.depend_law.proofs.KeptRuns.{followed_step, kept_step}
 use Rattle.depend_law.proofs.KeptTurns.{later_keeps}
@@ -147,8 +147,11 @@ module _ (f : Farm) (e : Entry) (legal : IsLegalStep f e) (k : IsKeptFarm f) whe
       act_same later moment e.act (refusal_later f moment e.act ∙ act_accepted f e legal) (allowed_later f moment e.act legal.condition)
       (kept_later f moment (omega arith) (omega (arith, k.rows.moment_within, legal.formed.moment_within)) k.rows) (later_keeps f moment k.depends)
 
-  acted_same : SameGroups f (acted f e)
+  pub acted_same : SameGroups f (acted f e)
   acted_same = same_groups_then f later (acted f e) (same_groups f later refl refl refl (frames_same f.slots)) act_leaves_groups.same
+
+  pub acted_next : (acted f e).next_depend ≡ f.next_depend
+  acted_next = act_leaves_groups.next
 
   acted_rise : IsRising depend_key 1 (acted f e).depends (acted f e).next_depend
   acted_rise =
@@ -187,6 +190,17 @@ module _ (f g : Farm) (D : Group → Type 0) (k : KeepsDepends f) (all : AllCome
 
   pub met_stay : MetStays f g
   met_stay n m i d e x at now same there met = stays_by n m i d e x at same there met (all.rows m e now)
+
+  satisfied_by : (n : ℕ) (d e : DependRow) → slice_get f.depends n ≡ Some d → e.depend ≡ d.depend → d.met_all ≡ true → From D f g e → e.met_all ≡ true
+  satisfied_by n d e at same met (inl row) =
+      let old = row.1 in
+      let place = rising_once depend_key 1 f.depends f.next_depend n row.0 d old k.rise at row.2 (sym same ∙ row.3.number) in
+      let one : d ≡ old = same_Some d old (sym at ∙ (ap (slice_get f.depends) place ∙ row.2)) in
+      row.3.all (ap (λ (r : DependRow). r.met_all) (sym one) ∙ met)
+  satisfied_by n d e at same met (inr new) = absurd (omega (arith, rising_below depend_key 1 f.depends f.next_depend n d k.rise at, new.number, same))
+
+  pub satisfied_stay : SatisfiedStays f g
+  satisfied_stay n m d e at now same met = satisfied_by n d e at same met (all.rows m e now)
 
   earned_by : (depend : ℕ) (x : Group) (mark : IsMarkedIn g depend x) → From D f g mark.row → IsMarkedIn f depend x ⊎ D x
   earned_by depend x mark (inl row) =

@@ -22,6 +22,7 @@ pub mod NewJob
 pub mod Opened
 pub mod Placed
 pub mod Retried
+pub mod SatisfiedDepends
 pub mod Settled
 pub mod Shapes
 pub mod Stable

@@ -1,24 +1,25 @@
 -- The slots of a job's shape: each holds its frame, and none stands twice.
-use Rattle.std.proofs.Common.{◌≡◌, ℕ, suc, ◌+◌, ◌<◌, ◌≤◌, Bool, true, false, cond, eqb, leb, List, [], ◌∷◌, map, length, Option, Some, None, ℤ, refl, sym, ap, subst, ◌∙◌, arith, length-append}
+use Rattle.std.proofs.Common.{◌≡◌, ℕ, suc, ◌+◌, ◌<◌, ◌≤◌, true, false, eqb, leb, List, [], ◌∷◌, map, length, Option, Some, None, ℤ, refl, sym, ap, subst, ◌∙◌, arith, length-append}
 use Rattle.std.specs.Prelude.{nat_eq}
 use Rattle.std.specs.List.{AllByRecursion, IsDistinct, find, position_or_len, slice_get}
 use Rattle.std.specs.Option.{is_some}
 use Rattle.std.proofs.lemmas.Bool.{eqb-true, false≢true, leb-true, ne_eqb}
 use Rattle.std.proofs.lemmas.List.Folds.{find_at}
 use Rattle.std.proofs.lemmas.List.Sums.{sum_by-cons}
-use Rattle.std.proofs.lemmas.Option.{none-some, same_Some}
+use Rattle.std.proofs.lemmas.Option.{same_Some}
 use Rattle.farm_types.specs.declared.rows.JobRow.{JobRow}
 use Rattle.farm_types.specs.declared.rows.LayerRow.{LayerRow}
 use Rattle.farm_types.specs.declared.slot_row.Frame.{Frame}
 use Rattle.farm_types.specs.declared.slot_row.SlotRow.{SlotRow}
 use Rattle.farm_types.specs.declared.limits.TheConstants.{MOST_FRAMES}
 use Rattle.farm_types.specs.Depends.{layer_shape, or_first, shape_in, slot_placed, slots_placed}
-use Rattle.farm_types.specs.Farm.{for_some, is_placed, layers_of, slot_from}
+use Rattle.farm_types.specs.Farm.{is_placed, layers_of, slot_from}
 use Rattle.farm_types.specs.Groups.{all_slots}
 use Rattle.farm_types.specs.Kept.{AreAtPlaces, EachThere, HasItsLayers, KeepsJobs, frames_said, is_formed_job, is_of_pending, is_pending_job}
 use Rattle.farm_types.specs.Jobs.{JobLists}
 use Rattle.farm_types.specs.Ranges.{range_numbers}
 use Rattle.farm_types.proofs.Lists.{and_both, find_passes, for_some_true, found_is}
+use Rattle.farm_law.proofs.FoundSlots.{found_slot}
 use Rattle.farm_law.proofs.KeptJobsCounts.{StandsAt, stands_at}
 use Rattle.farm_law.proofs.KeptJobsFormed.{job_formed}
 use Rattle.depend_law.proofs.Among.{In, differ_append, each_append, each_at, each_weaker, kept_from}
@@ -51,40 +52,15 @@ HoldsPast slots job layer low slot = (x : Frame) × Holds slots slot x × (x.job
 
 -- ---- the slot of one position
 
--- the slot that was found, counted from a place
-record Found (test : Frame → Bool) (place : ℕ) (slots : List SlotRow) (slot : ℕ) : Type 0 where
-  index : ℕ
-  slot_is : slot ≡ place + index
-  row : SlotRow
-  at : slice_get slots index ≡ Some row
-  passes : for_some row.frame test ≡ true
-
-from_step : (test : Frame → Bool) (place slot : ℕ) (s : SlotRow) (ss : List SlotRow) (b : Bool) → for_some s.frame test ≡ b → (slot_from (place + 1) test ss ≡ Some slot → Found test (place + 1) ss slot)
-    → cond b (Some place) (slot_from (place + 1) test ss) ≡ Some slot → Found test place (s ∷ ss) slot
-from_step test place slot s ss true is later at =
-    let here : place ≡ slot = same_Some place slot at in
-    record { index = 0; slot_is = omega (arith, here); row = s; at = refl; passes = is }
-from_step test place slot s ss false is later at =
-    let r = later at in
-    record { index = suc r.index; slot_is = omega (arith, r.slot_is); row = r.row; at = r.at; passes = r.passes }
-
-slot_from_at : (test : Frame → Bool) (place slot : ℕ) (slots : List SlotRow) → slot_from place test slots ≡ Some slot → Found test place slots slot
-slot_from_at test place slot [] at = absurd (none-some slot at)
-slot_from_at test place slot (s ∷ ss) at = from_step test place slot s ss (for_some s.frame test) refl (slot_from_at test (place + 1) slot ss) at
-
 -- the frame of that position
 abbrev pub HoldsAt : List SlotRow → ℕ → ℕ → ℕ → ℕ → Type 0
 HoldsAt slots job layer position slot = (x : Frame) × Holds slots slot x × StandsAt job layer position x
 
-holds_found : (slots : List SlotRow) (job layer position slot : ℕ) → Found (is_placed job layer position) 0 slots slot → HoldsAt slots job layer position slot
-holds_found slots job layer position slot r =
-    let x = for_some_true r.row.frame (is_placed job layer position) r.passes in
-    let index_is : r.index ≡ slot = omega (arith, r.slot_is) in
-    (x.0, record { row = r.row; at = subst (λ (k : ℕ). slice_get slots k ≡ Some r.row) index_is r.at; frame_is = x.1 }, stands_at job layer position x.0 x.2)
-
 placed_holds : (slots : List SlotRow) (job layer position : ℕ) (o : Option ℕ) → slot_from 0 (is_placed job layer position) slots ≡ o → is_some o ≡ true → HoldsAt slots job layer position (or_first o)
 placed_holds slots job layer position None is some = absurd (false≢true some)
-placed_holds slots job layer position (Some slot) is some = holds_found slots job layer position slot (slot_from_at (is_placed job layer position) 0 slot slots is)
+placed_holds slots job layer position (Some slot) is some =
+    let found = found_slot (is_placed job layer position) slots slot is in
+    (found.frame, record { row = found.row; at = found.at; frame_is = found.is }, stands_at job layer position found.frame found.passes)
 
 -- where a slot is found, it is the one that is placed
 pub placed_found : (slots : List SlotRow) (job layer position : ℕ) → is_some (slot_from 0 (is_placed job layer position) slots) ≡ true

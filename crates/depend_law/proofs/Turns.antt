@@ -13,10 +13,11 @@ use Rattle.farm_types.specs.DependActs.{is_running}
 use Rattle.farm_types.specs.Depends.{is_done_state}
 use Rattle.farm_types.specs.Farm.{changed_at, for_some}
 use Rattle.farm_types.specs.Lost.{lose_on, lost_row, runs_on}
-use Rattle.farm_types.specs.Run.{HasItsAttempt, IsAttemptOf}
+use Rattle.farm_types.specs.Run.{HasItsAttempt}
 use Rattle.farm_types.specs.Settle.{is_blocked}
 use Rattle.farm_types.proofs.Changed.{changed_at_other, changed_at_same, places}
 use Rattle.farm_types.proofs.Lists.{for_some_true}
+use Rattle.farm_law.proofs.RunningFrames.{state_runs}
 
 -- what a test says of the state of the frame that there is
 abbrev pub on_frame : (FrameState → Bool) → Option Frame → Bool
@@ -66,19 +67,10 @@ turns_changed slots i change s at turn slot = by_place (places slot i)
 -- ---- lost attempts
 
 -- a frame that has an attempt runs
-pub runs_state : (place version : ℕ) (state : FrameState) (p : ProcRow) → IsAttemptOf place version state (Some p) → is_running state ≡ true
-runs_state place version Running p h = refl
-runs_state place version Waiting p h = absurd h
-runs_state place version Setup p h = absurd h
-runs_state place version Succeeded p h = absurd h
-runs_state place version Depend p h = absurd h
-runs_state place version Dead p h = absurd h
-runs_state place version Eaten p h = absurd h
-
 pub runs_frame : (place version : ℕ) (frame : Option Frame) (proc : Option ProcRow) (p : ProcRow) → proc ≡ Some p → HasItsAttempt place version frame proc → on_frame is_running frame ≡ true
 runs_frame place version frame None p is h = absurd (none-some p is)
 runs_frame place version None (Some q) p is h = absurd h
-runs_frame place version (Some x) (Some q) p is h = runs_state place version x.state q h
+runs_frame place version (Some x) (Some q) p is h = (state_runs place version x.state q h).0
 
 not_done : (state : FrameState) → is_running state ≡ true → (is_done_state state ≡ false) × (is_active state ≡ true)
 not_done Running h = (refl, refl)

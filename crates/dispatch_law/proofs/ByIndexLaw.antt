@@ -30,11 +30,12 @@ use Rattle.farm_types.specs.Step.{lists_of}
 use Rattle.farm_types.specs.Sums.{booked_in}
 use Rattle.farm_types.proofs.Lists.{and_both, found_is, for_some_true, list_all-at}
 use Rattle.farm_types.proofs.Passes.{for_some-there}
+use Rattle.farm_law.proofs.FoundSlots.{found_slot, some_slot}
 use Rattle.farm_law.proofs.KeptJobsCounts.{at_stands, weight_within}
 use Rattle.job_book.specs.Book.{count_in, is_in, number_of}
 use Rattle.job_book.specs.Index.{is_ready, slot_of}
 use Rattle.dispatch_law.specs.ByIndex.{show_of, subs_to, sub_cmp, sorted_subs, ranks_in_layer, ranks_in_job, ranks_in_show, ranks_by_index}
-use Rattle.dispatch_law.proofs.Found.{find_has, filter_has, stands, there}
+use Rattle.dispatch_law.proofs.Found.{find_has, filter_has}
 use Rattle.dispatch_law.proofs.InLayer.{at_rank, have_rank_at}
 use Rattle.dispatch_law.proofs.InShow.{show_strict, in_show, show_has}
 use Rattle.dispatch_law.proofs.Keys.{HasKeys, subs_less}
@@ -160,12 +161,9 @@ module _ (f : Farm) (kept : KeepsRows f) where
   found_there i s x at framed =
       let itself : is_placed x.job x.layer x.position x ≡ true = at_stands x.job x.layer x.position x (record { job_is = refl; layer_is = refl; position_is = refl }) in
       let passes : for_some s.frame (is_placed x.job x.layer x.position) ≡ true = for_some-there s.frame (is_placed x.job x.layer x.position) x framed itself in
-      let first = there 0 (is_placed x.job x.layer x.position) f.slots i s at passes in
-      let it = stands 0 (is_placed x.job x.layer x.position) f.slots first.0 first.1 in
-      let other = for_some_true it.row.frame (is_placed x.job x.layer x.position) it.passes in
-      let same : i ≡ it.slot = kept.jobs.frames_once i it.slot s it.row x other.0 at framed it.at other.1 other.2 in
-      let counted = it.counted in
-      first.1 ∙ ap Some (let e : first.0 ≡ i = omega (arith, same, counted) in e)
+      let first = some_slot (is_placed x.job x.layer x.position) 0 i f.slots s at passes in
+      let it = found_slot (is_placed x.job x.layer x.position) f.slots first.0 first.1 in
+      first.1 ∙ ap Some (sym (kept.jobs.frames_once i first.0 s it.row x it.frame at framed it.at it.is it.passes))
 
   module _ (host : ℕ) (row : HostRow) (hosted : slice_get f.hosts host ≡ Some row) where
     abbrev subs_here : List SubRow

@@ -1,12 +1,7 @@
--- What is found in lists: by find, by filter, and where a frame stands.
-use Rattle.std.proofs.Common.{◌≡◌, ℕ, suc, zero, ◌+◌, ◌&&◌, ◌⊎◌, inl, inr, Bool, true, false, cond, List, [], ◌∷◌, Some, refl, sym, ap, subst, ◌∙◌, arith, filter, find, eqb}
-use Rattle.std.specs.List.{slice_get}
-use Rattle.std.proofs.lemmas.Bool.{false≢true, eqb-true}
+-- What is found in lists, by find and by filter.
+use Rattle.std.proofs.Common.{◌≡◌, ◌⊎◌, inl, inr, Bool, true, false, cond, List, [], ◌∷◌, Some, refl, sym, ap, subst, ◌∙◌, filter, find}
+use Rattle.std.proofs.lemmas.Bool.{false≢true}
 use Rattle.std.proofs.lemmas.Option.{same_Some}
-use Rattle.farm_types.specs.declared.slot_row.Frame.{Frame}
-use Rattle.farm_types.specs.declared.slot_row.SlotRow.{SlotRow}
-use Rattle.farm_types.specs.Farm.{for_some, is_placed, slot_from}
-use Rattle.farm_types.proofs.Lists.{and_both}
 use Rattle.dispatch_law.proofs.Strict.{Has, has_first, has_later, has_none, has_split}
 
 -- ---- find and filter
@@ -45,51 +40,3 @@ from_by test y x xs false e h later = let got = later h in record { there = has_
 pub has_filter : {X : Type 0} (test : X → Bool) (xs : List X) (x : X) → Has (filter test xs) x → IsKept test xs x
 has_filter test [] x h = absurd (has_none x h)
 has_filter test (y ∷ xs) x h = from_by test y x xs (test y) refl h (has_filter test xs x)
-
--- ---- where a frame stands
-
--- a slot, counted from a place, whose frame passes the test
-pub record StandsFrom (place : ℕ) (test : Frame → Bool) (ss : List SlotRow) (n : ℕ) : Type 0 where
-  pub slot : ℕ
-  pub row : SlotRow
-  pub counted : n ≡ place + slot
-  pub at : slice_get ss slot ≡ Some row
-  pub passes : for_some row.frame test ≡ true
-
-stands_by : (place : ℕ) (test : Frame → Bool) (s : SlotRow) (ss : List SlotRow) (n : ℕ) (b : Bool) → for_some s.frame test ≡ b → cond b (Some place) (slot_from (place + 1) test ss) ≡ Some n
-    → (slot_from (place + 1) test ss ≡ Some n → StandsFrom (place + 1) test ss n) → StandsFrom place test (s ∷ ss) n
-stands_by place test s ss n true e h later =
-    record { slot = 0; row = s; counted = (let same : place ≡ n = same_Some place n h in omega arith); at = refl; passes = e }
-stands_by place test s ss n false e h later =
-    let got = later h in
-    let far = got.counted in
-    record { slot = suc got.slot; row = got.row; counted = omega arith; at = got.at; passes = got.passes }
-
-pub stands : (place : ℕ) (test : Frame → Bool) (ss : List SlotRow) (n : ℕ) → slot_from place test ss ≡ Some n → StandsFrom place test ss n
-stands place test [] n e = cc
-stands place test (s ∷ ss) n e = stands_by place test s ss n (for_some s.frame test) refl e (stands (place + 1) test ss n)
-
--- a slot of the test is found where there is one
-there_by : (place : ℕ) (test : Frame → Bool) (s : SlotRow) (ss : List SlotRow) (b : Bool) → (b ≡ false → (n : ℕ) × (slot_from (place + 1) test ss ≡ Some n)) → (n : ℕ) × (cond b (Some place) (slot_from (place + 1) test ss) ≡ Some n)
-there_by place test s ss true later = (place, refl)
-there_by place test s ss false later = later refl
-
-pub there : (place : ℕ) (test : Frame → Bool) (ss : List SlotRow) (i : ℕ) (s : SlotRow) → slice_get ss i ≡ Some s → for_some s.frame test ≡ true → (n : ℕ) × (slot_from place test ss ≡ Some n)
-there place test [] i s at passes = cc
-there place test (t ∷ ss) zero s at passes =
-    there_by place test t ss (for_some t.frame test) (λ none. absurd (false≢true (sym none ∙ (ap (λ (w : SlotRow). for_some w.frame test) (same_Some t s at) ∙ passes))))
-there place test (t ∷ ss) (suc i) s at passes = there_by place test t ss (for_some t.frame test) (λ none. there (place + 1) test ss i s at passes)
-
--- ---- places of frames
-
--- the frame's job, layer and position
-pub record IsAt (job layer position : ℕ) (x : Frame) : Type 0 where
-  pub job_is : x.job ≡ job
-  pub layer_is : x.layer ≡ layer
-  pub position_is : x.position ≡ position
-
-pub placed_at : (job layer position : ℕ) (x : Frame) → is_placed job layer position x ≡ true → IsAt job layer position x
-placed_at job layer position x h =
-    let both = and_both (eqb x.job job && eqb x.layer layer) (eqb x.position position) h in
-    let front = and_both (eqb x.job job) (eqb x.layer layer) both.0 in
-    record { job_is = eqb-true x.job job front.0; layer_is = eqb-true x.layer layer front.1; position_is = eqb-true x.position position both.1 }

@@ -1,16 +1,16 @@
 -- The ranks of a layer: at rising positions, each of a frame that stands there.
-use Rattle.std.proofs.Common.{◌≡◌, ℕ, zero, suc, ◌+◌, ◌<◌, ◌≤◌, ◌-◌, ◌⊎◌, inl, inr, true, Option, Some, None, refl, sym, ap, subst, ◌∙◌, arith, option_and_then}
+use Rattle.std.proofs.Common.{◌≡◌, ℕ, zero, suc, ◌+◌, ◌<◌, ◌≤◌, ◌-◌, ◌⊎◌, inl, inr, Option, Some, None, refl, sym, ap, ◌∙◌, arith, option_and_then}
 use Rattle.std.specs.List.{slice_get}
 use Rattle.std.proofs.lemmas.Option.{same_Some}
 use Rattle.farm_types.specs.declared.dispatch.Rank.{Rank}
-use Rattle.farm_types.specs.declared.slot_row.Frame.{Frame}
 use Rattle.farm_types.specs.declared.slot_row.SlotRow.{SlotRow}
 use Rattle.farm_types.specs.Dispatch.{rank_of, rank_cmp, with_found}
-use Rattle.farm_types.specs.Farm.{Farm, for_some, is_placed}
+use Rattle.farm_types.specs.Farm.{Farm, is_placed}
 use Rattle.farm_types.specs.Step.{lists_of}
 use Rattle.job_book.specs.Index.{slot_of}
 use Rattle.dispatch_law.specs.ByIndex.{rank_in_slot, rank_at_position, ranks_at}
-use Rattle.dispatch_law.proofs.Found.{stands, placed_at}
+use Rattle.farm_law.proofs.FoundSlots.{found_slot}
+use Rattle.farm_law.proofs.KeptJobsCounts.{stands_at}
 use Rattle.dispatch_law.proofs.Keys.{HasKeys, keys_of, one_job, positions_less}
 use Rattle.dispatch_law.proofs.RankFacts.{ranked, found_split, found_has, found_later}
 use Rattle.dispatch_law.proofs.Strict.{Has, has_none, IsStrict}
@@ -49,13 +49,11 @@ pub record IsOfPlace (f : Farm) (host job layer position : ℕ) (r : Rank) : Typ
 
 pub of_place : (f : Farm) (host job layer position : ℕ) (r : Rank) → IsRankAt f host job layer position r → IsOfPlace f host job layer position r
 of_place f host job layer position r it =
-    let found = stands 0 (is_placed job layer position) f.slots it.slot it.stands_at in
-    let place : it.slot ≡ found.slot = (let far = found.counted in omega arith) in
-    let rows : it.row ≡ found.row = same_Some it.row found.row (sym it.at ∙ (ap (slice_get f.slots) place ∙ found.at)) in
+    let found = found_slot (is_placed job layer position) f.slots it.slot it.stands_at in
+    let rows : it.row ≡ found.row = same_Some it.row found.row (sym it.at ∙ found.at) in
     let has = ranked f host it.slot it.row r it.at it.rank_is in
-    let framed : found.row.frame ≡ Some has.frame = ap (λ (s : SlotRow). s.frame) (sym rows) ∙ has.frame_is in
-    let passes : is_placed job layer position has.frame ≡ true = subst (λ (o : Option Frame). for_some o (is_placed job layer position) ≡ true) framed found.passes in
-    let stands_there = placed_at job layer position has.frame passes in
+    let same : found.frame ≡ has.frame = same_Some found.frame has.frame (sym found.is ∙ (ap (λ (s : SlotRow). s.frame) (sym rows) ∙ has.frame_is)) in
+    let stands_there = stands_at job layer position has.frame (ap (is_placed job layer position) (sym same) ∙ found.passes) in
     record {
       keys = keys_of f host it.slot it.row r has;
       job_is = ap (λ (x : Rank). x.job) has.rank_is ∙ stands_there.job_is;

@@ -6,63 +6,38 @@ use Rattle.std.proofs.lemmas.Bool.{le-leb, lt-ltb}
 use Rattle.std.proofs.lemmas.List.{length-append, length-map}
 use Rattle.farm_types.proofs.Changed.{length-changed_at}
 use Rattle.farm_types.proofs.ChangedLists.{list_all-changed_at, changed_at_kept, map-changed_at, map-map_kept}
-use Rattle.farm_types.proofs.Lists.{and_both, list_all-at}
+use Rattle.farm_types.proofs.Lists.{list_all-at}
 use Rattle.farm_types.proofs.Passes.{cond_each}
 use Rattle.farm_types.specs.Booking.{is_up}
 use Rattle.farm_types.specs.declared.boot.BootLine.{BootLine}
-use Rattle.farm_types.specs.declared.limits.TheConstants.{LAST_BOOT, LEAST_CORES, LEAST_MEMORY, MOST_CORES, MOST_HOSTS, MOST_MEMORY, MOST_TAGS}
+use Rattle.farm_types.specs.declared.limits.TheConstants.{LAST_BOOT, MOST_HOSTS, MOST_TAGS}
 use Rattle.farm_types.specs.declared.rows.HostRow.{HostRow}
 use Rattle.farm_types.specs.declared.states.LockState.{LockState}
 use Rattle.farm_types.specs.Farm.{changed_at, host_from}
 use Rattle.farm_types.specs.Formed.{IsFormedBoot}
-use Rattle.farm_types.specs.Forms.{is_between, is_name_text}
+use Rattle.farm_types.specs.Forms.{is_name_text}
 use Rattle.farm_types.specs.Hosts.{again_row, booted_row, down_row, heard_row, is_same_life, is_unheard, locked_row, new_host, reborn_row, reopened_row, silenced_row}
-use Rattle.farm_types.specs.Kept.{KeepsHosts, are_tags, host_label, is_formed_host}
+use Rattle.farm_types.specs.Kept.{KeepsHosts, host_label, is_formed_host}
+use Rattle.farm_law.proofs.FormedParts.{between, formed_host, host_formed}
 use Rattle.farm_law.proofs.KeptLists.{at_more, below_more, list_all-each, list_all-more, list_all-weaker}
 use Rattle.farm_law.proofs.KeptNames.{differ_more}
 
 -- ---- the form of a host
-
--- the tests of a host's form
-record HostParts (row : HostRow) : Type 0 where
-  name : is_name_text row.name ≡ true
-  tags : are_tags 0 row.tags ≡ true
-  cores : is_between LEAST_CORES MOST_CORES row.cores ≡ true
-  memory : is_between LEAST_MEMORY MOST_MEMORY row.memory ≡ true
-  boot : is_between 1 LAST_BOOT row.boot ≡ true
-  nonce : ltb row.nonce (2 ^ 64) ≡ true
-  seq : ltb row.seq (2 ^ 64) ≡ true
-
-host_parts : (row : HostRow) → is_formed_host row ≡ true → HostParts row
-host_parts row formed =
-    let name = and_both (is_name_text row.name) _ formed in
-    let tags = and_both (are_tags 0 row.tags) _ name.1 in
-    let cores = and_both (is_between LEAST_CORES MOST_CORES row.cores) _ tags.1 in
-    let memory = and_both (is_between LEAST_MEMORY MOST_MEMORY row.memory) _ cores.1 in
-    let boot = and_both (is_between 1 LAST_BOOT row.boot) _ memory.1 in
-    let nonce = and_both (ltb row.nonce (2 ^ 64)) _ boot.1 in
-    record { name = name.0; tags = tags.0; cores = cores.0; memory = memory.0; boot = boot.0; nonce = nonce.0; seq = nonce.1 }
-
-host_from_parts : (row : HostRow) → HostParts row → is_formed_host row ≡ true
-host_from_parts row p = both_true p.name (both_true p.tags (both_true p.cores (both_true p.memory (both_true p.boot (both_true p.nonce p.seq)))))
-
-between : (least most n : ℕ) → least ≤ n → n ≤ most → is_between least most n ≡ true
-between least most n low high = both_true (le-leb least n low) (le-leb n most high)
 
 -- a host as the line boots it, with a boot number within its limits
 booted_formed : (line : BootLine) (row : HostRow) (boot : ℕ) → IsFormedBoot line → is_name_text row.name ≡ true → 1 ≤ boot → boot ≤ LAST_BOOT
     → is_formed_host (record row { tags = line.tags; cores = line.cores; memory = line.memory; boot = boot; nonce = line.nonce; seq = 0 }) ≡ true
 booted_formed line row boot formed name some last =
     let limits = formed.limits in
-    host_from_parts (record row { tags = line.tags; cores = line.cores; memory = line.memory; boot = boot; nonce = line.nonce; seq = 0 })
+    formed_host (record row { tags = line.tags; cores = line.cores; memory = line.memory; boot = boot; nonce = line.nonce; seq = 0 })
     (record {
       name = name;
-      tags = both_true (between 0 MOST_TAGS (length line.tags) (omega arith) limits.tags_within) formed.tags;
-      cores = between LEAST_CORES MOST_CORES line.cores limits.cores_within.0 limits.cores_within.1;
-      memory = between LEAST_MEMORY MOST_MEMORY line.memory limits.memory_within.0 limits.memory_within.1;
-      boot = between 1 LAST_BOOT boot some last;
-      nonce = lt-ltb line.nonce (2 ^ 64) formed.nonce_within;
-      seq = refl;
+      tags = both_true (between 0 MOST_TAGS (length line.tags) (omega arith, limits.tags_within)) formed.tags;
+      cores = limits.cores_within;
+      memory = limits.memory_within;
+      boot = (some, last);
+      nonce = formed.nonce_within;
+      seq = omega arith;
     })
 
 -- ---- a host that changes
@@ -84,8 +59,8 @@ keeps_heard seq moment last within now row =
       name = refl;
       alloc = refl;
       formed = λ h.
-          let p = host_parts row h in
-          host_from_parts (heard_row seq moment row) (record { name = p.name; tags = p.tags; cores = p.cores; memory = p.memory; boot = p.boot; nonce = p.nonce; seq = lt-ltb seq (2 ^ 64) within });
+          let p = host_formed row h in
+          formed_host (heard_row seq moment row) (record { name = p.name; tags = p.tags; cores = p.cores; memory = p.memory; boot = p.boot; nonce = p.nonce; seq = within });
       heard = λ h. le-leb moment last now;
     }
 
@@ -112,7 +87,7 @@ booted_by line moment last row false formed now room =
     record {
       name = refl;
       alloc = refl;
-      formed = λ h. booted_formed line row (row.boot + 1) formed (host_parts row h).name (omega arith) (omega (arith, room refl));
+      formed = λ h. booted_formed line row (row.boot + 1) formed (host_formed row h).name (omega arith) (omega (arith, room refl));
       heard = λ h. le-leb moment last now;
     }
 

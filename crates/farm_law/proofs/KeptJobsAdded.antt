@@ -27,7 +27,8 @@ use Rattle.farm_types.proofs.ListSums.{sum_by-each_zero}
 use Rattle.farm_law.proofs.Filtered.{differ-filter}
 use Rattle.farm_law.proofs.KeptJobsCounts.{count_at, counts_frame, stands_at}
 use Rattle.farm_law.proofs.KeptJobsFormed.{formed_job}
-use Rattle.farm_law.proofs.KeptJobsLayers.{all_of_job, between, none_in_next, none_of_next, none_of_other, row_names, rows_at_places, rows_said}
+use Rattle.farm_law.proofs.FormedParts.{between}
+use Rattle.farm_law.proofs.KeptJobsLayers.{all_of_job, none_in_next, none_of_next, none_of_other, row_names, rows_at_places, rows_said}
 use Rattle.farm_law.proofs.KeptJobsLists.{find_none, for_some_more, found_later, names_differ, rising_below, some_none}
 use Rattle.farm_law.proofs.KeptJobsRows.{frame_kept, keeps_frame}
 

@@ -2,7 +2,7 @@
 use Rattle.std.proofs.Common.{◌≡◌, ℕ, suc, ◌+◌, ◌*◌, ◌<◌, ◌≤◌, Bool, true, false, cond, ◌&&◌, eqb, List, [], ◌∷◌, length, map, Some, None, refl, sym, ap, subst, ◌∙◌, arith}
 use Rattle.std.specs.List.{All, list_all, slice_get}
 use Rattle.std.specs.Cmp.Derive.{both_true}
-use Rattle.std.proofs.lemmas.Bool.{eq-eqb, ne_eqb, le-leb, lt-ltb, and_left}
+use Rattle.std.proofs.lemmas.Bool.{eq-eqb, ne_eqb, lt-ltb, and_left}
 use Rattle.std.proofs.lemmas.List.Sums.{sum_by-cons}
 use Rattle.farm_types.specs.declared.job.LayerSpec.{LayerSpec}
 use Rattle.farm_types.specs.declared.rows.LayerRow.{LayerRow}
@@ -11,10 +11,9 @@ use Rattle.farm_types.specs.Formed.{IsFormedLayer}
 use Rattle.farm_types.specs.Jobs.{frames_in, layer_row, layer_rows}
 use Rattle.farm_types.specs.Kept.{AreAtPlaces, frames_said, is_formed_layer, layer_in, layer_label}
 use Rattle.farm_types.specs.Farm.{layers_of}
-use Rattle.farm_types.specs.Limits.{IsBetween}
-use Rattle.farm_types.specs.Forms.{is_between}
 use Rattle.farm_types.specs.Ranges.{range_numbers}
 use Rattle.farm_types.specs.Rising.{IsRising, layer_key}
+use Rattle.farm_law.proofs.FormedParts.{between}
 use Rattle.farm_law.proofs.KeptJobsLists.{rising_below, find_none, filter_none, spec_name}
 
 -- ---- the layers that were there are of earlier jobs
@@ -83,10 +82,6 @@ rows_rise job place [] few = omega arith
 rows_rise job place (l ∷ ls) few =
     let next : MOST_LAYERS * job + place + 1 ≡ MOST_LAYERS * job + (place + 1) = omega arith in
     (omega arith, subst (λ k. IsRising layer_key k (layer_rows job (place + 1) ls) (MOST_LAYERS * (job + 1))) (sym next) (rows_rise job (place + 1) ls (omega arith)))
-
--- a number within limits passes the test
-pub between : (least most n : ℕ) → IsBetween least most n → is_between least most n ≡ true
-between least most n h = both_true (le-leb least n h.0) (le-leb n most h.1)
 
 -- a formed layer's row is formed
 row_formed : (job place : ℕ) (l : LayerSpec) → place < MOST_LAYERS → IsFormedLayer l → is_formed_layer (layer_row job place l) ≡ true

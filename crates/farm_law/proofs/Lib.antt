@@ -1,5 +1,6 @@
 pub mod ActLaws
 pub mod Booked
+pub mod BookedOnHosts
 pub mod Booted
 pub mod CanBook
 pub mod DemoLegal
@@ -13,6 +14,8 @@ pub mod FinishedKept
 pub mod FinishedOne
 pub mod FinishedRows
 pub mod Follows
+pub mod FormedParts
+pub mod FoundSlots
 pub mod Hosts
 pub mod KeepsLaw
 pub mod KeptActs
@@ -43,6 +46,7 @@ pub mod KeptServes
 pub mod KeptShows
 pub mod KeptStopped
 pub mod KeptWork
+pub mod LegalRuns
 pub mod Lost
 pub mod NeedsHosts
 pub mod Once
@@ -50,6 +54,7 @@ pub mod Paused
 pub mod Placed
 pub mod Recorded
 pub mod RowsStay
+pub mod RunningFrames
 pub mod RunsStay
 pub mod SafeRuns
 pub mod Spent

@@ -7,15 +7,13 @@ use Rattle.farm_types.specs.declared.attempt.Attempt.{Attempt}
 use Rattle.farm_types.specs.declared.attempt.DoneItem.{DoneItem}
 use Rattle.farm_types.specs.declared.attempt.ProcRow.{ProcRow}
 use Rattle.farm_types.specs.declared.slot_row.SlotRow.{SlotRow}
-use Rattle.farm_types.specs.declared.slot_row.Frame.{Frame}
-use Rattle.farm_types.specs.declared.states.FrameState.{FrameState}
-use Rattle.farm_types.specs.declared.states.FrameState.TheVariants.{Waiting, Setup, Running, Succeeded, Depend, Dead, Eaten}
 use Rattle.farm_types.specs.Farm.{Farm, changed_at}
-use Rattle.farm_types.specs.Run.{IsSound, HasItsAttempt, IsAttemptOf, is_same}
+use Rattle.farm_types.specs.Run.{IsSound, HasItsAttempt, is_same}
 use Rattle.farm_types.specs.Step.{is_live, ended_row, end_attempt}
 use Rattle.farm_types.proofs.Lists.{and_both, for_some_true, slice_get_below}
 use Rattle.farm_types.proofs.Changed.{changed_at_each, length-changed_at, places}
 use Rattle.farm_law.proofs.RowsStay.{SlotStays}
+use Rattle.farm_law.proofs.RunningFrames.{frame_runs}
 use Rattle.farm_types.proofs.Stays.{EachStays}
 
 abbrev pub IsSpentAt : Attempt → SlotRow → Type 0
@@ -29,21 +27,8 @@ IsSpent f a = IsSpentIn f.slots a
 
 -- ---- a live attempt has its slot's version
 
-live_state : (place version : ℕ) (state : FrameState) (p : ProcRow) → IsAttemptOf place version state (Some p) → p.version ≡ version
-live_state place version Waiting p h = absurd h
-live_state place version Setup p h = absurd h
-live_state place version Running p h = h.1
-live_state place version Succeeded p h = absurd h
-live_state place version Depend p h = absurd h
-live_state place version Dead p h = absurd h
-live_state place version Eaten p h = absurd h
-
-live_frame : (place version : ℕ) (frame : Option Frame) (p : ProcRow) → HasItsAttempt place version frame (Some p) → p.version ≡ version
-live_frame place version None p h = absurd h
-live_frame place version (Some frame) p h = live_state place version frame.state p h
-
 live_version : (place : ℕ) (s : SlotRow) (p : ProcRow) → s.proc ≡ Some p → HasItsAttempt place s.version s.frame s.proc → p.version ≡ s.version
-live_version place s p e h = live_frame place s.version s.frame p (subst (λ (o : Option ProcRow). HasItsAttempt place s.version s.frame o) e h)
+live_version place s p e h = (frame_runs place s.version s.frame p (subst (λ (o : Option ProcRow). HasItsAttempt place s.version s.frame o) e h)).4
 
 -- the slot and the record of an attempt that is live
 record LiveIn (f : Farm) (a : Attempt) : Type 0 where

@@ -4,6 +4,7 @@ pub mod ChangesInTurn
 pub mod ListSums
 pub mod Lists
 pub mod NextKey
+pub mod NumberTexts
 pub mod Passes
 pub mod Ranges
 pub mod Searched

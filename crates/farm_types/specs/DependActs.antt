@@ -51,9 +51,12 @@ abbrev pub part_refusal : Farm → ℕ → Option (List ℕ) → Option ℤ → 
 part_refusal f job None frame = None
 part_refusal f job (Some name) frame = layer_refusal name frame (layer_of_name f job name)
 
--- no pending job has the name: a finished one has it, or none
+-- no pending job has the name: a finished one of these has it, or none
+abbrev pub missing_among : List JobRow → List ℕ → Refusal
+missing_among jobs name = if list_any (is_finished_named name) jobs then Finished name else Unknown name
+
 abbrev pub job_missing : Farm → List ℕ → Refusal
-job_missing f name = if list_any (is_finished_named name) f.jobs then Finished name else Unknown name
+job_missing f name = missing_among f.jobs name
 
 abbrev pub end_refusal : Farm → Place → Option JobRow → Option Refusal
 end_refusal f p None = Some (job_missing f p.job)

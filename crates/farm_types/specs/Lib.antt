@@ -5,6 +5,7 @@ pub mod Depends
 pub mod Dispatch
 pub mod EntryAnswers
 pub mod Farm
+pub mod Faults
 pub mod Finish
 pub mod Formed
 pub mod Forms

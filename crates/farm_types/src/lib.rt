@@ -7,6 +7,7 @@ mod boot;
 mod depend;
 mod dispatch;
 mod entry;
+mod fault;
 mod items;
 mod job;
 mod limits;
@@ -29,6 +30,7 @@ pub use depend::{
 };
 pub use dispatch::{Candidate, Cut, Rank};
 pub use entry::{Act, Entry, FramePlace, HeardAct};
+pub use fault::FarmFault;
 pub use items::Items;
 pub use job::{JobSpec, LayerSpec};
 pub use limits::{
