@@ -1,8 +1,8 @@
 //! The books, and the calls that read one of their rows.
 
 ghost use Rattle.std.specs.Prelude.{◌≡◌, ◌≤◌, length, slice_get, option_copied, option_map, All, IfOk, IfSome, IfNone};
-ghost use Rattle.job_book.specs.Book.{IsLeastAbove};
 ghost use Rattle.farm_types.specs.Farm.{empty_farm, job_at, layer_at, sub_at, sub_of};
+ghost use Rattle.farm_types.specs.Rising.{IsNextKey, job_key};
 ghost use Rattle.farm_types.specs.Step.{lists_of};
 ghost use Rattle.farm_types.specs.Sums.{booked_in, total_at};
 ghost use Rattle.farm_books.specs.Reads.{job_after};
@@ -160,7 +160,7 @@ impl Books {
     /// The job with the least number above this one.
     pub fn next_job(&self, after: u32) -> Option<JobNo>
         ensures value { result ≡ job_after self.now after }
-        ensures least { IfSome result (IsLeastAbove self.now.jobs after) }
+        ensures least { IfSome result (IsNextKey job_key self.now.jobs after) }
         ensures none { IfNone result (All (λ j. j.job ≤ after) self.now.jobs) }
     {
         self.jobs.next(after)

@@ -12,9 +12,9 @@ ghost use Rattle.job_book.specs.Book.{Checks};
 
 use crate::books::Books;
 use alloc_tags::AllocRefusal;
-use farm_types::{AllocNo, BootLine, HostNo, JobSpec, ShowNo};
+use farm_types::{AllocNo, BootLine, FarmFault, HostNo, JobSpec, ShowNo};
 use host_book::{BootPlan, HeardRefusal, HostRefusal};
-use job_book::{JobFault, Placing};
+use job_book::Placing;
 use std::alloc::Global;
 
 impl Books {
@@ -62,7 +62,7 @@ impl Books {
         alloc: Global,
         spec: &JobSpec,
         show: ShowNo,
-    ) -> Result<Placing, JobFault>
+    ) -> Result<Placing, FarmFault>
         requires { JobKeepsLimits spec.now }
         ensures { Checks (lists_of self.now) show spec.now result }
     {

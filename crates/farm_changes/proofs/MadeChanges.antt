@@ -29,10 +29,10 @@ use Rattle.farm_changes.specs.RowsOf.{lives_ended}
 use Rattle.farm_changes.specs.declared.change.Change.{Change}
 use Rattle.farm_changes.specs.declared.change.More.TheVariants as more
 use Rattle.farm_changes.specs.declared.change.Reserved.TheVariants as taken
-use Rattle.farm_places.specs.declared.fault.PrepareFault.{PrepareFault}
-use Rattle.farm_places.specs.declared.fault.PrepareFault.TheVariants.{Refused, NoMemory}
+use Rattle.farm_types.specs.declared.fault.FarmFault.{FarmFault}
+use Rattle.farm_types.specs.declared.fault.FarmFault.TheVariants.{Refused, NoMemory}
 use Rattle.farm_changes.proofs.FreeSlots.{waiting_free}
-use Rattle.farm_changes.proofs.PlannedBoots.{IsRefusal, planned, silenced_plan}
+use Rattle.farm_changes.proofs.PlannedBoots.{IsBootRefusal, planned, silenced_plan}
 
 -- ---- moments
 
@@ -50,7 +50,7 @@ makes_later f e moment change is makes =
     }
 
 -- and so is a refusal
-pub prepares_later : (f : Farm) (e : Entry) (a : Act) (moment : ℕ) (r : Result Change PrepareFault) → moment ≡ moment_of f e.moment → e.act ≡ a → Prepares f (record { moment = moment; act = a }) r → Prepares f e r
+pub prepares_later : (f : Farm) (e : Entry) (a : Act) (moment : ℕ) (r : Result Change FarmFault) → moment ≡ moment_of f e.moment → e.act ≡ a → Prepares f (record { moment = moment; act = a }) r → Prepares f e r
 prepares_later f e a moment (Ok change) is same p = makes_later f e moment change is (subst (λ (x : Act). Makes f (record { moment = moment; act = x }) change) (sym same) p)
 prepares_later f e a moment (Err (Refused why)) is same p = ap (act_refusal f) same ∙ p
 prepares_later f e a moment (Err NoMemory) is same p = tt
@@ -149,7 +149,7 @@ boot_makes f line copy moment alloc boot plan rows change ahead alloc_is plan_is
     (ap (λ (h : Farm). with_more h moment (more.Boot plan line)) installs ∙ ap (λ (o : Option ℕ). after_boot g line moment o) (ap Some p.alloc_is ∙ sym alloc_is))
     (ap (λ (n : ℕ). answer.Boot n line.nonce) p.boot_is))
 
-pub boot_refuses : (f : Farm) (line : BootLine) (moment alloc : ℕ) (fault : PrepareFault) → alloc_named f line.alloc ≡ Some alloc → IsRefusal f line alloc fault → Prepares f (record { moment = moment; act = act.Boot line }) (Err fault)
+pub boot_refuses : (f : Farm) (line : BootLine) (moment alloc : ℕ) (fault : FarmFault) → alloc_named f line.alloc ≡ Some alloc → IsBootRefusal f line alloc fault → Prepares f (record { moment = moment; act = act.Boot line }) (Err fault)
 boot_refuses f line moment alloc (Refused said) alloc_is h = rw alloc_is h
 boot_refuses f line moment alloc NoMemory alloc_is h = tt
 

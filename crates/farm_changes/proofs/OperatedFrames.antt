@@ -24,9 +24,9 @@ use Rattle.host_book.specs.declared.life.HostLife.{HostLife}
 use Rattle.job_book.specs.Book.{IsSameFrame, KeepsFrame, has_frame}
 use Rattle.farm_books.specs.Install.{CanInstall, MayBegin}
 use Rattle.farm_draft.specs.Rows.{AreInstallable, AreReady, installed, put_lives, put_slots, slot_of}
-use Rattle.farm_places.specs.declared.fault.PrepareFault.{PrepareFault}
-use Rattle.farm_places.specs.declared.fault.PrepareFault.TheVariants.{Refused, NoMemory}
-use Rattle.farm_places.specs.Ends.{Refuses}
+use Rattle.farm_types.specs.declared.fault.FarmFault.{FarmFault}
+use Rattle.farm_types.specs.declared.fault.FarmFault.TheVariants.{Refused, NoMemory}
+use Rattle.farm_types.specs.Faults.{Refuses}
 use Rattle.farm_places.specs.Frames.{FindsFrame}
 use Rattle.farm_changes.specs.Change.{AnswersAct, HasHeard, Makes, Prepares}
 use Rattle.farm_changes.specs.ChangedRow.{ChangesRow}
@@ -81,15 +81,15 @@ unfolding slot_named
 later_slot f p moment = refl
 
 module _ (f : Farm) (moment : ℕ) (p : FramePlace) (a : Act) (refusal : Option SlotRow → Option Refusal) (become : SlotRow → SlotRow) (is : IsFrameAct f moment p a refusal become) where
-  find_refuses : (fault : PrepareFault) → FindsFrame f p (Err fault) → Prepares f (record { moment = moment; act = a }) (Err fault)
+  find_refuses : (fault : FarmFault) → FindsFrame f p (Err fault) → Prepares f (record { moment = moment; act = a }) (Err fault)
   find_refuses (Refused why) refused = is.refused ∙ ap (λ (o : Option Refusal). or_else o (refusal (slot_row_named f p))) refused
   find_refuses NoMemory refused = tt
 
   -- the fault of the place is passed on
-  pub find_fails : (fault : PrepareFault) (r : Result Change PrepareFault) → IsErrAnd r (λ e. e ≡ fault) → FindsFrame f p (Err fault) → Prepares f (record { moment = moment; act = a }) r
+  pub find_fails : (fault : FarmFault) (r : Result Change FarmFault) → IsErrAnd r (λ e. e ≡ fault) → FindsFrame f p (Err fault) → Prepares f (record { moment = moment; act = a }) r
   find_fails fault r err found =
       let e = err_from_is_err_and r err in
-      subst (Prepares f (record { moment = moment; act = a })) (sym e.1) (find_refuses e.0 (subst (λ (x : PrepareFault). FindsFrame f p (Err x)) (sym e.2) found))
+      subst (Prepares f (record { moment = moment; act = a })) (sym e.1) (find_refuses e.0 (subst (λ (x : FarmFault). FindsFrame f p (Err x)) (sym e.2) found))
 
   module _ (slot : ℕ) (accepted : place_refusal f (place_of p) ≡ None) (named : slot_named f p ≡ Some slot) where
     row_is : slot_row_named f p ≡ slice_get f.slots slot
@@ -98,17 +98,17 @@ module _ (f : Farm) (moment : ℕ) (p : FramePlace) (a : Act) (refusal : Option 
     refusal_is : act_refusal f a ≡ refusal (slice_get f.slots slot)
     refusal_is = is.refused ∙ (ap (λ (o : Option Refusal). or_else o (refusal (slot_row_named f p))) accepted ∙ ap refusal row_is)
 
-    check_refuses : (fault : PrepareFault) → Refuses {X = Unit {0}} (refusal (slice_get f.slots slot)) (Err fault) → Prepares f (record { moment = moment; act = a }) (Err fault)
+    check_refuses : (fault : FarmFault) → Refuses {X = Unit {0}} (refusal (slice_get f.slots slot)) (Err fault) → Prepares f (record { moment = moment; act = a }) (Err fault)
     check_refuses (Refused why) refused = refusal_is ∙ refused
     check_refuses NoMemory refused = tt
 
     -- the fault of the row is passed on
-    pub check_fails : (fault : PrepareFault) (r : Result Change PrepareFault) → IsErrAnd r (λ e. e ≡ fault) → Refuses {X = Unit {0}} (refusal (slice_get f.slots slot)) (Err fault)
+    pub check_fails : (fault : FarmFault) (r : Result Change FarmFault) → IsErrAnd r (λ e. e ≡ fault) → Refuses {X = Unit {0}} (refusal (slice_get f.slots slot)) (Err fault)
         → Prepares f (record { moment = moment; act = a }) r
     check_fails fault r err refused =
         let e = err_from_is_err_and r err in
         subst (Prepares f (record { moment = moment; act = a })) (sym e.1)
-        (check_refuses e.0 (subst (λ (x : PrepareFault). Refuses {X = Unit {0}} (refusal (slice_get f.slots slot)) (Err x)) (sym e.2) refused))
+        (check_refuses e.0 (subst (λ (x : FarmFault). Refuses {X = Unit {0}} (refusal (slice_get f.slots slot)) (Err x)) (sym e.2) refused))
 
     pub frame_makes : (change : Change) → f.moment ≤ moment → has_frame (lists_of f) slot ≡ true → refusal (slice_get f.slots slot) ≡ None → ChangesRow f moment slot become change
         → Makes f (record { moment = moment; act = a }) change

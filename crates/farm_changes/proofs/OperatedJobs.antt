@@ -10,7 +10,7 @@ use Rattle.farm_types.specs.declared.entry.Act.TheVariants as act
 use Rattle.farm_types.specs.declared.rows.JobRow.{JobRow}
 use Rattle.farm_types.specs.declared.slot_row.SlotRow.{SlotRow}
 use Rattle.farm_types.specs.declared.states.FrameState.TheVariants as frame_state
-use Rattle.farm_types.specs.DependActs.{job_missing, pending_named}
+use Rattle.farm_types.specs.DependActs.{missing_among, pending_named}
 use Rattle.farm_types.specs.Farm.{Farm}
 use Rattle.farm_types.specs.Jobs.{JobLists, is_pending_named}
 use Rattle.farm_types.specs.Kept.{KeepsRows}
@@ -20,9 +20,9 @@ use Rattle.farm_law.proofs.KeptJobsLists.{some_none}
 use Rattle.job_book.specs.Book.{count_in, has_job}
 use Rattle.farm_draft.specs.Rows.{AreReady, installed}
 use Rattle.farm_draft.specs.declared.rows.Rows.{Rows}
-use Rattle.farm_places.specs.declared.fault.PrepareFault.{PrepareFault}
-use Rattle.farm_places.specs.declared.fault.PrepareFault.TheVariants.{Refused, NoMemory}
-use Rattle.farm_places.specs.Ends.{IsRefusal}
+use Rattle.farm_types.specs.declared.fault.FarmFault.{FarmFault}
+use Rattle.farm_types.specs.declared.fault.FarmFault.TheVariants.{Refused, NoMemory}
+use Rattle.farm_types.specs.Faults.{IsRefusal}
 use Rattle.farm_changes.specs.Change.{Makes, Prepares, with_more}
 use Rattle.farm_changes.specs.declared.change.Change.{Change}
 use Rattle.farm_changes.specs.declared.change.More.TheVariants as more
@@ -78,10 +78,11 @@ named_there f name b job lists is =
 
 -- ---- refusals
 
-pub job_refuses : (f : Farm) (moment : ℕ) (a : Act) (name : List ℕ) (fault : PrepareFault) → act_refusal f a ≡ job_there_refusal f name (pending_named f name) → job_named f name ≡ None → IsRefusal (job_missing f name) fault
-    → Prepares f (record { moment = moment; act = a }) (Err fault)
-job_refuses f moment a name (Refused why) refusal none is = refusal ∙ (ap (job_there_refusal f name) (none_of (pending_named f name) none) ∙ ap Some (sym is))
-job_refuses f moment a name NoMemory refusal none is = tt
+pub job_refuses : (f : Farm) (moment : ℕ) (a : Act) (name : List ℕ) (b : JobLists) (fault : FarmFault) → b ≡ lists_of f → act_refusal f a ≡ job_there_refusal f name (pending_named f name) → job_named f name ≡ None
+    → IsRefusal (missing_among b.jobs name) fault → Prepares f (record { moment = moment; act = a }) (Err fault)
+job_refuses f moment a name b (Refused why) lists refusal none is =
+    refusal ∙ (ap (job_there_refusal f name) (none_of (pending_named f name) none) ∙ ap Some (sym (is ∙ ap (λ (x : JobLists). missing_among x.jobs name) lists)))
+job_refuses f moment a name b NoMemory lists refusal none is = tt
 
 -- ---- a job that is paused
 

@@ -21,8 +21,8 @@ use Rattle.host_book.specs.declared.boots.HostRefusal.{HostRefusal}
 use Rattle.host_book.specs.declared.boots.HostRefusal.TheVariants.{OtherAlloc, HostsFull, BootsSpent}
 use Rattle.farm_changes.specs.Change.{boot_in}
 use Rattle.farm_changes.specs.Refused.{IsBootFault}
-use Rattle.farm_places.specs.declared.fault.PrepareFault.{PrepareFault}
-use Rattle.farm_places.specs.declared.fault.PrepareFault.TheVariants.{Refused, NoMemory}
+use Rattle.farm_types.specs.declared.fault.FarmFault.{FarmFault}
+use Rattle.farm_types.specs.declared.fault.FarmFault.TheVariants.{Refused, NoMemory}
 use Rattle.farm_types.proofs.Lists.{slice_get_below}
 use Rattle.farm_law.proofs.KeptNames.{named_within}
 use Rattle.farm_changes.proofs.LostLives.{silenced_named}
@@ -122,11 +122,11 @@ fault_is f HostsFull said e = cc
 fault_is f BootsSpent said e = cc
 
 -- what the farm answers to a boot that the book refuses
-abbrev pub IsRefusal : Farm → BootLine → ℕ → PrepareFault → Type 0
-IsRefusal f line alloc (Refused said) = boot_at f line alloc (host_named f line.host) ≡ Some said
-IsRefusal f line alloc NoMemory = Unit {0}
+abbrev pub IsBootRefusal : Farm → BootLine → ℕ → FarmFault → Type 0
+IsBootRefusal f line alloc (Refused said) = boot_at f line alloc (host_named f line.host) ≡ Some said
+IsBootRefusal f line alloc NoMemory = Unit {0}
 
-pub boot_refused : (f : Farm) (line : BootLine) (alloc : ℕ) (why : HostRefusal) (fault : PrepareFault) → plan_of f.hosts line alloc ≡ Err why → IsBootFault f why fault → IsRefusal f line alloc fault
+pub boot_refused : (f : Farm) (line : BootLine) (alloc : ℕ) (why : HostRefusal) (fault : FarmFault) → plan_of f.hosts line alloc ≡ Err why → IsBootFault f why fault → IsBootRefusal f line alloc fault
 boot_refused f line alloc why (Refused said) e is = refused_at f line alloc (host_named f line.host) why (host_there f line.host (host_named f line.host) refl) e ∙ sym (ap Some (fault_is f why said is))
 boot_refused f line alloc why NoMemory e is = tt
 

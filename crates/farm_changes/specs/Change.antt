@@ -24,8 +24,8 @@ use Rattle.farm_changes.specs.declared.change.More.{More}
 use Rattle.farm_changes.specs.declared.change.More.TheVariants as more
 use Rattle.farm_changes.specs.declared.change.Reserved.{Reserved}
 use Rattle.farm_changes.specs.declared.change.Reserved.TheVariants as taken
-use Rattle.farm_places.specs.declared.fault.PrepareFault.{PrepareFault}
-use Rattle.farm_places.specs.declared.fault.PrepareFault.TheVariants.{Refused, NoMemory}
+use Rattle.farm_types.specs.declared.fault.FarmFault.{FarmFault}
+use Rattle.farm_types.specs.declared.fault.FarmFault.TheVariants.{Refused, NoMemory}
 
 -- ---- what a change does
 
@@ -114,7 +114,7 @@ pub record Makes (f : Farm) (e : Entry) (change : Change) : Type 0 where
   pub answer : AnswersAct f (moment_of f e.moment) e.act change.answer
 
 -- a change that makes what the entry's act does, or exactly the farm's refusal of the act; running out of memory needs no cause
-abbrev pub Prepares : Farm → Entry → Result Change PrepareFault → Type 0
+abbrev pub Prepares : Farm → Entry → Result Change FarmFault → Type 0
 Prepares f e (Ok change) = Makes f e change
 Prepares f e (Err (Refused why)) = act_refusal f e.act ≡ Some why
 Prepares f e (Err NoMemory) = Unit {0}

@@ -8,8 +8,7 @@ use crate::change::{Change, More};
 use crate::preparing::change_of;
 use farm_books::Books;
 use farm_draft::Rows;
-use farm_places::PrepareFault;
-use farm_types::{Answer, DependNo, DependSpec};
+use farm_types::{Answer, DependNo, DependSpec, FarmFault};
 use std::alloc::Global;
 
 /// Prepares that a depend is added.
@@ -18,7 +17,7 @@ pub(crate) fn prepare_added(
     books: &Books,
     moment: u64,
     spec: &DependSpec,
-) -> Result<Change, PrepareFault>
+) -> Result<Change, FarmFault>
     requires { books.now.moment ≤ moment }
     ensures { Prepares books.now (record { moment = moment; act = act.AddDepend spec.now }) result }
 {
@@ -37,7 +36,7 @@ pub(crate) fn prepare_dropped(
     books: &Books,
     moment: u64,
     depend: DependNo,
-) -> Result<Change, PrepareFault>
+) -> Result<Change, FarmFault>
     requires { books.now.moment ≤ moment }
     ensures { Prepares books.now (record { moment = moment; act = act.DropDepend depend }) result }
 {

@@ -1,38 +1,36 @@
 //! Prepares what hosts say and what is done to them: boots, reports, locks, and time that passed.
 
 ghost use Rattle.std.specs.Prelude.{◌≡◌, ◌≤◌, ◌==◌, false, slice_get, Some};
+ghost use Rattle.farm_types.specs.Faults.{IsRefusal};
 ghost use Rattle.farm_types.specs.Kept.{KeepsRows};
 ghost use Rattle.farm_types.specs.Limits.{BootKeepsLimits};
 ghost use Rattle.farm_types.specs.Lost.{count_on};
 ghost use Rattle.farm_types.specs.Step.{is_silent, name_of_alloc};
 ghost use Rattle.farm_types.specs.declared.answer.Answer.TheVariants as answer;
 ghost use Rattle.farm_types.specs.declared.entry.Act.TheVariants as act;
+ghost use Rattle.farm_types.specs.declared.refusal.Refusal.TheVariants.{Exists};
 ghost use Rattle.farm_changes.specs.Change.{Prepares, boot_in};
-ghost use Rattle.farm_changes.specs.Refused.{IsBootFault, IsExisting};
+ghost use Rattle.farm_changes.specs.Refused.{IsBootFault};
 ghost use Rattle.farm_changes.specs.SilentCounts.{is_silent_one};
 ghost use Rattle.farm_changes.specs.declared.change.More.TheVariants as more;
 ghost use Rattle.farm_changes.specs.declared.change.Reserved.TheVariants as taken;
 
 use crate::change::{Change, More};
 use crate::preparing::change_of;
-use crate::refused::{existing, existing_alloc, full};
+use crate::refused::existing_alloc;
 use crate::reports::heard_rows;
 use crate::rows_of::{boot_rows, expired_rows, locked_rows, opened_rows};
 use farm_books::Books;
 use farm_draft::Rows;
-use farm_places::{PrepareFault, unknown};
 use farm_types::{
-    AllocNo, Answer, BootLine, Counted, HeardAct, HostNo, LAST_BOOT, LockState, MOST_HOSTS, Text,
+    AllocNo, Answer, BootLine, Counted, FarmFault, HeardAct, HostNo, LAST_BOOT, LockState,
+    MOST_HOSTS, Text,
 };
 use host_book::{BootPlan, HostRefusal};
 use std::alloc::Global;
 
 /// Prepares that every host that is up counts as heard.
-pub(crate) fn prepare_opened(
-    alloc: Global,
-    books: &Books,
-    moment: u64,
-) -> Result<Change, PrepareFault>
+pub(crate) fn prepare_opened(alloc: Global, books: &Books, moment: u64) -> Result<Change, FarmFault>
     requires kept { KeepsRows books.now }
     requires ahead { books.now.moment ≤ moment }
     ensures { Prepares books.now (record { moment = moment; act = act.Opened }) result }
@@ -47,14 +45,14 @@ pub(crate) fn prepare_boot(
     books: &Books,
     moment: u64,
     line: &BootLine,
-) -> Result<Change, PrepareFault>
+) -> Result<Change, FarmFault>
     requires kept { KeepsRows books.now }
     requires ahead { books.now.moment ≤ moment }
     requires limits { BootKeepsLimits line.now }
     ensures { Prepares books.now (record { moment = moment; act = act.Boot line.now }) result }
 {
     let Some(allocation) = books.alloc_named(line.alloc.as_str()) else {
-        return Err(unknown(alloc, &line.alloc));
+        return Err(FarmFault::unknown(alloc, &line.alloc));
     };
     let plan = match books.check_boot(line, allocation) {
         Ok(plan) => plan,
@@ -81,22 +79,22 @@ fn boot_of(plan: &BootPlan) -> u32
 }
 
 // Why a boot isn't taken.
-fn boot_fault(alloc: Global, books: &Books, refusal: HostRefusal) -> PrepareFault
+fn boot_fault(alloc: Global, books: &Books, refusal: HostRefusal) -> FarmFault
     ensures { IsBootFault books.now refusal result }
 {
     match refusal {
         HostRefusal::OtherAlloc { alloc: other } => existing_number(alloc, books, other),
-        HostRefusal::HostsFull => full(u64::from(MOST_HOSTS), Counted::Hosts),
-        HostRefusal::BootsSpent => full(u64::from(LAST_BOOT), Counted::Boots),
+        HostRefusal::HostsFull => FarmFault::full(u64::from(MOST_HOSTS), Counted::Hosts),
+        HostRefusal::BootsSpent => FarmFault::full(u64::from(LAST_BOOT), Counted::Boots),
     }
 }
 
 // That the allocation of that number is there. A number without one has an empty name.
-fn existing_number(alloc: Global, books: &Books, number: AllocNo) -> PrepareFault
-    ensures { IsExisting (name_of_alloc (slice_get books.now.allocs number)) result }
+fn existing_number(alloc: Global, books: &Books, number: AllocNo) -> FarmFault
+    ensures { IsRefusal (Exists (name_of_alloc (slice_get books.now.allocs number))) result }
 {
     match books.allocation(number) {
-        None => existing(alloc, &Text::from_string(String::new(alloc))),
+        None => FarmFault::existing(alloc, &Text::from_string(String::new(alloc))),
         Some(row) => existing_alloc(alloc, row.facility.as_str(), row.tag.as_str()),
     }
 }
@@ -107,13 +105,13 @@ pub(crate) fn prepare_heard(
     books: &Books,
     moment: u64,
     heard: &HeardAct,
-) -> Result<Change, PrepareFault>
+) -> Result<Change, FarmFault>
     requires kept { KeepsRows books.now }
     requires ahead { books.now.moment ≤ moment }
     ensures { Prepares books.now (record { moment = moment; act = act.Heard heard.now }) result }
 {
     let Some(host) = books.host_named(heard.host.as_str()) else {
-        return Err(unknown(alloc, &heard.host));
+        return Err(FarmFault::unknown(alloc, &heard.host));
     };
     books.check_heard(host, heard.boot, heard.seq)?;
     let rows = heard_rows(alloc, books, moment, host, heard)?;
@@ -136,24 +134,20 @@ pub(crate) fn prepare_lock(
     moment: u64,
     host: &Text,
     lock: LockState,
-) -> Result<Change, PrepareFault>
+) -> Result<Change, FarmFault>
     requires kept { KeepsRows books.now }
     requires ahead { books.now.moment ≤ moment }
     ensures { Prepares books.now (record { moment = moment; act = act.Lock host.now lock }) result }
 {
     let Some(number) = books.host_named(host.as_str()) else {
-        return Err(unknown(alloc, host));
+        return Err(FarmFault::unknown(alloc, host));
     };
     let rows = locked_rows(alloc, books, moment, number, lock)?;
     Ok(change_of(moment, Answer::Lock, rows, More::Nothing))
 }
 
 /// Prepares that time passed.
-pub(crate) fn prepare_tick(
-    alloc: Global,
-    books: &Books,
-    moment: u64,
-) -> Result<Change, PrepareFault>
+pub(crate) fn prepare_tick(alloc: Global, books: &Books, moment: u64) -> Result<Change, FarmFault>
     requires kept { KeepsRows books.now }
     requires ahead { books.now.moment ≤ moment }
     ensures { Prepares books.now (record { moment = moment; act = act.Tick }) result }

@@ -12,8 +12,8 @@ use crate::change::{Change, More};
 use crate::preparing::change_of;
 use farm_books::Books;
 use farm_draft::{Draft, Rows};
-use farm_places::{PrepareFault, missing};
-use farm_types::{Answer, JobNo, Text};
+use farm_places::missing;
+use farm_types::{Answer, FarmFault, JobNo, Text};
 use std::alloc::{AllocError, Global};
 
 /// Prepares that a job is paused, or resumed.
@@ -23,12 +23,13 @@ pub(crate) fn prepare_pause(
     moment: u64,
     job: &Text,
     paused: bool,
-) -> Result<Change, PrepareFault>
+) -> Result<Change, FarmFault>
     requires ahead { books.now.moment ≤ moment }
     ensures { Prepares books.now (record { moment = moment; act = act.Pause job.now paused }) result }
 {
-    let Some(job) = books.jobs().pending(job.as_str()) else {
-        return Err(missing(alloc, books, job));
+    let jobs = books.jobs();
+    let Some(job) = jobs.pending(job.as_str()) else {
+        return Err(missing(alloc, jobs, job));
     };
     let more = More::Paused { job, paused };
     Ok(change_of(moment, Answer::Paused, Rows::none(alloc), more))
@@ -40,16 +41,17 @@ pub(crate) fn prepare_kill_job(
     books: &Books,
     moment: u64,
     job: &Text,
-) -> Result<Change, PrepareFault>
+) -> Result<Change, FarmFault>
     requires kept { KeepsRows books.now }
     requires ahead { books.now.moment ≤ moment }
     ensures { Prepares books.now (record { moment = moment; act = act.KillJob job.now }) result }
 {
-    let Some(job) = books.jobs().pending(job.as_str()) else {
-        return Err(missing(alloc, books, job));
+    let jobs = books.jobs();
+    let Some(job) = jobs.pending(job.as_str()) else {
+        return Err(missing(alloc, jobs, job));
     };
     // Exactly the running frames have an attempt.
-    let ended = books.jobs().counts(job).running;
+    let ended = jobs.counts(job).running;
     let rows = killed_rows(alloc, books, moment, job)?;
     let answer = Answer::Ended { ended };
     Ok(change_of(moment, answer, rows, More::Nothing))

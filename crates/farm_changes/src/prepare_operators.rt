@@ -14,8 +14,8 @@ use crate::prepare_slots::one_slot;
 use crate::preparing::change_of;
 use farm_books::Books;
 use farm_draft::{retried_row, stopped_row};
-use farm_places::{PrepareFault, check_eat, check_kill, check_retry, find_frame};
-use farm_types::{Answer, FramePlace, FrameState, Slot, SlotRow};
+use farm_places::{check_eat, check_kill, check_retry, find_frame};
+use farm_types::{Answer, FarmFault, FramePlace, FrameState, Slot, SlotRow};
 use std::alloc::{AllocError, Global};
 
 /// Prepares that a frame is killed.
@@ -24,7 +24,7 @@ pub(crate) fn prepare_kill_frame(
     books: &Books,
     moment: u64,
     place: &FramePlace,
-) -> Result<Change, PrepareFault>
+) -> Result<Change, FarmFault>
     requires kept { KeepsRows books.now }
     requires ahead { books.now.moment ≤ moment }
     ensures { Prepares books.now (record { moment = moment; act = act.KillFrame place.now }) result }
@@ -40,7 +40,7 @@ pub(crate) fn prepare_eat(
     books: &Books,
     moment: u64,
     place: &FramePlace,
-) -> Result<Change, PrepareFault>
+) -> Result<Change, FarmFault>
     requires kept { KeepsRows books.now }
     requires ahead { books.now.moment ≤ moment }
     ensures { Prepares books.now (record { moment = moment; act = act.EatFrame place.now }) result }
@@ -56,7 +56,7 @@ pub(crate) fn prepare_retry(
     books: &Books,
     moment: u64,
     place: &FramePlace,
-) -> Result<Change, PrepareFault>
+) -> Result<Change, FarmFault>
     requires kept { KeepsRows books.now }
     requires ahead { books.now.moment ≤ moment }
     ensures { Prepares books.now (record { moment = moment; act = act.RetryFrame place.now }) result }

@@ -10,8 +10,7 @@ use crate::change::{Change, More};
 use crate::preparing::change_of;
 use farm_books::Books;
 use farm_draft::Rows;
-use farm_places::PrepareFault;
-use farm_types::{Answer, HostNo, Slot, SlotRow};
+use farm_types::{Answer, FarmFault, HostNo, Slot, SlotRow};
 use std::alloc::{AllocError, Global};
 
 /// Prepares a booking that may be recorded.
@@ -21,7 +20,7 @@ pub(crate) fn prepare_book(
     moment: u64,
     slot: Slot,
     host: HostNo,
-) -> Result<Change, PrepareFault>
+) -> Result<Change, FarmFault>
     requires kept { KeepsRows books.now }
     requires ahead { books.now.moment ≤ moment }
     requires allowed { may_record books.now slot host ≡ true }

@@ -18,19 +18,18 @@ use crate::prepare_host::{
 use crate::prepare_jobs::{prepare_kill_job, prepare_pause};
 use crate::prepare_operators::{prepare_eat, prepare_kill_frame, prepare_retry};
 use crate::prepare_slots::prepare_book;
-use crate::refused::{existing, existing_alloc, full};
+use crate::refused::existing_alloc;
 use alloc_tags::AllocRefusal;
 use farm_books::Books;
 use farm_draft::Rows;
-use farm_places::{PrepareFault, unknown};
 use farm_types::{
-    Act, Answer, Counted, Entry, JobSpec, MOST_ALLOCS, MOST_SHOWS, SubLine, SubNo, Text,
+    Act, Answer, Counted, Entry, FarmFault, JobSpec, MOST_ALLOCS, MOST_SHOWS, SubLine, SubNo, Text,
 };
 use std::alloc::Global;
 
 /// Prepares what the entry's act does, and changes nothing. The farm keeps what every farm keeps of its rows, the entry is within its forms and
 /// limits, and an entry to book is one whose booking may be recorded. What follows of depends is known to the layer above.
-pub fn prepare(alloc: Global, books: &Books, entry: &Entry) -> Result<Change, PrepareFault>
+pub fn prepare(alloc: Global, books: &Books, entry: &Entry) -> Result<Change, FarmFault>
     requires kept { KeepsRows books.now }
     requires condition { HasCondition books.now entry.now.act }
     requires formed { IsFormed entry.now }
@@ -74,20 +73,15 @@ pub(crate) fn change_of(moment: u64, answer: Answer, rows: Rows, more: More) -> 
 }
 
 // Prepares that a show is added. Its name is new, then there are not too many.
-fn prepare_show(
-    alloc: Global,
-    books: &Books,
-    moment: u64,
-    name: &Text,
-) -> Result<Change, PrepareFault>
+fn prepare_show(alloc: Global, books: &Books, moment: u64, name: &Text) -> Result<Change, FarmFault>
     requires { books.now.moment ≤ moment }
     ensures { Prepares books.now (record { moment = moment; act = act.Show name.now }) result }
 {
     if books.show_named(name.as_str()).is_some() {
-        return Err(existing(alloc, name));
+        return Err(FarmFault::existing(alloc, name));
     }
     if books.count_shows() >= MOST_SHOWS as usize {
-        return Err(full(u64::from(MOST_SHOWS), Counted::Shows));
+        return Err(FarmFault::full(u64::from(MOST_SHOWS), Counted::Shows));
     }
     let name = name.copy(alloc)?;
     Ok(change_of(moment, Answer::Show, Rows::none(alloc), More::Show { name }))
@@ -100,7 +94,7 @@ fn prepare_alloc(
     moment: u64,
     facility: &Text,
     tag: &Text,
-) -> Result<Change, PrepareFault>
+) -> Result<Change, FarmFault>
     requires { books.now.moment ≤ moment }
     ensures { Prepares books.now (record { moment = moment; act = act.Alloc facility.now tag.now }) result }
 {
@@ -116,7 +110,7 @@ fn prepare_alloc(
             ))
         }
         Err(AllocRefusal::Exists) => Err(existing_alloc(alloc, facility.as_str(), tag.as_str())),
-        Err(AllocRefusal::Full) => Err(full(u64::from(MOST_ALLOCS), Counted::Allocs)),
+        Err(AllocRefusal::Full) => Err(FarmFault::full(u64::from(MOST_ALLOCS), Counted::Allocs)),
     }
 }
 
@@ -126,17 +120,17 @@ fn prepare_sub(
     books: &Books,
     moment: u64,
     line: &SubLine,
-) -> Result<Change, PrepareFault>
+) -> Result<Change, FarmFault>
     requires kept { KeepsRows books.now }
     requires ahead { books.now.moment ≤ moment }
     requires limits { SubKeepsLimits line.now }
     ensures { Prepares books.now (record { moment = moment; act = act.Sub line.now }) result }
 {
     let Some(show) = books.show_named(line.show.as_str()) else {
-        return Err(unknown(alloc, &line.show));
+        return Err(FarmFault::unknown(alloc, &line.show));
     };
     let Some(allocation) = books.alloc_named(line.alloc.as_str()) else {
-        return Err(unknown(alloc, &line.alloc));
+        return Err(FarmFault::unknown(alloc, &line.alloc));
     };
     let Some(sub) = SubNo::of(show, allocation) else {
         unreachable!()
@@ -160,16 +154,16 @@ fn prepare_submit(
     books: &Books,
     moment: u64,
     spec: &JobSpec,
-) -> Result<Change, PrepareFault>
+) -> Result<Change, FarmFault>
     requires ahead { books.now.moment ≤ moment }
     requires limits { JobKeepsLimits spec.now }
     ensures { Prepares books.now (record { moment = moment; act = act.Submit spec.now }) result }
 {
     let Some(show) = books.show_named(spec.show.as_str()) else {
-        return Err(unknown(alloc, &spec.show));
+        return Err(FarmFault::unknown(alloc, &spec.show));
     };
     if !books.has_facility(&spec.facility) {
-        return Err(unknown(alloc, &spec.facility));
+        return Err(FarmFault::unknown(alloc, &spec.facility));
     }
     let placing = books.check_job(alloc, spec, show)?;
     let spec = spec.copy(alloc)?;

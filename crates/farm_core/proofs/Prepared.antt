@@ -22,8 +22,8 @@ use Rattle.farm_changes.specs.Change as books
 use Rattle.farm_changes.specs.Change.{AnswersAct, HasHeard}
 use Rattle.farm_changes.specs.declared.change.Change as act_change
 use Rattle.depend_book.specs.Book.{DependLists, joined}
-use Rattle.farm_places.specs.declared.fault.PrepareFault.{PrepareFault}
-use Rattle.farm_places.specs.declared.fault.PrepareFault.TheVariants.{Refused, NoMemory}
+use Rattle.farm_types.specs.declared.fault.FarmFault.{FarmFault}
+use Rattle.farm_types.specs.declared.fault.FarmFault.TheVariants.{Refused, NoMemory}
 use Rattle.farm_depends.specs.declared.follow.Follow.{Follow}
 use Rattle.farm_depends.specs.Fits.{IsWhole}
 use Rattle.farm_depends.specs.Follow.{Counts, FollowFits, Follows, after_follow}
@@ -50,16 +50,16 @@ told_by f b moment count other said is counts = is
 
 -- ---- the act is refused
 
-act_refused : (f : Farm) (b : DependLists) (e : Entry) (fault : PrepareFault) → books.Prepares f e (Err fault) → Prepares (joined f b) e (Err fault)
+act_refused : (f : Farm) (b : DependLists) (e : Entry) (fault : FarmFault) → books.Prepares f e (Err fault) → Prepares (joined f b) e (Err fault)
 act_refused f b e (Refused why) is = ap (λ (first : Option Refusal). or_else first (follow_refusal (joined f b) e.act)) (refusal_joined f b e.act ∙ is)
 act_refused f b e NoMemory is = tt
 
 -- its fault is passed on
-pub act_fails : (f : Farm) (b : DependLists) (e : Entry) (fault : PrepareFault) (r : Result Change PrepareFault) → IsErrAnd r (λ x. x ≡ fault) → books.Prepares f e (Err fault)
+pub act_fails : (f : Farm) (b : DependLists) (e : Entry) (fault : FarmFault) (r : Result Change FarmFault) → IsErrAnd r (λ x. x ≡ fault) → books.Prepares f e (Err fault)
     → Prepares (joined f b) e r
 act_fails f b e fault r err is =
     let x = err_from_is_err_and r err in
-    subst (Prepares (joined f b) e) (sym x.1) (act_refused f b e x.0 (subst (λ (y : PrepareFault). books.Prepares f e (Err y)) (sym x.2) is))
+    subst (Prepares (joined f b) e) (sym x.1) (act_refused f b e x.0 (subst (λ (y : FarmFault). books.Prepares f e (Err y)) (sym x.2) is))
 
 -- ---- a change
 

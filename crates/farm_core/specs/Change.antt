@@ -8,8 +8,8 @@ use Rattle.farm_types.specs.Step.{refusal_of, acted, after, finish_each}
 use Rattle.depend_law.specs.Ending.{CanEnd}
 use Rattle.farm_changes.specs.Change as books
 use Rattle.farm_changes.specs.Change.{HasHeard}
-use Rattle.farm_places.specs.declared.fault.PrepareFault.{PrepareFault}
-use Rattle.farm_places.specs.declared.fault.PrepareFault.TheVariants.{Refused, NoMemory}
+use Rattle.farm_types.specs.declared.fault.FarmFault.{FarmFault}
+use Rattle.farm_types.specs.declared.fault.FarmFault.TheVariants.{Refused, NoMemory}
 use Rattle.farm_depends.specs.Follow.{FollowFits, Follows, after_follow, follow_reserved, spare_for}
 use Rattle.farm_finish.specs.Closing.{closing}
 use Rattle.farm_core.specs.declared.change.Change.{Change}
@@ -68,7 +68,7 @@ pub record Makes (f : Farm) (e : Entry) (change : Change) : Type 0 where
   pub answer : change.act.answer ≡ entry_answer f e
 
 -- a change that makes the entry, or exactly the farm's refusal; running out of memory needs no cause
-abbrev pub Prepares : Farm → Entry → Result Change PrepareFault → Type 0
+abbrev pub Prepares : Farm → Entry → Result Change FarmFault → Type 0
 Prepares f e (Ok change) = Makes f e change
 Prepares f e (Err (Refused why)) = refusal_of f e ≡ Some why
 Prepares f e (Err NoMemory) = Unit {0}

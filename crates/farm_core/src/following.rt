@@ -14,8 +14,7 @@ use depend_book::Depends;
 use farm_books::Books;
 use farm_depends::prepare_follow;
 use farm_finish::prepare_finish;
-use farm_places::PrepareFault;
-use farm_types::{Act, Answer, DependNo, Entry};
+use farm_types::{Act, Answer, DependNo, Entry, FarmFault};
 use std::alloc::Global;
 
 /// The change of an entry for whose act a change was prepared, with what follows and which jobs finish.
@@ -25,7 +24,7 @@ pub(crate) fn with_follow(
     depends: &Depends,
     entry: &Entry,
     act: farm_changes::Change,
-) -> Result<Change, PrepareFault>
+) -> Result<Change, FarmFault>
     requires whole { IsWhole books.now depends.now }
     requires condition { HasCondition (joined books.now depends.now) entry.now.act }
     requires formed { IsFormed entry.now }

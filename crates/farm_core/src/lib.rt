@@ -15,4 +15,3 @@ mod rows;
 
 pub use change::Change;
 pub use farm::Farm;
-pub use farm_places::PrepareFault;

@@ -1,12 +1,11 @@
 //! The calls that read one of the farm's rows.
 
 ghost use Rattle.std.specs.Prelude.{◌≡◌, ◌≤◌, ℕ, filter, length, map, slice_get, option_copied, All, IfOk, IfSome, IfNone};
-ghost use Rattle.job_book.specs.Book.{IsLeastAbove};
 ghost use Rattle.farm_types.specs.DependActs.{depend_at};
 ghost use Rattle.farm_core.specs.Reads.{depend_after};
 ghost use Rattle.farm_types.specs.Farm.{job_at, layer_at, sub_at, sub_of};
 ghost use Rattle.farm_types.specs.Finish.{waits_by};
-ghost use Rattle.farm_types.specs.Rising.{IsNextKey, depend_key};
+ghost use Rattle.farm_types.specs.Rising.{IsNextKey, depend_key, job_key};
 ghost use Rattle.farm_types.specs.Run.{live_at};
 ghost use Rattle.farm_types.specs.Step.{lists_of};
 ghost use Rattle.farm_types.specs.Sums.{booked_in, total_at};
@@ -115,7 +114,7 @@ impl Farm {
     /// The job with the least number above this one.
     pub fn next_job(&self, after: u32) -> Option<JobNo>
         ensures value { result ≡ job_after self.now after }
-        ensures least { IfSome result (IsLeastAbove self.now.jobs after) }
+        ensures least { IfSome result (IsNextKey job_key self.now.jobs after) }
         ensures none { IfNone result (All (λ j. j.job ≤ after) self.now.jobs) }
     {
         self.books.next_job(after)

@@ -13,14 +13,13 @@ use crate::following::with_follow;
 use farm_changes::{apply, prepare, reserve};
 use farm_depends::{apply_follow, reserve_follow};
 use farm_finish::apply_finish;
-use farm_places::PrepareFault;
-use farm_types::{Answer, Entry, HostNo, Slot};
+use farm_types::{Answer, Entry, FarmFault, HostNo, Slot};
 use std::alloc::{AllocError, Global};
 
 impl Farm {
     /// Prepares what the entry does, and changes nothing. The entry is within its forms and limits, and an entry to book is
     /// one whose booking may be recorded.
-    pub fn prepare(&self, alloc: Global, entry: &Entry) -> Result<Change, PrepareFault>
+    pub fn prepare(&self, alloc: Global, entry: &Entry) -> Result<Change, FarmFault>
         requires condition { HasCondition self.now entry.now.act }
         requires formed { IsFormed entry.now }
         ensures { Prepares self.now entry.now result }

@@ -15,7 +15,7 @@ use Rattle.farm_types.specs.Rising.{depend_key}
 use Rattle.farm_types.specs.Settle.{met_row, with_met}
 use Rattle.farm_law.proofs.KeptJobsLists.{rising-append}
 use Rattle.depend_law.proofs.MetAgain.{met_again}
-use Rattle.depend_graph.specs.Graph.{Watch, Watched, is_flagged, is_met, is_satisfied, watch_of, watched}
+use Rattle.depend_graph.specs.Graph.{Watch, is_flagged, is_met, is_satisfied, watch_of, watched}
 use Rattle.depend_graph.specs.Graph as graph
 use Rattle.depend_book.specs.declared.new_depend.NewDepend.{NewDepend}
 use Rattle.depend_book.specs.Book.{CanAdd, DependLists, IsBook, added_row, joined, mark_of, marks_in, marks_of, row_of, rows_of, watch_number, with_new}

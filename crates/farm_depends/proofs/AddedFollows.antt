@@ -25,8 +25,8 @@ use Rattle.depend_book.specs.Book.{DependLists, IsBook, joined}
 use Rattle.depend_book.specs.declared.new_depend.NewDepend.{NewDepend}
 use Rattle.depend_graph.specs.Graph as graph
 use Rattle.depend_graph.specs.Graph.{IsGroup, is_flagged}
-use Rattle.farm_places.specs.declared.fault.PrepareFault.{PrepareFault}
-use Rattle.farm_places.specs.declared.fault.PrepareFault.TheVariants.{Refused, NoMemory}
+use Rattle.farm_types.specs.declared.fault.FarmFault.{FarmFault}
+use Rattle.farm_types.specs.declared.fault.FarmFault.TheVariants.{Refused, NoMemory}
 use Rattle.farm_depends.specs.declared.counts.Counts.{Counts}
 use Rattle.farm_depends.specs.declared.follow.Follow.{Follow}
 use Rattle.farm_depends.specs.Coming.{Comes, counts_full, counts_in, follow_added, follow_new, groups_refusal_with, refusal_with, self_refusal, started_refusal, unmet_by, waiters_of, waits_at}
@@ -99,7 +99,7 @@ module _ (f : Farm) (b : DependLists) (book : IsBook b) (whole : IsWhole f b) (s
   unfolding depend_refusal groups_of
   refusal_same = ap (λ (n : ℕ). refusal_with f (record { depends = length b.rows; groups = n; next = b.next }) spec) (sym (left_is f b book whole.fits))
 
-  pub depend_refused : (fault : PrepareFault) → Comes f counts spec (Err fault) → PreparesFollow farm farm (act.AddDepend spec) (Err fault)
+  pub depend_refused : (fault : FarmFault) → Comes f counts spec (Err fault) → PreparesFollow farm farm (act.AddDepend spec) (Err fault)
   depend_refused (Refused why) comes = sym refusal_same ∙ comes
   depend_refused NoMemory comes = tt
 

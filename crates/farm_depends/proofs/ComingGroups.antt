@@ -16,12 +16,13 @@ use Rattle.depend_law.proofs.Among.{Among, among_then}
 use Rattle.depend_law.proofs.Placed.{HoldsOf}
 use Rattle.depend_law.proofs.GroupSlots.{group_waiters, groups_among}
 use Rattle.depend_law.proofs.Waiters.{DependHolds, all_waiters, depend_holds, end_pending, job_shape}
-use Rattle.farm_places.specs.declared.fault.PrepareFault.{PrepareFault}
-use Rattle.farm_places.specs.declared.fault.PrepareFault.TheVariants.{Refused, NoMemory}
+use Rattle.farm_types.specs.declared.fault.FarmFault.{FarmFault}
+use Rattle.farm_types.specs.declared.fault.FarmFault.TheVariants.{Refused, NoMemory}
 use Rattle.farm_depends.specs.declared.counts.Counts.{Counts}
 use Rattle.farm_places.specs.declared.ends.FoundEnd.{FoundEnd}
 use Rattle.farm_depends.specs.Coming.{Comes, groups_refusal_with, refusal_with, waiters_of}
-use Rattle.farm_places.specs.Ends.{FindsEnd, IsEnd, Refuses}
+use Rattle.farm_types.specs.Faults.{Refuses}
+use Rattle.farm_places.specs.Ends.{FindsEnd, IsEnd}
 use Rattle.farm_places.proofs.ShownParts.{groups_shown}
 use Rattle.farm_depends.proofs.ToCome.{place_there}
 
@@ -48,11 +49,11 @@ module _ (f : Farm) (rows : KeepsRows f) (spec : DependSpec) (waiter : place_ref
 -- ---- refusals in turn
 
 -- where the first end is refused
-pub first_refused : (f : Farm) (c : Counts) (spec : DependSpec) (fault : PrepareFault) → FindsEnd f spec.waiter (Err fault) → Comes f c spec (Err fault)
+pub first_refused : (f : Farm) (c : Counts) (spec : DependSpec) (fault : FarmFault) → FindsEnd f spec.waiter (Err fault) → Comes f c spec (Err fault)
 first_refused f c spec (Refused why) refused = ap (λ (o : Option Refusal). or_else o (or_else (place_refusal f spec.target) (groups_refusal_with f c (new_groups f spec)))) refused
 first_refused f c spec NoMemory refused = tt
 
-pub second_refused : (f : Farm) (c : Counts) (spec : DependSpec) (fault : PrepareFault) → place_refusal f spec.waiter ≡ None → FindsEnd f spec.target (Err fault) → Comes f c spec (Err fault)
+pub second_refused : (f : Farm) (c : Counts) (spec : DependSpec) (fault : FarmFault) → place_refusal f spec.waiter ≡ None → FindsEnd f spec.target (Err fault) → Comes f c spec (Err fault)
 second_refused f c spec (Refused why) accepted refused =
     ap (λ (o : Option Refusal). or_else o (or_else (place_refusal f spec.target) (groups_refusal_with f c (new_groups f spec)))) accepted ∙ ap (λ (o : Option Refusal). or_else o (groups_refusal_with f c (new_groups f spec))) refused
 second_refused f c spec NoMemory accepted refused = tt
@@ -63,7 +64,7 @@ module _ (f : Farm) (c : Counts) (spec : DependSpec) (waiter : place_refusal f s
       ap (λ (o : Option Refusal). or_else o (or_else (place_refusal f spec.target) (groups_refusal_with f c (new_groups f spec)))) waiter
       ∙ (ap (λ (o : Option Refusal). or_else o (groups_refusal_with f c (new_groups f spec))) target ∙ ap (groups_refusal_with f c) (sym are))
 
-  pub third_refused : (X : Type 0) (fault : PrepareFault) → Refuses {X = X} (groups_refusal_with f c groups) (Err fault) → Comes f c spec (Err fault)
+  pub third_refused : (X : Type 0) (fault : FarmFault) → Refuses {X = X} (groups_refusal_with f c groups) (Err fault) → Comes f c spec (Err fault)
   third_refused X (Refused why) refused = refusal_is ∙ refused
   third_refused X NoMemory refused = tt
 

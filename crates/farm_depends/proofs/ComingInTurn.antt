@@ -10,8 +10,8 @@ use Rattle.farm_types.specs.declared.depend.MetRow.{MetRow}
 use Rattle.farm_types.specs.declared.job.JobSpec.{JobSpec}
 use Rattle.farm_types.specs.Formed.{IsFormedOwn}
 use Rattle.std.proofs.Common.{Err}
-use Rattle.farm_places.specs.declared.fault.PrepareFault.{PrepareFault}
-use Rattle.farm_places.specs.declared.fault.PrepareFault.TheVariants.{Refused, NoMemory}
+use Rattle.farm_types.specs.declared.fault.FarmFault.{FarmFault}
+use Rattle.farm_types.specs.declared.fault.FarmFault.TheVariants.{Refused, NoMemory}
 use Rattle.farm_types.specs.declared.refusal.Refusal.{Refusal}
 use Rattle.farm_types.specs.DependActs.{add_depend, depend_refusal, depends_refusal, new_depend, new_groups, or_else, place_refusal}
 use Rattle.farm_types.specs.Depends.{groups_left, groups_of}
@@ -121,6 +121,6 @@ waiters_alike f ds ms next (s ∷ ss) = ap (λ (ns : List ℕ). unmet_waiters f 
 
 module _ (f : Farm) (specs : List DependSpec) (i : ℕ) (spec : DependSpec) (within : i < length specs) (is : spec ≡ get_or specs i spec) (first c : Counts) (left : refusal_with_all f c (drop i specs) ≡ refusal_with_all f first specs) where
   -- the refusal of one is the first refusal of all
-  pub fault_comes : (fault : PrepareFault) → Comes f c spec (Err fault) → ComeAll f first specs (Err fault)
+  pub fault_comes : (fault : FarmFault) → Comes f c spec (Err fault) → ComeAll f first specs (Err fault)
   fault_comes (Refused why) refused = left_fault f specs i spec within is c (refusal_with_all f first specs) left why refused
   fault_comes NoMemory refused = tt

@@ -19,8 +19,8 @@ use Rattle.depend_book.specs.Book.{DependLists, joined}
 use Rattle.depend_book.specs.declared.new_depend.NewDepend.{NewDepend}
 use Rattle.farm_changes.specs.Change.{Makes, after_change}
 use Rattle.farm_changes.specs.declared.change.Change.{Change}
-use Rattle.farm_places.specs.declared.fault.PrepareFault.{PrepareFault}
-use Rattle.farm_places.specs.declared.fault.PrepareFault.TheVariants.{Refused, NoMemory}
+use Rattle.farm_types.specs.declared.fault.FarmFault.{FarmFault}
+use Rattle.farm_types.specs.declared.fault.FarmFault.TheVariants.{Refused, NoMemory}
 use Rattle.farm_depends.specs.Follow.{AreRoomy, FollowFits, Follows, IsDropThere, IsRoomy, PreparesFollow, after_follow, slots_after, with_all, with_row, without}
 use Rattle.farm_depends.specs.declared.follow.Follow.{Follow}
 
@@ -144,7 +144,7 @@ module _ (moment : ℕ) where
         counts = follows.counts;
       }
 
-  pub prepares_later : (old f : Farm) (act : Act) (result : Result Follow PrepareFault) → PreparesFollow old f act result → PreparesFollow old (at_moment f moment) act result
+  pub prepares_later : (old f : Farm) (act : Act) (result : Result Follow FarmFault) → PreparesFollow old f act result → PreparesFollow old (at_moment f moment) act result
   prepares_later old f act (Ok w) follows = follows_later old f act w follows
   prepares_later old f act (Err (Refused why)) refused = refused
   prepares_later old f act (Err NoMemory) none = tt
@@ -162,24 +162,24 @@ module _ (b : DependLists) (f : Farm) (e : Entry) (change : Change) (made : Make
   placed_later spec None = refl
   placed_later spec (Some show) = refl
 
-  as_made : (act : Act) (g : Farm) (result : Result Follow PrepareFault) → e.act ≡ act → joined (after_change f change) b ≡ at_moment g moment → PreparesFollow (joined f b) g act result
+  as_made : (act : Act) (g : Farm) (result : Result Follow FarmFault) → e.act ≡ act → joined (after_change f change) b ≡ at_moment g moment → PreparesFollow (joined f b) g act result
       → PreparesFollow (joined f b) (joined (after_change f change) b) e.act result
   as_made act g result is later prepares =
       subst (λ (a : Act). PreparesFollow (joined f b) (joined (after_change f change) b) a result) (sym is)
       (subst (λ (h : Farm). PreparesFollow (joined f b) h act result) (sym later) (prepares_later moment (joined f b) g act result prepares))
 
   -- a job that is placed
-  pub submit_prepared : (spec : JobSpec) (result : Result Follow PrepareFault) → e.act ≡ Submit spec → PreparesFollow (joined f b) (joined (after_submit f spec (show_named f spec.show)) b) (Submit spec) result
+  pub submit_prepared : (spec : JobSpec) (result : Result Follow FarmFault) → e.act ≡ Submit spec → PreparesFollow (joined f b) (joined (after_submit f spec (show_named f spec.show)) b) (Submit spec) result
       → PreparesFollow (joined f b) (joined (after_change f change) b) e.act result
   submit_prepared spec result is =
       as_made (Submit spec) (joined (after_submit f spec (show_named f spec.show)) b) result is (made_by (Submit spec) is ∙ placed_later spec (show_named f spec.show))
 
   -- a depend that comes
-  pub depend_prepared : (spec : DependSpec) (result : Result Follow PrepareFault) → e.act ≡ AddDepend spec → PreparesFollow (joined f b) (joined f b) (AddDepend spec) result
+  pub depend_prepared : (spec : DependSpec) (result : Result Follow FarmFault) → e.act ≡ AddDepend spec → PreparesFollow (joined f b) (joined f b) (AddDepend spec) result
       → PreparesFollow (joined f b) (joined (after_change f change) b) e.act result
   depend_prepared spec result is = as_made (AddDepend spec) (joined f b) result is (made_by (AddDepend spec) is)
 
   -- a depend that is dropped
-  pub drop_prepared : (depend : ℕ) (result : Result Follow PrepareFault) → e.act ≡ DropDepend depend → PreparesFollow (joined f b) (joined f b) (DropDepend depend) result
+  pub drop_prepared : (depend : ℕ) (result : Result Follow FarmFault) → e.act ≡ DropDepend depend → PreparesFollow (joined f b) (joined f b) (DropDepend depend) result
       → PreparesFollow (joined f b) (joined (after_change f change) b) e.act result
   drop_prepared depend result is = as_made (DropDepend depend) (joined f b) result is (made_by (DropDepend depend) is)

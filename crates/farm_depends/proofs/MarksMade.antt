@@ -1,21 +1,20 @@
 -- The marks of a book after groups are met, and after a depend is dropped.
-use Rattle.std.proofs.Common.{◌≡◌, ℕ, ◌+◌, ◌<◌, ◌≤◌, Bool, true, false, not, cond, eqb, ◌&&◌, ◌||◌, List, [], ◌∷◌, map, Some, option_map, refl, sym, ap, subst, ◌∙◌, arith}
-use Rattle.std.specs.List.{filter, find, list_all, list_any}
+use Rattle.std.proofs.Common.{◌≡◌, ℕ, Bool, true, false, not, cond, eqb, ◌&&◌, ◌||◌, List, [], ◌∷◌, map, Some, option_map, refl, sym, ap, ◌∙◌}
+use Rattle.std.specs.List.{find, list_all, list_any}
 use Rattle.std.proofs.lemmas.Bool.{eqb-true, eq-eqb, ne_eqb, false≢true, true≢false}
 use Rattle.std.proofs.lemmas.List.{length-map}
-use Rattle.std.proofs.lemmas.List.Folds.{list_any-append}
 use Rattle.farm_types.specs.declared.depend.DependRow.{DependRow}
-use Rattle.farm_types.specs.Rising.{IsRising, depend_key}
+use Rattle.farm_types.specs.Rising.{depend_key}
 use Rattle.farm_rows.specs.declared.farm_row.FarmRow.TheVariants as row
 use Rattle.depend_graph.specs.declared.marks.Marks.{Marks}
-use Rattle.depend_graph.specs.Graph.{HasMet, Watch, Watched, groups_at, is_mark, is_met, is_satisfied, met_between, met_group, met_where, was_met, was_satisfied, with_all_done}
-use Rattle.depend_book.specs.Book.{DependLists, IsBook, all_done_in, dropped_in, mark_of, marks_in, marks_of, row_in, row_of, rows_of, watch_number}
-use Rattle.depend_book.proofs.MarkedAt.{AreNumbered, marks_at, none_below, numbered_book, numbered_head, said_at}
+use Rattle.depend_graph.specs.Graph.{HasMet, Watch, Watched, groups_at, is_mark, is_met, met_between, met_group, met_where, was_met, was_satisfied, with_all_done}
+use Rattle.depend_book.specs.Book.{DependLists, IsBook, all_done_in, dropped_in, mark_of, marks_of, row_in, row_of, rows_of, watch_number}
+use Rattle.depend_book.proofs.MarkedAt.{AreNumbered, marks_at, numbered_book, said_at}
 use Rattle.depend_book.proofs.Satisfied.{Keeps, marked_by, rows_marked}
 use Rattle.farm_depends.proofs.BookChanges.{all_done_is}
 use Rattle.farm_depends.proofs.DependRows.{MarksChange, has_position, row_with}
 use Rattle.farm_depends.proofs.Flags.{depends_after, met_stays, watch_after, watched_after}
-use Rattle.farm_depends.proofs.Zips.{or_none, same_head, same_tail, nil-cons}
+use Rattle.farm_depends.proofs.Zips.{same_head, same_tail, nil-cons}
 
 -- ---- one list of groups
 

@@ -31,8 +31,8 @@ use Rattle.farm_law.proofs.KeptJobsLists.{find_none, found_later, found_more, ri
 use Rattle.depend_law.proofs.Placed.{HoldsOf}
 use Rattle.depend_book.specs.declared.new_depend.NewDepend.{NewDepend}
 use Rattle.depend_graph.specs.Graph.{IsGroup}
-use Rattle.farm_places.specs.declared.fault.PrepareFault.{PrepareFault}
-use Rattle.farm_places.specs.declared.fault.PrepareFault.TheVariants.{Refused, NoMemory}
+use Rattle.farm_types.specs.declared.fault.FarmFault.{FarmFault}
+use Rattle.farm_types.specs.declared.fault.FarmFault.TheVariants.{Refused, NoMemory}
 use Rattle.farm_depends.specs.declared.counts.Counts.{Counts}
 use Rattle.farm_places.specs.declared.ends.FoundEnd.{FoundEnd}
 use Rattle.farm_depends.specs.declared.own.OwnJob.{OwnJob}
@@ -179,7 +179,7 @@ module _ (f : Farm) (spec : JobSpec) (can : CanPlace f spec) where
   shape_by q (Some j) found none = earlier q.job j found
 
   -- an end in another job is found as it was
-  pub other_finds : (q : Place) → bytes_eq q.job spec.name ≡ false → (r : Result FoundEnd PrepareFault) → FindsEnd f q r → FindsEnd farm q r
+  pub other_finds : (q : Place) → bytes_eq q.job spec.name ≡ false → (r : Result FoundEnd FarmFault) → FindsEnd f q r → FindsEnd farm q r
   other_finds q apart (Ok e) found =
       record {
         accepted = other_refusal q apart ∙ found.accepted;
@@ -203,7 +203,7 @@ module _ (f : Farm) (spec : JobSpec) (can : CanPlace f spec) where
           shows = subst (λ (n : ℕ). ShowsPart (shape_of farm n) own.shape q.layer) (sym pending.number) (shows q);
         }
 
-    pub own_fault : (q : Place) → q.job ≡ spec.name → (fault : PrepareFault) → EndsIn own q (Err fault) → FindsEnd farm q (Err fault)
+    pub own_fault : (q : Place) → q.job ≡ spec.name → (fault : FarmFault) → EndsIn own q (Err fault) → FindsEnd farm q (Err fault)
     own_fault q same (Refused why) refused = refusal_shown farm q f.next_job own.shape (own_pending q same) (shows q) ∙ refused
     own_fault q same NoMemory refused = tt
 
@@ -247,7 +247,7 @@ module _ (f : Farm) (spec : JobSpec) (can : CanPlace f spec) where
       all_same : (c : Counts) → own_refusal own.shape.layers c (own_groups own target.shape d) ≡ refusal_with farm c d
       all_same c = refusal_same c ∙ sym (refusal_is farm c d w.accepted t.accepted (own_groups own target.shape d) groups_are)
 
-      pub between_fault : (c : Counts) (fault : PrepareFault) → GroupsBetween own target.shape c d (Err fault) → Comes farm c d (Err fault)
+      pub between_fault : (c : Counts) (fault : FarmFault) → GroupsBetween own target.shape c d (Err fault) → Comes farm c d (Err fault)
       between_fault c (Refused why) refused = sym (all_same c) ∙ refused
       between_fault c NoMemory refused = tt
 

@@ -18,9 +18,9 @@ use Rattle.depend_law.proofs.Stable.{left_same}
 use Rattle.depend_book.specs.Book.{DependLists, IsBook, joined, marks_of}
 use Rattle.depend_book.specs.declared.new_depend.NewDepend.{NewDepend}
 use Rattle.depend_graph.specs.Graph as graph
-use Rattle.depend_graph.specs.Graph.{IsGroup, is_flagged}
-use Rattle.farm_places.specs.declared.fault.PrepareFault.{PrepareFault}
-use Rattle.farm_places.specs.declared.fault.PrepareFault.TheVariants.{Refused, NoMemory}
+use Rattle.depend_graph.specs.Graph.{IsGroup}
+use Rattle.farm_types.specs.declared.fault.FarmFault.{FarmFault}
+use Rattle.farm_types.specs.declared.fault.FarmFault.TheVariants.{Refused, NoMemory}
 use Rattle.farm_depends.specs.declared.counts.Counts.{Counts}
 use Rattle.farm_depends.specs.declared.follow.Follow.{Follow}
 use Rattle.farm_depends.specs.declared.own.OwnJob.{OwnJob}
@@ -106,7 +106,7 @@ module _ (f : Farm) (b : DependLists) (book : IsBook b) (whole : IsWhole f b) (s
   refusal_then : depends_refusal (placed old spec) spec.depends ≡ depends_refusal farm spec.depends
   refusal_then = ap (λ (g : Farm). depends_refusal g spec.depends) farm_is
 
-  pub submit_refused : (fault : PrepareFault) → ComeAll books counts spec.depends (Err fault) → PreparesFollow old farm (act.Submit spec) (Err fault)
+  pub submit_refused : (fault : FarmFault) → ComeAll books counts spec.depends (Err fault) → PreparesFollow old farm (act.Submit spec) (Err fault)
   submit_refused (Refused why) refused = refusal_then ∙ (sym refusal_same ∙ refused)
   submit_refused NoMemory refused = tt
 

@@ -19,7 +19,7 @@ use Rattle.farm_types.proofs.Lists.{and_both, list_all-at}
 use Rattle.farm_types.proofs.Passes.{option_map-from}
 use Rattle.farm_law.proofs.KeptJobsLists.{rising_within}
 use Rattle.depend_law.proofs.Waiters.{depend_holds}
-use Rattle.depend_graph.specs.Graph.{IsGroup, Watch, Watched, is_flagged, is_met as is_met_in, is_satisfied, watched}
+use Rattle.depend_graph.specs.Graph.{IsGroup, Watch, is_flagged, is_met as is_met_in, is_satisfied, watched}
 use Rattle.depend_graph.specs.Graph as graph
 use Rattle.depend_graph.specs.Marked.{marked_watch, marked_with}
 use Rattle.depend_book.specs.Book.{DependLists, mark_of, marks_in, marks_of}

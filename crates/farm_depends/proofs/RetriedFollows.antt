@@ -33,8 +33,8 @@ use Rattle.depend_graph.specs.Graph.{Watch, unmet_of}
 use Rattle.depend_book.specs.Book.{DependLists, IsBook, joined}
 use Rattle.farm_changes.specs.Change.{Makes, after_change}
 use Rattle.farm_changes.specs.declared.change.Change.{Change}
-use Rattle.farm_places.specs.declared.fault.PrepareFault.{PrepareFault}
-use Rattle.farm_places.specs.declared.fault.PrepareFault.TheVariants.{Refused, NoMemory}
+use Rattle.farm_types.specs.declared.fault.FarmFault.{FarmFault}
+use Rattle.farm_types.specs.declared.fault.FarmFault.TheVariants.{Refused, NoMemory}
 use Rattle.farm_depends.specs.declared.follow.Follow.{Follow}
 use Rattle.farm_depends.specs.Fits.{IsWhole}
 use Rattle.farm_depends.specs.Follow.{FollowFits, Follows, IsMovable, PreparesFollow, after_follow, is_listed, is_moved, is_one}
@@ -199,7 +199,7 @@ module _ (f : Farm) (b : DependLists) (e : Entry) (change : Change) (whole : IsW
       let first = neither (frame_act_refusal may_retry f p) (version_refusal (frame_name p.frame p.layer) (slot_row_named f p)) (ap (act_refusal f) (sym is) ∙ made.accepted) in
       (neither (place_refusal f (place_of p)) (state_refusal may_retry (slot_row_named f p)) first.0).0
 
-  retry_by : (result : Result Follow PrepareFault) → Retries f b p result → PreparesFollow (joined f b) made_farm (RetryFrame p) result
+  retry_by : (result : Result Follow FarmFault) → Retries f b p result → PreparesFollow (joined f b) made_farm (RetryFrame p) result
   retry_by (Ok w) r =
       subst (λ (g : Farm). Follows (joined f b) g (RetryFrame p) w) (sym (made_again r.0 r.1))
       (subst (Follows (joined f b) (again f b whole book moment r.0) (RetryFrame p)) (sym r.2) (retry_follows f b whole book moment r.0 p))
@@ -207,5 +207,5 @@ module _ (f : Farm) (b : DependLists) (e : Entry) (change : Change) (whole : IsW
   retry_by (Err NoMemory) r = tt
 
   -- what follows the retry, or the refusal
-  pub retry_prepared : (result : Result Follow PrepareFault) → Retries f b p result → PreparesFollow (joined f b) made_farm e.act result
+  pub retry_prepared : (result : Result Follow FarmFault) → Retries f b p result → PreparesFollow (joined f b) made_farm e.act result
   retry_prepared result r = subst (λ (act : Act). PreparesFollow (joined f b) made_farm act result) (sym is) (retry_by result r)

@@ -13,9 +13,9 @@ use Rattle.farm_types.specs.Depends.{is_done}
 use Rattle.farm_types.specs.Farm.{Farm}
 use Rattle.depend_graph.specs.Graph.{has_depend, has_opened, numbers_from, opened_between, without_depend}
 use Rattle.depend_book.specs.Book.{DependLists, IsBook, joined}
-use Rattle.farm_places.specs.Ends.{IsRefusal}
-use Rattle.farm_places.specs.declared.fault.PrepareFault.{PrepareFault}
-use Rattle.farm_places.specs.declared.fault.PrepareFault.TheVariants.{Refused, NoMemory}
+use Rattle.farm_types.specs.Faults.{IsRefusal}
+use Rattle.farm_types.specs.declared.fault.FarmFault.{FarmFault}
+use Rattle.farm_types.specs.declared.fault.FarmFault.TheVariants.{Refused, NoMemory}
 use Rattle.farm_depends.specs.Fits.{IsWhole}
 use Rattle.farm_depends.specs.Follow.{AreRoomy, Follows, IsDropThere, IsMovable, PreparesFollow}
 use Rattle.farm_depends.specs.declared.follow.Follow.{Follow}
@@ -87,7 +87,7 @@ module _ (f : Farm) (b : DependLists) (n : ℕ) (whole : IsWhole f b) (book : Is
 -- ---- refusals
 
 -- no depend of that number is there
-pub drop_unknown : (f g : Farm) (n : ℕ) (fault : PrepareFault) → depend_at f n ≡ None → IsRefusal (Unknown (decimal n)) fault → PreparesFollow f g (act.DropDepend n) (Err fault)
+pub drop_unknown : (f g : Farm) (n : ℕ) (fault : FarmFault) → depend_at f n ≡ None → IsRefusal (Unknown (decimal n)) fault → PreparesFollow f g (act.DropDepend n) (Err fault)
 drop_unknown f g n (Refused why) none unknown = ap (drop_refusal n) none ∙ ap Some (sym unknown)
 drop_unknown f g n NoMemory none unknown = tt
 

@@ -13,8 +13,8 @@ use Rattle.farm_types.specs.Operators.{waits}
 use Rattle.farm_types.specs.declared.limits.TheConstants.{LAST_DEPEND, MOST_DEPENDS, MOST_GROUPS}
 use Rattle.depend_graph.specs.Graph.{is_flagged}
 use Rattle.depend_book.specs.declared.new_depend.NewDepend.{NewDepend}
-use Rattle.farm_places.specs.declared.fault.PrepareFault.{PrepareFault}
-use Rattle.farm_places.specs.declared.fault.PrepareFault.TheVariants.{Refused, NoMemory}
+use Rattle.farm_types.specs.declared.fault.FarmFault.{FarmFault}
+use Rattle.farm_types.specs.declared.fault.FarmFault.TheVariants.{Refused, NoMemory}
 use Rattle.farm_depends.specs.declared.counts.Counts.{Counts}
 use Rattle.farm_depends.specs.declared.follow.Follow.{Follow}
 use Rattle.farm_depends.specs.Follow.{all_coming, coming}
@@ -102,7 +102,7 @@ refusal_with_all f c [] = None
 refusal_with_all f c (spec ∷ specs) = or_else (refusal_with f c spec) (refusal_with_all f (counts_more c (length (new_groups f spec))) specs)
 
 -- the depend, or exactly its refusal
-abbrev pub Comes : Farm → Counts → DependSpec → Result NewDepend PrepareFault → Type 0
+abbrev pub Comes : Farm → Counts → DependSpec → Result NewDepend FarmFault → Type 0
 Comes f c spec (Ok n) = (refusal_with f c spec ≡ None) × (n ≡ coming f spec)
 Comes f c spec (Err (Refused why)) = refusal_with f c spec ≡ Some why
 Comes f c spec (Err NoMemory) = Unit {0}
@@ -112,7 +112,7 @@ abbrev pub each_coming : Farm → List DependSpec → List NewDepend
 each_coming f specs = map (coming f) specs
 
 -- the depends, or exactly the first refusal
-abbrev pub ComeAll : Farm → Counts → List DependSpec → Result (List NewDepend) PrepareFault → Type 0
+abbrev pub ComeAll : Farm → Counts → List DependSpec → Result (List NewDepend) FarmFault → Type 0
 ComeAll f c specs (Ok ns) = (refusal_with_all f c specs ≡ None) × (ns ≡ each_coming f specs)
 ComeAll f c specs (Err (Refused why)) = refusal_with_all f c specs ≡ Some why
 ComeAll f c specs (Err NoMemory) = Unit {0}

@@ -19,8 +19,8 @@ use Rattle.depend_graph.specs.Graph.{IsGroup, has_depend}
 use Rattle.depend_graph.specs.Spare.{SpareLists, spare_of}
 use Rattle.depend_book.specs.Book.{CanAdd, DependLists, all_done_in, done_in, dropped_in, with_new}
 use Rattle.depend_book.specs.declared.new_depend.NewDepend.{NewDepend}
-use Rattle.farm_places.specs.declared.fault.PrepareFault.{PrepareFault}
-use Rattle.farm_places.specs.declared.fault.PrepareFault.TheVariants.{Refused, NoMemory}
+use Rattle.farm_types.specs.declared.fault.FarmFault.{FarmFault}
+use Rattle.farm_types.specs.declared.fault.FarmFault.TheVariants.{Refused, NoMemory}
 use Rattle.farm_depends.specs.declared.follow.Follow.{Follow}
 
 abbrev pub nothing_follows : Follow
@@ -148,7 +148,7 @@ pub record Follows (old f : Farm) (done : Act) (w : Follow) : Type 0 where
   pub counts : Counts old done w.count
 
 -- what follows the act, or exactly the refusal; running out of memory needs no cause
-abbrev pub PreparesFollow : Farm → Farm → Act → Result Follow PrepareFault → Type 0
+abbrev pub PreparesFollow : Farm → Farm → Act → Result Follow FarmFault → Type 0
 PreparesFollow old f done (Ok w) = Follows old f done w
 PreparesFollow old f done (Err (Refused why)) = follow_refusal old done ≡ Some why
 PreparesFollow old f done (Err NoMemory) = Unit {0}

@@ -20,8 +20,8 @@ use Rattle.farm_types.specs.Kept.{KeepsRows}
 use Rattle.farm_types.specs.Names.{frame_name}
 use Rattle.farm_types.specs.Step.{act_refusal, after_submit}
 use Rattle.depend_book.specs.declared.new_depend.NewDepend.{NewDepend}
-use Rattle.farm_places.specs.declared.fault.PrepareFault.{PrepareFault}
-use Rattle.farm_places.specs.declared.fault.PrepareFault.TheVariants.{Refused, NoMemory}
+use Rattle.farm_types.specs.declared.fault.FarmFault.{FarmFault}
+use Rattle.farm_types.specs.declared.fault.FarmFault.TheVariants.{Refused, NoMemory}
 use Rattle.farm_depends.specs.declared.counts.Counts.{Counts}
 use Rattle.farm_depends.specs.declared.follow.Follow.{Follow}
 use Rattle.farm_depends.specs.declared.own.OwnJob.{OwnJob}
@@ -54,7 +54,7 @@ own_shapes (l ∷ ls) (slots ∷ places) = record { name = l.name; numbers = l.n
 -- ---- ends in the job itself
 
 -- the end, or exactly what is refused of it
-abbrev pub EndsIn : OwnJob → Place → Result DependEnd PrepareFault → Type 0
+abbrev pub EndsIn : OwnJob → Place → Result DependEnd FarmFault → Type 0
 EndsIn own p (Ok e) = (shape_refusal own.shape p.layer p.frame ≡ None) × (e ≡ record { job = own.job; layer = p.layer; frame = p.frame })
 EndsIn own p (Err (Refused why)) = shape_refusal own.shape p.layer p.frame ≡ Some why
 EndsIn own p (Err NoMemory) = Unit {0}
@@ -88,7 +88,7 @@ abbrev pub own_groups : OwnJob → Shape → DependSpec → List Group
 own_groups own target spec = groups_by spec.kind spec.any (part_of spec.waiter) (part_of spec.target) own.shape target
 
 -- the groups, or exactly what is refused of them
-abbrev pub GroupsBetween : OwnJob → Shape → Counts → DependSpec → Result (List Group) PrepareFault → Type 0
+abbrev pub GroupsBetween : OwnJob → Shape → Counts → DependSpec → Result (List Group) FarmFault → Type 0
 GroupsBetween own target c spec (Ok groups) = (own_refusal own.shape.layers c groups ≡ None) × (groups ≡ own_groups own target spec)
 GroupsBetween own target c spec (Err (Refused why)) = own_refusal own.shape.layers c (own_groups own target spec) ≡ Some why
 GroupsBetween own target c spec (Err NoMemory) = Unit {0}

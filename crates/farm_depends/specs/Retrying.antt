@@ -8,8 +8,8 @@ use Rattle.farm_types.specs.Farm.{Farm, for_some}
 use Rattle.farm_types.specs.Operators.{place_of, slot_named}
 use Rattle.depend_graph.specs.Graph.{Watch, unmet_of}
 use Rattle.depend_book.specs.Book.{DependLists}
-use Rattle.farm_places.specs.declared.fault.PrepareFault.{PrepareFault}
-use Rattle.farm_places.specs.declared.fault.PrepareFault.TheVariants.{Refused, NoMemory}
+use Rattle.farm_types.specs.declared.fault.FarmFault.{FarmFault}
+use Rattle.farm_types.specs.declared.fault.FarmFault.TheVariants.{Refused, NoMemory}
 use Rattle.farm_depends.specs.declared.follow.Follow.{Follow}
 
 -- the slot, where its frame is done
@@ -43,7 +43,7 @@ follow_retry slots watches slot =
     }
 
 -- what follows the retry of the frame that is named, or exactly what is refused of it
-abbrev pub Retries : Farm → DependLists → FramePlace → Result Follow PrepareFault → Type 0
+abbrev pub Retries : Farm → DependLists → FramePlace → Result Follow FarmFault → Type 0
 Retries f b p (Ok w) = (slot : ℕ) × (slot_named f p ≡ Some slot) × (w ≡ follow_retry f.slots b.graph.depends slot)
 Retries f b p (Err (Refused why)) = place_refusal f (place_of p) ≡ Some why
 Retries f b p (Err NoMemory) = Unit {0}

@@ -5,19 +5,18 @@ ghost use Rattle.std.specs.List.{list_any};
 ghost use Rattle.farm_types.specs.DependActs.{frame_name_at, runs_already, runs_at, waits_for_itself};
 ghost use Rattle.depend_graph.specs.Graph.{IsGroup};
 ghost use Rattle.farm_depends.specs.Coming.{self_refusal, started_refusal};
-ghost use Rattle.farm_places.specs.Ends.{Refuses};
+ghost use Rattle.farm_types.specs.Faults.{Refuses};
 
 use crate::marks::{first_marked, mark, no_marks};
 use crate::refused::{self_depend, started};
 use command_text::frame_name;
 use farm_books::Books;
-use farm_places::PrepareFault;
-use farm_types::{FrameState, Group, Slot, Text};
+use farm_types::{FarmFault, FrameState, Group, Slot, Text};
 use job_book::Jobs;
 use std::alloc::{AllocError, Global};
 
 /// Refuses groups in which a frame waits for itself.
-pub(crate) fn check_self(alloc: Global, books: &Books, groups: &[Group]) -> Result<(), PrepareFault>
+pub(crate) fn check_self(alloc: Global, books: &Books, groups: &[Group]) -> Result<(), FarmFault>
     requires { All IsGroup groups.now }
     ensures { Refuses (self_refusal books.now groups.now) result }
 {
@@ -30,11 +29,7 @@ pub(crate) fn check_self(alloc: Global, books: &Books, groups: &[Group]) -> Resu
 }
 
 /// Refuses groups in which a frame that runs is to wait.
-pub(crate) fn check_started(
-    alloc: Global,
-    books: &Books,
-    groups: &[Group],
-) -> Result<(), PrepareFault>
+pub(crate) fn check_started(alloc: Global, books: &Books, groups: &[Group]) -> Result<(), FarmFault>
     ensures { Refuses (started_refusal books.now groups.now) result }
 {
     let Some(slot) = runs_already(books.jobs(), groups) else {

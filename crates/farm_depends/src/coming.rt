@@ -5,15 +5,16 @@ ghost use Rattle.farm_types.specs.Kept.{KeepsRows};
 ghost use Rattle.farm_types.specs.declared.limits.TheConstants.{MOST_GROUPS};
 ghost use Rattle.depend_graph.specs.Graph.{IsGroup};
 ghost use Rattle.farm_depends.specs.Coming.{Comes, groups_refusal_with};
-ghost use Rattle.farm_places.specs.Ends.{IsEnd, Refuses};
+ghost use Rattle.farm_types.specs.Faults.{Refuses};
+ghost use Rattle.farm_places.specs.Ends.{IsEnd};
 
 use crate::checks::{check_self, check_started};
 use crate::counts::{Counts, check_full};
 use depend_book::NewDepend;
 use depend_kinds::groups;
 use farm_books::Books;
-use farm_places::{FoundEnd, PrepareFault, find_end};
-use farm_types::{DependSpec, Group, Items};
+use farm_places::{FoundEnd, find_end};
+use farm_types::{DependSpec, FarmFault, Group, Items};
 use std::alloc::Global;
 
 /// A depend as the farm makes it of what is asked, where there is so much room, or why the farm refuses it.
@@ -22,7 +23,7 @@ pub(crate) fn coming(
     books: &Books,
     counts: &Counts,
     spec: &DependSpec,
-) -> Result<NewDepend, PrepareFault>
+) -> Result<NewDepend, FarmFault>
     requires kept { KeepsRows books.now }
     requires within { counts.now.groups ≤ MOST_GROUPS }
     ensures { Comes books.now counts.now spec.now result }
@@ -40,7 +41,7 @@ fn between(
     spec: &DependSpec,
     waiter: FoundEnd,
     target: FoundEnd,
-) -> Result<NewDepend, PrepareFault>
+) -> Result<NewDepend, FarmFault>
     requires kept { KeepsRows books.now }
     requires within { counts.now.groups ≤ MOST_GROUPS }
     requires waiter { IsEnd books.now spec.now.waiter waiter }
@@ -64,7 +65,7 @@ fn check_groups(
     books: &Books,
     counts: &Counts,
     groups: &Items<Group>,
-) -> Result<(), PrepareFault>
+) -> Result<(), FarmFault>
     requires within { counts.now.groups ≤ MOST_GROUPS }
     requires each { All IsGroup groups.now }
     ensures { Refuses (groups_refusal_with books.now counts.now groups.now) result }

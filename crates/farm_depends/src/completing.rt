@@ -5,7 +5,7 @@ ghost use Rattle.farm_types.specs.Depends.{is_done};
 ghost use Rattle.farm_types.specs.declared.entry.Act.TheVariants as act;
 ghost use Rattle.farm_types.specs.declared.limits.TheConstants.{SLOT_LIMIT};
 ghost use Rattle.farm_types.specs.declared.refusal.Refusal.TheVariants.{Unknown};
-ghost use Rattle.farm_places.specs.Ends.{IsRefusal};
+ghost use Rattle.farm_types.specs.Faults.{IsRefusal};
 ghost use Rattle.farm_changes.specs.Change.{Makes, after_change};
 ghost use Rattle.depend_book.specs.Book.{joined};
 ghost use Rattle.farm_depends.specs.Completing.{IsCompleting, blocked_among, is_blocked_in, is_done_row, left_blocked, newly_done, unmarked_among};
@@ -17,8 +17,7 @@ use crate::marks::{is_marked, mark, no_marks};
 use depend_book::Depends;
 use farm_books::Books;
 use farm_changes::Change;
-use farm_places::PrepareFault;
-use farm_types::{DependNo, Entry, FrameState, Items, Refusal, Slot, SlotRow, Text};
+use farm_types::{DependNo, Entry, FarmFault, FrameState, Items, Refusal, Slot, SlotRow, Text};
 use std::alloc::{AllocError, Global};
 
 /// What follows an act that may complete frames, for which `change` was prepared: its completions meet groups, and frames open.
@@ -28,7 +27,7 @@ pub(crate) fn follow_completed(
     depends: &Depends,
     entry: &Entry,
     change: &Change,
-) -> Result<Follow, PrepareFault>
+) -> Result<Follow, FarmFault>
     requires whole { IsWhole books.now depends.now }
     requires made { Makes books.now entry.now change.now }
     requires completing { IsCompleting entry.now.act }
@@ -57,7 +56,7 @@ pub(crate) fn follow_drop(
     books: &Books,
     depends: &Depends,
     depend: DependNo,
-) -> Result<Follow, PrepareFault>
+) -> Result<Follow, FarmFault>
     requires whole { IsWhole books.now depends.now }
     ensures { PreparesFollow (joined books.now depends.now) (joined books.now depends.now) (act.DropDepend depend) result }
 {
@@ -65,7 +64,7 @@ pub(crate) fn follow_drop(
         return Err(unknown(alloc, depend));
     };
     if row.met_all {
-        return Err(PrepareFault::Refused {
+        return Err(FarmFault::Refused {
             why: Refusal::Satisfied,
         });
     }
@@ -87,16 +86,16 @@ pub(crate) fn follow_drop(
 }
 
 // No depend of that number is there.
-fn unknown(alloc: Global, depend: DependNo) -> PrepareFault
+fn unknown(alloc: Global, depend: DependNo) -> FarmFault
     ensures { IsRefusal (Unknown (decimal depend)) result }
 {
     match depend.0.to_string(alloc) {
-        Ok(name) => PrepareFault::Refused {
+        Ok(name) => FarmFault::Refused {
             why: Refusal::Unknown {
                 name: Text::from_string(name),
             },
         },
-        Err(AllocError) => PrepareFault::NoMemory,
+        Err(AllocError) => FarmFault::NoMemory,
     }
 }
 

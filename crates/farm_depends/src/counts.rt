@@ -4,13 +4,10 @@ ghost use Rattle.std.specs.Prelude.{◌≡◌, ◌≤◌, None, length};
 ghost use Rattle.depend_graph.specs.Graph.{groups_left};
 ghost use Rattle.farm_types.specs.declared.limits.TheConstants.{LAST_DEPEND, MOST_DEPENDS, MOST_GROUPS};
 ghost use Rattle.farm_depends.specs.Coming.{counts_full, counts_more};
-ghost use Rattle.farm_types.specs.declared.refusal.Refusal.TheVariants.{Full};
-ghost use Rattle.farm_places.specs.declared.fault.PrepareFault.TheVariants.{Refused};
-ghost use Rattle.farm_places.specs.Ends.{Refuses};
+ghost use Rattle.farm_types.specs.Faults.{Refuses};
 
 use depend_book::Depends;
-use farm_places::PrepareFault;
-use farm_types::{Counted, LAST_DEPEND, MOST_DEPENDS, MOST_GROUPS, Refusal};
+use farm_types::{Counted, FarmFault, LAST_DEPEND, MOST_DEPENDS, MOST_GROUPS};
 
 /// How many depends there are, how many groups those have together that aren't satisfied, and the next depend's number.
 #[derive(Clone, Copy, Debug, PartialEq, Eq)]
@@ -33,18 +30,18 @@ pub(crate) fn counts_of(depends: &Depends) -> Counts
 }
 
 /// Refuses a depend of so many groups for which there is no room, or no number.
-pub(crate) fn check_full(counts: &Counts, groups: usize) -> Result<(), PrepareFault>
+pub(crate) fn check_full(counts: &Counts, groups: usize) -> Result<(), FarmFault>
     requires { counts.now.groups ≤ MOST_GROUPS }
     ensures { Refuses (counts_full counts.now groups) result }
 {
     if counts.depends >= u64::from(MOST_DEPENDS) {
-        return Err(full(u64::from(MOST_DEPENDS), Counted::Depends));
+        return Err(FarmFault::full(u64::from(MOST_DEPENDS), Counted::Depends));
     }
     if groups as u64 > u64::from(MOST_GROUPS) - counts.groups {
-        return Err(full(u64::from(MOST_GROUPS), Counted::Groups));
+        return Err(FarmFault::full(u64::from(MOST_GROUPS), Counted::Groups));
     }
     if counts.next > u64::from(LAST_DEPEND) {
-        return Err(full(u64::from(LAST_DEPEND), Counted::DependNumbers));
+        return Err(FarmFault::full(u64::from(LAST_DEPEND), Counted::DependNumbers));
     }
     Ok(())
 }
@@ -59,14 +56,5 @@ pub(crate) fn counts_more(counts: &Counts, groups: usize) -> Counts
         depends: counts.depends + 1,
         groups: counts.groups + groups as u64,
         next: counts.next + 1,
-    }
-}
-
-// That so many are there as there may be.
-fn full(limit: u64, what: Counted) -> PrepareFault
-    ensures { result ≡ Refused (Full limit what) }
-{
-    PrepareFault::Refused {
-        why: Refusal::Full { limit, what },
     }
 }

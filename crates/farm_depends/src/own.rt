@@ -5,9 +5,9 @@ ghost use Rattle.farm_depends.specs.Placed.{CanPlace, EndsIn, IsOwn, name_in, nu
 
 use command_text::frame_name;
 use farm_books::Books;
-use farm_places::{PrepareFault, check_part, end_in};
+use farm_places::{check_part, end_in};
 use farm_types::{
-    DependEnd, Items, JobNo, JobSpec, LayerShape, LayerSpec, Place, Shape, Slot, Text,
+    DependEnd, FarmFault, Items, JobNo, JobSpec, LayerShape, LayerSpec, Place, Shape, Slot, Text,
 };
 use std::alloc::{AllocError, Global};
 
@@ -65,7 +65,7 @@ fn own_shape(
 }
 
 /// An end in the job, or that its layer or its frame isn't there.
-pub(crate) fn own_end(alloc: Global, own: &OwnJob, place: &Place) -> Result<DependEnd, PrepareFault>
+pub(crate) fn own_end(alloc: Global, own: &OwnJob, place: &Place) -> Result<DependEnd, FarmFault>
     ensures { EndsIn own.now place.now result }
 {
     check_part(alloc, &own.shape, place)?;

@@ -4,7 +4,7 @@ ghost use Rattle.std.specs.Prelude.{◌≡◌, ◌≤◌, All};
 ghost use Rattle.farm_types.specs.declared.limits.TheConstants.{MOST_GROUPS};
 ghost use Rattle.depend_graph.specs.Graph.{IsGroup};
 ghost use Rattle.farm_depends.specs.Coming.{ComeAll, Comes};
-ghost use Rattle.farm_places.specs.Ends.{Refuses};
+ghost use Rattle.farm_types.specs.Faults.{Refuses};
 ghost use Rattle.farm_depends.specs.Placed.{CanPlace, GroupsBetween, IsOwn, own_groups, own_refusal, placed};
 
 use crate::checks::waits_for_itself;
@@ -14,8 +14,8 @@ use crate::refused::self_depend;
 use depend_book::NewDepend;
 use depend_kinds::groups;
 use farm_books::Books;
-use farm_places::{PrepareFault, find_end};
-use farm_types::{DependEnd, DependSpec, Group, Items, JobSpec, LayerShape, Shape};
+use farm_places::find_end;
+use farm_types::{DependEnd, DependSpec, FarmFault, Group, Items, JobSpec, LayerShape, Shape};
 use std::alloc::Global;
 
 /// The depends of a job that is to be placed, in turn, or the first refusal.
@@ -25,7 +25,7 @@ pub(crate) fn all_coming(
     job: &JobSpec,
     own: &OwnJob,
     counts: Counts,
-) -> Result<Items<NewDepend>, PrepareFault>
+) -> Result<Items<NewDepend>, FarmFault>
     requires can { CanPlace books.now job.now }
     requires own { IsOwn books.now job.now own.now }
     requires within { counts.groups ≤ MOST_GROUPS }
@@ -49,7 +49,7 @@ fn own_coming(
     own: &OwnJob,
     counts: &Counts,
     spec: &DependSpec,
-) -> Result<NewDepend, PrepareFault>
+) -> Result<NewDepend, FarmFault>
     requires can { CanPlace books.now job.now }
     requires own { IsOwn books.now job.now own.now }
     requires waiter { spec.now.waiter.job ≡ job.now.name }
@@ -92,7 +92,7 @@ fn groups_between(
     target: &Shape,
     counts: &Counts,
     spec: &DependSpec,
-) -> Result<Items<Group>, PrepareFault>
+) -> Result<Items<Group>, FarmFault>
     requires within { counts.now.groups ≤ MOST_GROUPS }
     requires each { All IsGroup (own_groups own.now target.now spec.now) }
     ensures { GroupsBetween own.now target.now counts.now spec.now result }
@@ -108,7 +108,7 @@ fn check_own(
     layers: &[LayerShape],
     counts: &Counts,
     groups: &Items<Group>,
-) -> Result<(), PrepareFault>
+) -> Result<(), FarmFault>
     requires within { counts.now.groups ≤ MOST_GROUPS }
     requires each { All IsGroup groups.now }
     ensures { Refuses (own_refusal layers.now counts.now groups.now) result }

@@ -22,8 +22,7 @@ use crate::submitted::follow_submit;
 use depend_book::{Depends, NewDepend};
 use farm_books::Books;
 use farm_changes::Change;
-use farm_places::PrepareFault;
-use farm_types::{Act, DependSpec, Entry, Items, JobSpec, Slot};
+use farm_types::{Act, DependSpec, Entry, FarmFault, Items, JobSpec, Slot};
 use std::alloc::{AllocError, Global};
 
 /// Prepares what follows the act of an entry, for which `change` was prepared. Nothing changes. An entry to book is one whose booking may be
@@ -34,7 +33,7 @@ pub fn prepare_follow(
     depends: &Depends,
     entry: &Entry,
     change: &Change,
-) -> Result<Follow, PrepareFault>
+) -> Result<Follow, FarmFault>
     requires whole { IsWhole books.now depends.now }
     requires condition { HasCondition (joined books.now depends.now) entry.now.act }
     requires formed { IsFormedAct entry.now.act }
@@ -60,7 +59,7 @@ pub fn follow_depend(
     books: &Books,
     depends: &Depends,
     spec: &DependSpec,
-) -> Result<Follow, PrepareFault>
+) -> Result<Follow, FarmFault>
     requires whole { IsWhole books.now depends.now }
     requires formed { IsFormedAct (act.AddDepend spec.now) }
     ensures { PreparesFollow (joined books.now depends.now) (joined books.now depends.now) (act.AddDepend spec.now) result }

@@ -2,25 +2,24 @@
 
 ghost use Rattle.std.specs.Prelude.{◌≡◌};
 ghost use Rattle.farm_types.specs.declared.refusal.Refusal.TheVariants.{SelfDepend, Started};
-ghost use Rattle.farm_places.specs.Ends.{IsRefusal};
+ghost use Rattle.farm_types.specs.Faults.{IsRefusal};
 
-use farm_places::PrepareFault;
-use farm_types::{Refusal, Text};
+use farm_types::{FarmFault, Refusal, Text};
 
 /// That the frame of that name would wait for itself.
-pub(crate) fn self_depend(frame: Text) -> PrepareFault
+pub(crate) fn self_depend(frame: Text) -> FarmFault
     ensures { IsRefusal (SelfDepend frame) result }
 {
-    PrepareFault::Refused {
+    FarmFault::Refused {
         why: Refusal::SelfDepend { frame },
     }
 }
 
 /// That the frame of that name runs already.
-pub(crate) fn started(frame: Text) -> PrepareFault
+pub(crate) fn started(frame: Text) -> FarmFault
     ensures { IsRefusal (Started frame) result }
 {
-    PrepareFault::Refused {
+    FarmFault::Refused {
         why: Refusal::Started { frame },
     }
 }

@@ -8,8 +8,8 @@ use crate::completing::is_done_in;
 use crate::follow::Follow;
 use depend_book::Depends;
 use farm_books::Books;
-use farm_places::{PrepareFault, find_frame};
-use farm_types::{FramePlace, Items, Slot};
+use farm_places::find_frame;
+use farm_types::{FarmFault, FramePlace, Items, Slot};
 use std::alloc::{AllocError, Global};
 
 /// What follows the retry of the frame that is named: it isn't done any more where it was, and is blocked where it waits in groups that aren't met.
@@ -18,7 +18,7 @@ pub(crate) fn follow_retried(
     books: &Books,
     depends: &Depends,
     place: &FramePlace,
-) -> Result<Follow, PrepareFault>
+) -> Result<Follow, FarmFault>
     requires { KeepsRows books.now }
     ensures { Retries books.now depends.now place.now result }
 {

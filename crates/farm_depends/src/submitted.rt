@@ -20,8 +20,7 @@ use crate::own::{OwnJob, own_job};
 use crate::own_coming::all_coming;
 use depend_book::{Depends, NewDepend};
 use farm_books::Books;
-use farm_places::PrepareFault;
-use farm_types::{Items, JobSpec};
+use farm_types::{FarmFault, Items, JobSpec};
 use std::alloc::{AllocError, Global};
 
 /// What follows a submitted job, for which the farm has a place: its depends, in turn, and those of its frames that they block. Nothing changes.
@@ -30,7 +29,7 @@ pub fn follow_submit(
     books: &Books,
     depends: &Depends,
     spec: &JobSpec,
-) -> Result<Follow, PrepareFault>
+) -> Result<Follow, FarmFault>
     requires whole { IsWhole books.now depends.now }
     requires formed { IsFormedAct (act.Submit spec.now) }
     requires accepted { act_refusal books.now (act.Submit spec.now) ≡ None }

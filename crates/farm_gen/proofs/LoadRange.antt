@@ -1,17 +1,17 @@
 -- The range of a load's layer: it is the text of a set as the set prints, and its numbers are those from 1 to n.
 use Rattle.std.proofs.Common.{◌≡◌, ℕ, zero, suc, ◌+◌, ◌-◌, ◌/◌, ◌<◌, ◌≤◌, List, [], ◌∷◌, ◌++◌, length, Bool, true, false, refl, sym, ap, ◌∙◌, arith, subst, append_assoc, append-nil}
-use Rattle.std.specs.Prelude.{if◌then◌else◌, ℤ, pos, ◌-ℤ◌, unsigned_abs, int_lt, Ok, Option, Some, None, bytes_eq, nat_le}
+use Rattle.std.specs.Prelude.{if◌then◌else◌, ℤ, pos, ◌-ℤ◌, unsigned_abs, int_lt, Ok, Option, Some, None}
 use Rattle.std.specs.Fmt.{digits}
 use Rattle.std.specs.List.{list_any}
 use Rattle.std.specs.Ordering.{int_eq}
-use Rattle.std.proofs.lemmas.Bool.{le-ltb, le-leb}
+use Rattle.std.proofs.lemmas.Bool.{le-ltb}
 use Rattle.std.proofs.lemmas.Bool.Decides.{Decides-int_eq}
-use Rattle.std.proofs.lemmas.Cmp.{nat_list_eq_equiv}
 use Rattle.std.proofs.lemmas.Int.{ints}
 use Rattle.std.proofs.lemmas.List.Folds.{list_any-append}
 use Rattle.std.proofs.lemmas.Fmt.{length-decimal-le}
-use Rattle.farm_types.specs.Ranges.{is_range_text, range_numbers, sections_in}
+use Rattle.farm_types.specs.Ranges.{is_range_text, range_numbers}
 use Rattle.farm_types.specs.declared.limits.TheConstants.{MOST_RANGE}
+use Rattle.farm_types.proofs.Ranges.{numbers_said, range_formed}
 use Rattle.frame_range.specs.declared.fault.RangeFault.{RangeFault}
 use Rattle.frame_range.specs.declared.section.Section.{Section}
 use Rattle.frame_range.specs.declared.section.Section.TheVariants.{Range}
@@ -106,19 +106,11 @@ numbers_are n load = ap (with_all []) (append-nil (section_numbers (Range (pos 1
 
 -- ---- the layer's text and numbers
 
-text_known : (text : List ℕ) (ss : List Section) → set_of text ≡ Ok ss → text ≡ printed ss → length text ≤ MOST_RANGE → is_range_text text ≡ true
-unfolding is_range_text
-text_known text ss reads prints short =
-    let test : nat_le (length text) MOST_RANGE ≡ true = le-leb (length text) MOST_RANGE short in
-    let same : bytes_eq text (printed ss) ≡ true = subst (λ (t : List ℕ). bytes_eq text t ≡ true) prints (nat_list_eq_equiv.refl text) in
-    rw (test, reads) same
-
 load_short : (n : ℕ) → IsLoad n → length (load_range n) ≤ MOST_RANGE
 load_short n load = omega (arith, length-decimal-le 4 n (omega arith) (omega (arith, load.within)) (omega (arith, load.within)))
 
 pub range_text : (n : ℕ) → IsLoad n → is_range_text (load_range n) ≡ true
-range_text n load = text_known (load_range n) (sections n) (set_is n load) (sym (printed_is n)) (load_short n load)
+range_text n load = range_formed (load_range n) (sections n) (set_is n load) (sym (printed_is n)) (load_short n load)
 
 pub range_says : (n : ℕ) → IsLoad n → range_numbers (load_range n) ≡ numbers_from 1 n
-unfolding range_numbers
-range_says n load = ap (λ r. numbers_of (sections_in r)) (set_is n load) ∙ numbers_are n load
+range_says n load = numbers_said (load_range n) (sections n) (set_is n load) ∙ numbers_are n load

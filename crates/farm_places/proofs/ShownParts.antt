@@ -16,17 +16,19 @@ use Rattle.farm_types.specs.declared.refusal.Refusal.{Refusal}
 use Rattle.farm_types.specs.declared.rows.JobRow.{JobRow}
 use Rattle.farm_types.specs.declared.rows.LayerRow.{LayerRow}
 use Rattle.farm_types.specs.declared.slot_row.SlotRow.{SlotRow}
-use Rattle.farm_types.specs.DependActs.{end_of, end_refusal, job_missing, layer_refusal, new_groups, number_of, part_refusal, pending_named, place_refusal}
+use Rattle.farm_types.specs.DependActs.{end_of, end_refusal, job_missing, layer_refusal, missing_among, new_groups, number_of, part_refusal, pending_named, place_refusal}
 use Rattle.farm_types.specs.Depends.{groups_of, layer_shape, shape_in, shape_of}
 use Rattle.farm_types.specs.Farm.{Farm, layers_of}
 use Rattle.farm_types.specs.Groups.{Part, all_slots, groups_by, groups_by_number, groups_of_previous, layer_named_by, layer_of_part, or_no_layer, part_at, part_of, slots_at, slots_of_layer, slots_of_part}
 use Rattle.farm_types.specs.Jobs.{JobLists}
+use Rattle.farm_types.specs.Step.{lists_of}
 use Rattle.farm_types.proofs.Lists.{found_is}
 use Rattle.depend_law.proofs.Among.{kept_from}
-use Rattle.farm_places.specs.declared.fault.PrepareFault.{PrepareFault}
-use Rattle.farm_places.specs.declared.fault.PrepareFault.TheVariants.{Refused, NoMemory}
+use Rattle.farm_types.specs.declared.fault.FarmFault.{FarmFault}
+use Rattle.farm_types.specs.declared.fault.FarmFault.TheVariants.{Refused, NoMemory}
 use Rattle.std.proofs.Common.{Err}
-use Rattle.farm_places.specs.Ends.{FindsEnd, IsRefusal, Refuses, ShowsPart, is_called, layer_refusal_in, shape_refusal}
+use Rattle.farm_types.specs.Faults.{IsRefusal, Refuses}
+use Rattle.farm_places.specs.Ends.{FindsEnd, ShowsPart, is_called, layer_refusal_in, shape_refusal}
 use Rattle.farm_places.specs.Shapes.{AreLayers}
 
 -- ---- layers of a job
@@ -149,11 +151,12 @@ refusal_shown f p job shape pending shows = pending.refusal ∙ (part_is f job p
 
 -- ---- faults
 
-pub fault_finds : (X : Type 0) (f : Farm) (p : Place) (refusal : Option Refusal) (fault : PrepareFault) → place_refusal f p ≡ refusal → Refuses {X = X} refusal (Err fault) → FindsEnd f p (Err fault)
+pub fault_finds : (X : Type 0) (f : Farm) (p : Place) (refusal : Option Refusal) (fault : FarmFault) → place_refusal f p ≡ refusal → Refuses {X = X} refusal (Err fault) → FindsEnd f p (Err fault)
 fault_finds X f p refusal (Refused why) is refused = is ∙ refused
 fault_finds X f p refusal NoMemory is refused = tt
 
 -- where no pending job is found, the refusal is exactly that it is missing
-pub missing_finds : (f : Farm) (p : Place) (fault : PrepareFault) → None ≡ option_map (λ (j : JobRow). j.job) (pending_named f p.job) → IsRefusal (job_missing f p.job) fault → FindsEnd f p (Err fault)
-missing_finds f p (Refused why) none is = pending_none f p none ∙ ap Some (sym is)
-missing_finds f p NoMemory none is = tt
+pub missing_finds : (f : Farm) (p : Place) (b : JobLists) (fault : FarmFault) → b ≡ lists_of f → None ≡ option_map (λ (j : JobRow). j.job) (pending_named f p.job) → IsRefusal (missing_among b.jobs p.job) fault
+    → FindsEnd f p (Err fault)
+missing_finds f p b (Refused why) lists none is = pending_none f p none ∙ ap Some (sym (is ∙ ap (λ (x : JobLists). missing_among x.jobs p.job) lists))
+missing_finds f p b NoMemory lists none is = tt

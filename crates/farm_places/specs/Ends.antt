@@ -14,20 +14,9 @@ use Rattle.farm_types.specs.Depends.{shape_of}
 use Rattle.farm_types.specs.Farm.{Farm}
 use Rattle.farm_types.specs.Groups.{all_slots}
 use Rattle.farm_types.specs.Names.{frame_name}
-use Rattle.farm_places.specs.declared.fault.PrepareFault.{PrepareFault}
-use Rattle.farm_places.specs.declared.fault.PrepareFault.TheVariants.{Refused, NoMemory}
+use Rattle.farm_types.specs.declared.fault.FarmFault.{FarmFault}
+use Rattle.farm_types.specs.declared.fault.FarmFault.TheVariants.{Refused, NoMemory}
 use Rattle.farm_places.specs.declared.ends.FoundEnd.{FoundEnd}
-
--- nothing where there is no refusal, and else exactly the refusal; running out of memory needs no cause
-abbrev pub Refuses : {X : Type 0} → Option Refusal → Result X PrepareFault → Type 0
-Refuses refusal (Ok x) = refusal ≡ None
-Refuses refusal (Err (Refused why)) = refusal ≡ Some why
-Refuses refusal (Err NoMemory) = Unit {0}
-
--- the refusal, or out of memory
-abbrev pub IsRefusal : Refusal → PrepareFault → Type 0
-IsRefusal refusal (Refused why) = why ≡ refusal
-IsRefusal refusal NoMemory = Unit {0}
 
 -- ---- numbers of frames
 
@@ -75,7 +64,7 @@ pub record IsEnd (f : Farm) (p : Place) (e : FoundEnd) : Type 0 where
   pub shows : ShowsPart (shape_of f (end_of f p).job) e.shape p.layer
 
 -- the end, or exactly what is refused of it
-abbrev pub FindsEnd : Farm → Place → Result FoundEnd PrepareFault → Type 0
+abbrev pub FindsEnd : Farm → Place → Result FoundEnd FarmFault → Type 0
 FindsEnd f p (Ok e) = IsEnd f p e
 FindsEnd f p (Err (Refused why)) = place_refusal f p ≡ Some why
 FindsEnd f p (Err NoMemory) = Unit {0}

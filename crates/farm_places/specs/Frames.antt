@@ -7,11 +7,11 @@ use Rattle.farm_types.specs.declared.states.FrameState.{FrameState}
 use Rattle.farm_types.specs.DependActs.{place_refusal}
 use Rattle.farm_types.specs.Farm.{Farm}
 use Rattle.farm_types.specs.Operators.{place_of, slot_named}
-use Rattle.farm_places.specs.declared.fault.PrepareFault.{PrepareFault}
-use Rattle.farm_places.specs.declared.fault.PrepareFault.TheVariants.{Refused, NoMemory}
+use Rattle.farm_types.specs.declared.fault.FarmFault.{FarmFault}
+use Rattle.farm_types.specs.declared.fault.FarmFault.TheVariants.{Refused, NoMemory}
 
 -- the slot of the frame that is named, or exactly what is refused of it
-abbrev pub FindsFrame : Farm → FramePlace → Result ℕ PrepareFault → Type 0
+abbrev pub FindsFrame : Farm → FramePlace → Result ℕ FarmFault → Type 0
 FindsFrame f p (Ok slot) = (place_refusal f (place_of p) ≡ None) × (slot_named f p ≡ Some slot)
 FindsFrame f p (Err (Refused why)) = place_refusal f (place_of p) ≡ Some why
 FindsFrame f p (Err NoMemory) = Unit {0}

@@ -4,13 +4,13 @@ ghost use Rattle.std.specs.Prelude.{◌≡◌, find, option_copied, IfOk};
 ghost use Rattle.std.specs.List.{list_any};
 ghost use Rattle.std.specs.Ordering.{int_eq};
 ghost use Rattle.farm_types.specs.Kept.{KeepsRows};
-ghost use Rattle.farm_places.specs.Ends.{FindsEnd, Refuses, frame_refusal_in, is_called, shape_refusal};
+ghost use Rattle.farm_types.specs.Faults.{Refuses};
+ghost use Rattle.farm_places.specs.Ends.{FindsEnd, frame_refusal_in, is_called, shape_refusal};
 
-use crate::fault::PrepareFault;
-use crate::refused::{missing, unknown, unknown_frame};
+use crate::refused::{missing, unknown_frame};
 use crate::shapes::part_shape;
 use farm_books::Books;
-use farm_types::{DependEnd, JobNo, LayerShape, Place, Shape, Text};
+use farm_types::{DependEnd, FarmFault, JobNo, LayerShape, Place, Shape, Text};
 use std::alloc::{AllocError, Global};
 
 /// The end that a place names, with a shape of its job that shows what is named.
@@ -21,34 +21,35 @@ pub struct FoundEnd {
 }
 
 /// The end that a place names, or that its job, its layer or its frame isn't there.
-pub fn find_end(alloc: Global, books: &Books, place: &Place) -> Result<FoundEnd, PrepareFault>
+pub fn find_end(alloc: Global, books: &Books, place: &Place) -> Result<FoundEnd, FarmFault>
     requires { KeepsRows books.now }
     ensures { FindsEnd books.now place.now result }
 {
-    let Some(job) = books.jobs().pending(place.job.as_str()) else {
-        return Err(missing(alloc, books, &place.job));
+    let jobs = books.jobs();
+    let Some(job) = jobs.pending(place.job.as_str()) else {
+        return Err(missing(alloc, jobs, &place.job));
     };
-    let shape = part_shape(alloc, books.jobs(), job, &place.layer)?;
+    let shape = part_shape(alloc, jobs, job, &place.layer)?;
     check_part(alloc, &shape, place)?;
     let end = end_in(alloc, job, place)?;
     Ok(FoundEnd { end, shape })
 }
 
 /// Refuses an end whose layer or frame isn't in the job's shape.
-pub fn check_part(alloc: Global, shape: &Shape, place: &Place) -> Result<(), PrepareFault>
+pub fn check_part(alloc: Global, shape: &Shape, place: &Place) -> Result<(), FarmFault>
     ensures { Refuses (shape_refusal shape.now place.now.layer place.now.frame) result }
 {
     let Some(name) = &place.layer else {
         return Ok(());
     };
     let Some(layer) = layer_called(shape.layers.as_slice(), name) else {
-        return Err(unknown(alloc, name));
+        return Err(FarmFault::unknown(alloc, name));
     };
     check_frame(alloc, layer, place.frame)
 }
 
 // Refuses a frame that isn't in the layer, where one is named.
-fn check_frame(alloc: Global, layer: &LayerShape, frame: Option<i32>) -> Result<(), PrepareFault>
+fn check_frame(alloc: Global, layer: &LayerShape, frame: Option<i32>) -> Result<(), FarmFault>
     ensures { Refuses (frame_refusal_in layer.now frame) result }
 {
     let Some(number) = frame else {

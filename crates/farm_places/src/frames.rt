@@ -8,14 +8,13 @@ ghost use Rattle.job_book.specs.Book.{has_frame};
 ghost use Rattle.farm_places.specs.Frames.{FindsFrame};
 
 use crate::ends::find_end;
-use crate::fault::PrepareFault;
 use depend_kinds::slots_at;
 use farm_books::Books;
-use farm_types::{FramePlace, Place, Slot};
+use farm_types::{FarmFault, FramePlace, Place, Slot};
 use std::alloc::{AllocError, Global};
 
 /// The slot of the frame that is named, of a pending job, or that the job, its layer or the frame isn't there.
-pub fn find_frame(alloc: Global, books: &Books, place: &FramePlace) -> Result<Slot, PrepareFault>
+pub fn find_frame(alloc: Global, books: &Books, place: &FramePlace) -> Result<Slot, FarmFault>
     requires { KeepsRows books.now }
     ensures found { FindsFrame books.now place.now result }
     ensures frame { IfOk result (λ slot. has_frame (lists_of books.now) slot ≡ true) }

@@ -2,15 +2,13 @@
 #![tactic(auto)]
 
 mod ends;
-mod fault;
 mod frames;
 mod refused;
 mod shapes;
 mod states;
 
 pub use ends::{FoundEnd, check_part, end_in, find_end};
-pub use fault::PrepareFault;
 pub use frames::find_frame;
-pub use refused::{missing, unknown, unknown_frame};
+pub use refused::{missing, unknown_frame};
 pub use shapes::part_shape;
 pub use states::{check_eat, check_kill, check_retry};

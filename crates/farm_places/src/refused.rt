@@ -1,59 +1,33 @@
 //! Refusals of what isn't there.
 
-ghost use Rattle.std.specs.Prelude.{◌≡◌};
-ghost use Rattle.farm_types.specs.DependActs.{job_missing};
+ghost use Rattle.farm_types.specs.DependActs.{missing_among};
+ghost use Rattle.farm_types.specs.Faults.{IsRefusal};
 ghost use Rattle.farm_types.specs.Names.{frame_name};
-ghost use Rattle.farm_types.specs.declared.refusal.Refusal.TheVariants.{Finished, Unknown};
-ghost use Rattle.farm_places.specs.Ends.{IsRefusal};
+ghost use Rattle.farm_types.specs.declared.refusal.Refusal.TheVariants.{Unknown};
 
-use crate::fault::PrepareFault;
 use command_text::frame_name;
-use farm_books::Books;
-use farm_types::{Refusal, Text};
+use farm_types::{FarmFault, Refusal, Text};
+use job_book::Jobs;
 use std::alloc::Global;
 
-/// That there is nothing of that name.
-pub fn unknown(alloc: Global, name: &Text) -> PrepareFault
-    ensures { IsRefusal (Unknown name.now) result }
-{
-    match name.copy(alloc) {
-        Ok(name) => PrepareFault::Refused {
-            why: Refusal::Unknown { name },
-        },
-        Err(_) => PrepareFault::NoMemory,
-    }
-}
-
 /// That no pending job has the name: it is finished, or there is none.
-pub fn missing(alloc: Global, books: &Books, name: &Text) -> PrepareFault
-    ensures { IsRefusal (job_missing books.now name.now) result }
+pub fn missing(alloc: Global, jobs: &Jobs, name: &Text) -> FarmFault
+    ensures { IsRefusal (missing_among jobs.now.jobs name.now) result }
 {
-    if books.jobs().has_finished(name.as_str()) {
-        return finished(alloc, name);
+    if jobs.has_finished(name.as_str()) {
+        return FarmFault::finished(alloc, name);
     }
-    unknown(alloc, name)
-}
-
-// That the job of that name is finished.
-fn finished(alloc: Global, name: &Text) -> PrepareFault
-    ensures { IsRefusal (Finished name.now) result }
-{
-    match name.copy(alloc) {
-        Ok(name) => PrepareFault::Refused {
-            why: Refusal::Finished { name },
-        },
-        Err(_) => PrepareFault::NoMemory,
-    }
+    FarmFault::unknown(alloc, name)
 }
 
 /// That the layer has no frame of that number.
-pub fn unknown_frame(alloc: Global, number: i32, layer: &Text) -> PrepareFault
+pub fn unknown_frame(alloc: Global, number: i32, layer: &Text) -> FarmFault
     ensures { IsRefusal (Unknown (frame_name number layer.now)) result }
 {
     match frame_name(alloc, number, layer.as_str()) {
-        Ok(name) => PrepareFault::Refused {
+        Ok(name) => FarmFault::Refused {
             why: Refusal::Unknown { name },
         },
-        Err(_) => PrepareFault::NoMemory,
+        Err(_) => FarmFault::NoMemory,
     }
 }

@@ -6,17 +6,16 @@ ghost use Rattle.farm_types.specs.declared.states.FrameState.{FrameState};
 ghost use Rattle.farm_types.specs.DependActs.{or_else};
 ghost use Rattle.farm_types.specs.Names.{frame_name};
 ghost use Rattle.farm_types.specs.Operators.{may_eat, may_kill, may_retry, state_refusal, version_refusal};
-ghost use Rattle.farm_places.specs.Ends.{IsRefusal, Refuses};
+ghost use Rattle.farm_types.specs.Faults.{IsRefusal, Refuses};
 ghost use Rattle.farm_places.specs.Frames.{refusal_in};
 
-use crate::fault::PrepareFault;
 use command_text::frame_name;
 use farm_books::Books;
-use farm_types::{FramePlace, FrameState, LAST_VERSION, Refusal, Slot};
+use farm_types::{FarmFault, FramePlace, FrameState, LAST_VERSION, Refusal, Slot};
 use std::alloc::Global;
 
 /// Refuses to kill a frame that is done or dead.
-pub fn check_kill(books: &Books, slot: Slot) -> Result<(), PrepareFault>
+pub fn check_kill(books: &Books, slot: Slot) -> Result<(), FarmFault>
     ensures { Refuses (state_refusal may_kill (slice_get books.now.slots slot)) result }
 {
     let Some(state) = state_at(books, slot) else {
@@ -29,7 +28,7 @@ pub fn check_kill(books: &Books, slot: Slot) -> Result<(), PrepareFault>
 }
 
 /// Refuses to eat a frame that is done.
-pub fn check_eat(books: &Books, slot: Slot) -> Result<(), PrepareFault>
+pub fn check_eat(books: &Books, slot: Slot) -> Result<(), FarmFault>
     ensures { Refuses (state_refusal may_eat (slice_get books.now.slots slot)) result }
 {
     let Some(state) = state_at(books, slot) else {
@@ -47,7 +46,7 @@ pub fn check_retry(
     books: &Books,
     place: &FramePlace,
     slot: Slot,
-) -> Result<(), PrepareFault>
+) -> Result<(), FarmFault>
     ensures { Refuses (or_else (state_refusal may_retry (slice_get books.now.slots slot)) (version_refusal (frame_name place.now.frame place.now.layer) (slice_get books.now.slots slot))) result }
 {
     check_state_to_retry(books, slot)?;
@@ -55,7 +54,7 @@ pub fn check_retry(
 }
 
 // Refuses to retry a frame that waits.
-fn check_state_to_retry(books: &Books, slot: Slot) -> Result<(), PrepareFault>
+fn check_state_to_retry(books: &Books, slot: Slot) -> Result<(), FarmFault>
     ensures { Refuses (state_refusal may_retry (slice_get books.now.slots slot)) result }
 {
     let Some(state) = state_at(books, slot) else {
@@ -73,7 +72,7 @@ fn check_version(
     books: &Books,
     place: &FramePlace,
     slot: Slot,
-) -> Result<(), PrepareFault>
+) -> Result<(), FarmFault>
     ensures { Refuses (version_refusal (frame_name place.now.frame place.now.layer) (slice_get books.now.slots slot)) result }
 {
     let Some(row) = books.slot(slot) else {
@@ -86,22 +85,22 @@ fn check_version(
 }
 
 // That the frame has no version left.
-fn version_spent(alloc: Global, place: &FramePlace) -> PrepareFault
+fn version_spent(alloc: Global, place: &FramePlace) -> FarmFault
     ensures { IsRefusal (VersionSpent (frame_name place.now.frame place.now.layer)) result }
 {
     match frame_name(alloc, place.frame, place.layer.as_str()) {
-        Ok(frame) => PrepareFault::Refused {
+        Ok(frame) => FarmFault::Refused {
             why: Refusal::VersionSpent { frame },
         },
-        Err(_) => PrepareFault::NoMemory,
+        Err(_) => FarmFault::NoMemory,
     }
 }
 
 // That the frame's state doesn't allow what is asked.
-fn wrong_state(state: FrameState) -> PrepareFault
+fn wrong_state(state: FrameState) -> FarmFault
     ensures { IsRefusal (WrongState state) result }
 {
-    PrepareFault::Refused {
+    FarmFault::Refused {
         why: Refusal::WrongState { state },
     }
 }

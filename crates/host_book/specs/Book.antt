@@ -1,6 +1,9 @@
 -- What the book of hosts answers.
 use Rattle.std.specs.Prelude.{ℕ, ◌==◌, ◌+◌, List, length, Option, None, Some, nat_lt, slice_get, Result, Ok, Err, ⊤, if◌then◌else◌}
 use Rattle.farm_types.specs.declared.boot.BootLine.{BootLine}
+use Rattle.farm_types.specs.declared.fault.FarmFault.{FarmFault}
+use Rattle.farm_types.specs.declared.fault.FarmFault.TheVariants.{Refused}
+use Rattle.farm_types.specs.declared.refusal.Refusal.TheVariants as refusal
 use Rattle.farm_types.specs.declared.rows.HostRow.{HostRow}
 use Rattle.farm_types.specs.Farm.{host_from}
 use Rattle.farm_types.specs.Hosts.{is_same_life}
@@ -53,3 +56,8 @@ number_of hosts line = number_in hosts (host_from 0 line.host hosts)
 abbrev pub heard_check : ℕ → ℕ → Option HostRow → Result ⊤ HeardRefusal
 heard_check boot seq None = Ok tt
 heard_check boot seq (Some row) = if row.boot == boot then (if nat_lt row.seq seq then Ok tt else Err (Stale row.seq)) else Err (WrongBoot row.boot)
+
+-- the farm's refusal of a report that isn't taken
+abbrev pub of_heard : HeardRefusal → FarmFault
+of_heard (WrongBoot boot) = Refused (refusal.WrongBoot boot)
+of_heard (Stale last) = Refused (refusal.Stale last)

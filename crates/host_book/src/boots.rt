@@ -1,6 +1,6 @@
 //! What a boot or a report comes to.
 
-use farm_types::{AllocNo, MOST_HOSTS};
+use farm_types::{AllocNo, FarmFault, MOST_HOSTS, Refusal};
 use std::fmt;
 
 /// What a boot comes to: the boot number that it answers, and the host's allocation.
@@ -54,5 +54,20 @@ impl fmt::Display for HeardRefusal {
                 write!(f, "the host's last sequence number is {last}")
             }
         }
+    }
+}
+
+impl From<HeardRefusal> for FarmFault {
+    ghost use Rattle.std.specs.Prelude.{◌≡◌};
+    ghost use Rattle.host_book.specs.Book.{of_heard};
+
+    ghost from_gives = { λ refusal e. e ≡ of_heard refusal };
+
+    fn from(refusal: HeardRefusal) -> FarmFault {
+        let why = match refusal {
+            HeardRefusal::WrongBoot { boot } => Refusal::WrongBoot { boot },
+            HeardRefusal::Stale { last } => Refusal::Stale { last },
+        };
+        FarmFault::Refused { why }
     }
 }

@@ -14,11 +14,12 @@ use Rattle.farm_types.specs.Finish.{cut_finished, is_finished, is_first_finished
 use Rattle.farm_types.specs.Kept.{finish_of}
 use Rattle.farm_types.specs.Rising.{IsRising, job_key}
 use Rattle.farm_types.proofs.Lists.{and_both, list_all-at, list_all-from_at}
-use Rattle.job_book.specs.declared.ready_jobs.TheConstants.{JOB_NUMBERS}
+use Rattle.job_index.specs.declared.ready_jobs.TheConstants.{JOB_NUMBERS}
 use Rattle.job_book.specs.Finished.{KeepsFinished, finish_key, finished_of}
-use Rattle.job_book.specs.Ready.{drop_key, job_of, put_key, sorted}
+use Rattle.job_index.specs.Keys.{drop_key, job_of, put_key, sorted}
 use Rattle.job_book.proofs.LeftJobs.{find_numbered, finished_left, not_true}
-use Rattle.job_book.proofs.ReadyLists.{at_bounds, length-put, length-sorted, number_of_key, one_of, same_filter}
+use Rattle.job_book.proofs.ReadyLists.{at_bounds, one_of, same_filter}
+use Rattle.job_index.proofs.PutKeys.{length-put, length-sorted, number_of_key}
 
 abbrev keys_of : List JobRow → List ℕ
 keys_of js = sorted (map finish_key (filter is_finished js))

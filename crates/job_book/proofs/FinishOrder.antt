@@ -13,15 +13,16 @@ use Rattle.farm_types.specs.Finish.{cut_finished, finished_row, is_finished}
 use Rattle.farm_types.specs.Kept.{finish_of, has_its_finish, is_of_pending}
 use Rattle.farm_types.specs.Rising.{IsRising, job_key}
 use Rattle.farm_types.proofs.Lists.{and_both, list_all-at, list_all-from_at}
-use Rattle.job_book.specs.declared.ready_jobs.TheConstants.{JOB_NUMBERS}
+use Rattle.job_index.specs.declared.ready_jobs.TheConstants.{JOB_NUMBERS}
 use Rattle.job_book.specs.Book.{counts_of, without_job}
 use Rattle.job_book.specs.Entries.{finished_by}
 use Rattle.job_book.specs.Finished.{KeepsFinished, finish_key, finished_of, has_finish, leaver}
-use Rattle.job_book.specs.Ready.{job_of, put_key, sorted}
+use Rattle.job_index.specs.Keys.{job_of, put_key, sorted}
 use Rattle.job_book.proofs.CutJobs.{few_stay, goes, later_left}
 use Rattle.job_book.proofs.FinishedRows.{IsThere, count_done, ended, finished_finished, finishes_differ, is_there, rows_are, rows_rise}
 use Rattle.job_book.proofs.LeftJobs.{not_true}
-use Rattle.job_book.proofs.ReadyLists.{at_bounds, length-sorted, none-put, number_of_key}
+use Rattle.job_book.proofs.ReadyLists.{at_bounds}
+use Rattle.job_index.proofs.PutKeys.{length-sorted, none-put, number_of_key}
 
 -- a key above all goes to the end
 pub put_last : (key : ℕ) (ks : List ℕ) → list_any (ltb key) ks ≡ false → put_key key ks ≡ ks ++ key ∷ []

@@ -20,19 +20,21 @@ use Rattle.farm_types.specs.Rising.{IsRising, job_key}
 use Rattle.farm_types.proofs.ChangedLists.{map-map_kept}
 use Rattle.farm_types.proofs.Lists.{and_both, for_some_true, found_is}
 use Rattle.job_book.specs.declared.counts.Counts.{Counts}
-use Rattle.job_book.specs.declared.jobs.TheConstants.{MOST_JOBS}
-use Rattle.job_book.specs.declared.ready_jobs.TheConstants.{JOB_NUMBERS}
+use Rattle.job_index.specs.declared.limits.TheConstants.{MOST_JOBS}
+use Rattle.job_index.specs.declared.ready_jobs.TheConstants.{JOB_NUMBERS}
 use Rattle.job_book.specs.Book.{count_in, counts_of}
 use Rattle.job_book.specs.Counting.{new_counts}
 use Rattle.job_book.specs.Entries.{finished_by, with_ends}
 use Rattle.job_book.specs.Finished.{KeepsFinished, can_put, finish_key, has_finish}
 use Rattle.job_book.specs.Inside.{counts_for}
 use Rattle.job_book.specs.Names.{KeepsNames, is_named}
-use Rattle.job_book.specs.Ready.{KeepsReady, has_priority, is_ready_in, put_key, ready_key, sorted, waits}
+use Rattle.job_book.specs.Ready.{KeepsReady, has_priority, is_ready_in, ready_key, waits}
+use Rattle.job_index.specs.Keys.{put_key, sorted}
 use Rattle.job_book.proofs.FreedJob.{count_other, counts_here, counts_other, eaten_is, succeeded_is}
 use Rattle.job_book.proofs.JobPlaces.{recounted}
 use Rattle.job_book.proofs.LeftJobs.{absent, keys_of_finished, put_back, remains, same_left}
-use Rattle.job_book.proofs.ReadyLists.{at_bounds, length-sorted, one_of}
+use Rattle.job_book.proofs.ReadyLists.{at_bounds, one_of}
+use Rattle.job_index.proofs.PutKeys.{length-sorted}
 
 -- the pending job of that number
 pub record IsThere (jobs : List JobRow) (job : ℕ) : Type 0 where

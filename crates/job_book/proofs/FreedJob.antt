@@ -23,7 +23,8 @@ use Rattle.job_book.specs.Counting.{new_counts, part}
 use Rattle.job_book.specs.Freed.{freed_all, freed_at}
 use Rattle.job_book.specs.Index.{waits_in}
 use Rattle.job_book.specs.Inside.{is_below, taken_by}
-use Rattle.job_book.specs.Layers.{KeepsLayers, LayerPlaces, layer_position, place_in, slots_of}
+use Rattle.job_book.specs.Layers.{KeepsLayers, layer_position, place_in, slots_of}
+use Rattle.job_index.specs.Places.{LayerPlaces}
 use Rattle.job_book.proofs.InState.{part_is, same_counts}
 
 -- ---- states

@@ -12,7 +12,7 @@ use Rattle.farm_types.proofs.Lists.{and_both}
 use Rattle.job_book.specs.declared.counts.Counts.{Counts}
 use Rattle.job_book.specs.Counting.{new_counts}
 use Rattle.job_book.specs.Entries.{all_of, are_layers, beside, counts_held, entry_key, finished_by, index_held, is_whole, layers_held, on_number, row_of, with_finish}
-use Rattle.job_book.specs.Layers.{LayerPlaces}
+use Rattle.job_index.specs.Places.{LayerPlaces}
 use Rattle.job_book.specs.OneJob.{OneJob}
 use Rattle.job_book.proofs.Held.{stay_above}
 use Rattle.job_book.proofs.HeldKept.{Keeps, same_lists}

@@ -19,7 +19,8 @@ use Rattle.job_book.specs.declared.counts.Counts.{Counts}
 use Rattle.job_book.specs.declared.entries.Place.{Place}
 use Rattle.job_book.specs.Counting.{moved}
 use Rattle.job_book.specs.Entries.{KeepsEntries, all_of, are_layers, beside, counts_held, emptied, entry_key, has_number, index_held, is_held_at, is_whole, layers_held, on_number, place_key, row_of, with_held, with_mark, with_moved, with_paused}
-use Rattle.job_book.specs.Layers.{LayerPlaces, layer_position, marked}
+use Rattle.job_book.specs.Layers.{layer_position}
+use Rattle.job_index.specs.Places.{LayerPlaces, marked}
 use Rattle.job_book.specs.OneJob.{AllJobs, OneJob}
 use Rattle.job_book.proofs.Held.{rising_from, stay_above}
 use Rattle.job_book.proofs.HeldLists.{filter-map, index_marked}

@@ -14,7 +14,8 @@ use Rattle.farm_types.proofs.ChangedLists.{changed_at_suc}
 use Rattle.farm_types.proofs.Lists.{and_both}
 use Rattle.job_book.specs.declared.counts.Counts.{Counts}
 use Rattle.job_book.specs.Entries.{are_layers, counts_held, entry_key, has_number, index_held, index_in, is_whole, layers_held, layers_in, on_number, row_of, with_mark}
-use Rattle.job_book.specs.Layers.{LayerPlaces, layer_position, marked, place_in, slots_of}
+use Rattle.job_book.specs.Layers.{layer_position, place_in, slots_of}
+use Rattle.job_index.specs.Places.{LayerPlaces, marked}
 use Rattle.job_book.specs.OneJob.{OneJob}
 use Rattle.job_book.proofs.Held.{stay_above}
 use Rattle.job_book.proofs.NamedJobs.{position_or_len-map}

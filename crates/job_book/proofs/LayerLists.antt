@@ -5,7 +5,8 @@ use Rattle.std.specs.List.{concat}
 use Rattle.std.proofs.lemmas.List.{take_more_set, map_push, length-replicate}
 use Rattle.std.proofs.lemmas.List.Folds.{concat-append}
 use Rattle.farm_types.specs.declared.job.LayerSpec.{LayerSpec}
-use Rattle.job_book.specs.Layers.{LayerPlaces, count_of, slots_of, fresh_places}
+use Rattle.job_book.specs.Layers.{count_of, slots_of, fresh_places}
+use Rattle.job_index.specs.Places.{LayerPlaces}
 
 -- what is read of an item stays where the item at the place is set to one of which the same is read
 pub map-set_kept : {X Y : Type 0} (f : X → Y) (xs : List X) (i : ℕ) (x y : X) → x ≡ get_or xs i x → f y ≡ f x → map f (set xs i y) ≡ map f xs

@@ -17,15 +17,18 @@ use Rattle.farm_types.specs.Kept.{is_of_pending, is_pending_job}
 use Rattle.farm_types.specs.Rising.{IsRising, job_key}
 use Rattle.farm_types.proofs.Lists.{and_both}
 use Rattle.job_book.specs.declared.counts.Counts.{Counts}
-use Rattle.job_book.specs.declared.ready_jobs.TheConstants.{JOB_NUMBERS}
+use Rattle.job_index.specs.declared.ready_jobs.TheConstants.{JOB_NUMBERS}
 use Rattle.job_book.specs.Book.{counts_of}
 use Rattle.job_book.specs.Entries.{beside}
 use Rattle.job_book.specs.Finished.{KeepsFinished, finish_key, has_finish}
 use Rattle.job_book.specs.Inside.{IsBook, counts_for, frames_left, has_layers_if, has_slots}
-use Rattle.job_book.specs.Names.{KeepsNames, as_list, is_named, number_of}
-use Rattle.job_book.specs.Ready.{KeepsReady, drop_key, has_priority, is_ready_in, put_key, ready_key, sorted}
+use Rattle.job_book.specs.Names.{KeepsNames, as_list, is_named}
+use Rattle.job_index.specs.Names.{number_of}
+use Rattle.job_book.specs.Ready.{KeepsReady, has_priority, is_ready_in, ready_key}
+use Rattle.job_index.specs.Keys.{drop_key, put_key, sorted}
 use Rattle.job_book.proofs.Placed.{accepted_new, rising_within}
-use Rattle.job_book.proofs.ReadyLists.{at_bounds, commute, drop_put, keys_apart, none-put, one_of, same_filter}
+use Rattle.job_book.proofs.ReadyLists.{at_bounds, keys_apart, one_of, same_filter}
+use Rattle.job_index.proofs.PutKeys.{commute, drop_put, none-put}
 
 module _ (job : ℕ) where
   abbrev pub remains : JobRow → Bool

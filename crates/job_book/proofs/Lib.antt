@@ -2,7 +2,6 @@ pub mod FinishNumbers
 pub mod Held
 pub mod HeldLists
 pub mod HeldKept
-pub mod TextNumbers
 pub mod HeldFinish
 pub mod LeftJobs
 pub mod CutJobs
@@ -21,8 +20,6 @@ pub mod NamedJobs
 pub mod Names
 pub mod FirstWaiting
 pub mod FirstFree
-pub mod KeyLists
-pub mod NextJob
 pub mod Placed
 pub mod JobPlaces
 pub mod Putting

@@ -12,7 +12,8 @@ use Rattle.farm_types.specs.Booking.{is_pending}
 use Rattle.farm_types.specs.Jobs.{is_pending_named}
 use Rattle.farm_types.specs.Kept.{is_of_pending}
 use Rattle.farm_types.specs.Rising.{IsRising, job_key}
-use Rattle.job_book.specs.Names.{KeepsNames, as_list, is_named, number_of}
+use Rattle.job_book.specs.Names.{KeepsNames, as_list, is_named}
+use Rattle.job_index.specs.Names.{number_of}
 
 -- of what is read of the items
 pub position_or_len-map : {X Y : Type 0} (test : Y → Bool) (read : X → Y) (xs : List X) → position_or_len test (map read xs) ≡ position_or_len (λ x. test (read x)) xs

@@ -1,14 +1,14 @@
 -- The names of layers that stood before, the last one first.
-use Rattle.std.proofs.Common.{◌≡◌, ℕ, ◌+◌, ◌<◌, ◌||◌, Bool, true, false, cond, List, [], ◌∷◌, ◌++◌, length, take, drop, get_or, Option, Some, Err, option_map, refl, sym, ap, subst, ◌∙◌}
+use Rattle.std.proofs.Common.{◌≡◌, ℕ, ◌+◌, ◌<◌, ◌||◌, Bool, true, false, cond, List, [], ◌∷◌, ◌++◌, length, take, drop, get_or, Option, Some, Err, option_map, refl, sym, ap, ◌∙◌}
 use Rattle.std.specs.Prelude.{bytes_eq}
 use Rattle.std.specs.List.{list_any}
 use Rattle.std.proofs.lemmas.List.{take_more, drop_more}
 use Rattle.farm_types.specs.declared.job.LayerSpec.{LayerSpec}
 use Rattle.farm_types.specs.declared.refusal.Refusal.TheVariants.{Exists}
+use Rattle.farm_types.specs.Faults.{IsRefusal, Refuses}
 use Rattle.farm_types.specs.Jobs.{repeated_name}
-use Rattle.job_book.specs.declared.placing.JobFault.{JobFault}
-use Rattle.job_book.specs.declared.placing.JobFault.TheVariants.{Refused}
-use Rattle.job_book.specs.Refused.{Refuses}
+use Rattle.farm_types.specs.declared.fault.FarmFault.{FarmFault}
+use Rattle.farm_types.specs.declared.fault.FarmFault.TheVariants.{Refused, NoMemory}
 
 abbrev pub names_onto : List LayerSpec → List (List ℕ) → List (List ℕ)
 names_onto [] names = names
@@ -59,5 +59,6 @@ module _ (ls : List LayerSpec) (i : ℕ) (l : LayerSpec) (within : i < length ls
   repeated_later so_far has = sym (ap (λ b. cond b (Some l.name) (repeated_name (names_onto (take (i + 1) ls) []) (drop (i + 1) ls))) has) ∙ sym repeated_at ∙ so_far
 
 -- a fault that says that the name is there is the refusal by that name
-pub existing_refuses : (X : Type 0) (o : Option (List ℕ)) (name : List ℕ) (fault : JobFault) → o ≡ Some name → fault ≡ Refused (Exists name) → Refuses {X = X} (option_map Exists o) (Err fault)
-existing_refuses X o name fault is why = subst (λ f. Refuses {X = X} (option_map Exists o) (Err f)) (sym why) (ap (option_map Exists) is)
+pub existing_refuses : (X : Type 0) (o : Option (List ℕ)) (name : List ℕ) (fault : FarmFault) → o ≡ Some name → IsRefusal (Exists name) fault → Refuses {X = X} (option_map Exists o) (Err fault)
+existing_refuses X o name (Refused why) is same = ap (option_map Exists) is ∙ ap Some (sym same)
+existing_refuses X o name NoMemory is same = tt

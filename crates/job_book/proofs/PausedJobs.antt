@@ -17,7 +17,8 @@ use Rattle.job_book.specs.Names.{KeepsNames, is_named}
 use Rattle.farm_types.specs.Finish.{is_finished}
 use Rattle.std.specs.List.{sum_by}
 use Rattle.std.proofs.lemmas.List.Sums.{sum_by-cons}
-use Rattle.job_book.specs.Ready.{KeepsReady, has_priority, is_ready_in, ready_key, sorted}
+use Rattle.job_book.specs.Ready.{KeepsReady, has_priority, is_ready_in, ready_key}
+use Rattle.job_index.specs.Keys.{sorted}
 
 module _ (job : ℕ) (paused : Bool) where
   abbrev row : JobRow → JobRow

@@ -24,7 +24,7 @@ use Rattle.job_book.specs.Book.{is_in, count_in, counts_of, number_of, with_new_
 use Rattle.job_book.specs.Counting.{part, new_counts}
 use Rattle.job_book.specs.Entries.{are_layers}
 use Rattle.job_book.specs.Finished.{KeepsFinished, finish_key, has_finish}
-use Rattle.job_book.specs.Ready.{sorted}
+use Rattle.job_index.specs.Keys.{sorted}
 use Rattle.std.proofs.lemmas.List.Elements.{filter-append}
 use Rattle.farm_types.specs.Rising.{IsRising, job_key}
 use Rattle.job_book.specs.Inside.{IsBook, layer_key, is_below, counts_for, taken_by, has_slots, has_layers_if, frames_left}

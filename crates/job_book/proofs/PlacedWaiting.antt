@@ -16,7 +16,8 @@ use Rattle.farm_types.specs.Rising.{IsRising}
 use Rattle.farm_types.proofs.Lists.{and_both, list_all-at}
 use Rattle.job_book.specs.Index.{waits_in}
 use Rattle.job_book.specs.Inside.{is_below, layer_key}
-use Rattle.job_book.specs.Layers.{LayerPlaces, KeepsLayers, KeepsWaiting, count_of, fresh_places, marks_of, put_places, slots_of}
+use Rattle.job_book.specs.Layers.{KeepsLayers, KeepsWaiting, count_of, fresh_places, marks_of, put_places, slots_of}
+use Rattle.job_index.specs.Places.{LayerPlaces}
 use Rattle.job_book.proofs.LayerSlots.{from_slot, listed, map_same}
 use Rattle.job_book.proofs.Placed.{no_frame, all_placed, all_of}
 use Rattle.job_book.proofs.PlacedLayers.{placed_layers, slice_get-front, slice_get-back}

@@ -20,13 +20,14 @@ use Rattle.farm_types.proofs.Lists.{found_is, list_all-at}
 use Rattle.job_book.specs.declared.counts.Counts.{Counts}
 use Rattle.job_book.specs.Book.{count_in, counts_of, with_new_job}
 use Rattle.job_book.specs.Inside.{IsBook, counts_for}
-use Rattle.job_book.specs.Ready.{CanBeReady, CanChange, KeepsReady, changed_ready, has_priority, put_key, ready_key, waits}
+use Rattle.job_book.specs.Ready.{CanBeReady, CanChange, KeepsReady, changed_ready, has_priority, ready_key, waits}
+use Rattle.job_index.specs.Keys.{put_key}
 use Rattle.job_book.proofs.InState.{IsInState, counts_other, with_row}
 use Rattle.job_book.proofs.Placed.{count_placed, new_job_counts_none}
 use Rattle.job_book.proofs.PlacedLayers.{slice_get-back}
 use Rattle.job_book.proofs.ReadyLists.{can_be_ready, more_ready, ready_after, same_ready}
-use Rattle.job_book.specs.declared.jobs.TheConstants.{MOST_JOBS}
-use Rattle.job_book.specs.declared.ready_jobs.TheConstants.{JOB_NUMBERS}
+use Rattle.job_index.specs.declared.limits.TheConstants.{MOST_JOBS}
+use Rattle.job_index.specs.declared.ready_jobs.TheConstants.{JOB_NUMBERS}
 
 find_none_step : (b : Bool) (test : JobRow → Bool) (j : JobRow) (js : List JobRow) → test j ≡ b → find test (j ∷ js) ≡ None → (test j ≡ false) × (find test js ≡ None)
 find_none_step true test j js is none = absurd (none-some j (sym none ∙ rw is refl))

@@ -16,11 +16,13 @@ use Rattle.farm_types.specs.Rising.{IsRising, job_key}
 use Rattle.farm_types.proofs.Changed.{changed_at_each, length-changed_at}
 use Rattle.farm_types.proofs.Lists.{and_both}
 use Rattle.job_book.specs.Index.{by_priority, insert_job, ready_of}
-use Rattle.job_book.specs.Ready.{CanBeReady, CanPut, KeepsReady, change_of, drop_key, has_priority, is_ready_in, job_of, put_key, ready_key, ready_keys, sorted, waits}
+use Rattle.job_book.specs.Ready.{CanBeReady, KeepsReady, change_of, has_priority, is_ready_in, ready_key, ready_keys, waits}
+use Rattle.job_index.specs.Keys.{CanPut, drop_key, job_of, put_key, sorted}
+use Rattle.job_index.proofs.PutKeys.{commute, drop_put, length-sorted, none-put, number_of_key}
 use Rattle.job_book.proofs.Placed.{rising_within}
 use Rattle.farm_types.specs.declared.limits.TheConstants.{MOST_PRIORITY}
-use Rattle.job_book.specs.declared.jobs.TheConstants.{MOST_JOBS}
-use Rattle.job_book.specs.declared.ready_jobs.TheConstants.{JOB_NUMBERS}
+use Rattle.job_index.specs.declared.limits.TheConstants.{MOST_JOBS}
+use Rattle.job_index.specs.declared.ready_jobs.TheConstants.{JOB_NUMBERS}
 
 -- ---- the order of the keys is that of priorities and numbers
 
@@ -96,9 +98,6 @@ by_sorted p low (j ∷ js) high most rise all =
     let above = above_all j.job (j.job + 1) js high (omega arith) most rise.1 both.1 in
     by_sorted_step (p j) p j js refl both.0 (all-by_priority (is_above j.job) (filter p js) (all-filter (is_above j.job) p js above)) (by_sorted p (j.job + 1) js high most rise.1 both.1)
 
-pub number_of_key : (b a : ℕ) → a < JOB_NUMBERS → (b * JOB_NUMBERS + a) % JOB_NUMBERS ≡ a
-number_of_key b a less = omega arith
-
 abbrev is_numbered : JobRow → Bool
 is_numbered j = ltb j.job JOB_NUMBERS
 
@@ -120,66 +119,6 @@ ready_is b show most rise all =
     let test = is_ready_in b.slots show in
     ap (map job_of) (sym (by_sorted test 0 b.jobs b.next_job most rise all))
     ∙ numbers_are (by_priority (filter test b.jobs)) (all-by_priority is_numbered (filter test b.jobs) (all-filter is_numbered test b.jobs (numbered_all 0 b.jobs b.next_job most rise)))
-
--- ---- one key more or fewer
-
-commute_first : (b : Bool) (a c : ℕ) (ks : List ℕ) → ltb a c ≡ b → (a ≡ c → ⊥) → cond (ltb a c) (a ∷ c ∷ ks) (c ∷ a ∷ ks) ≡ cond (ltb c a) (c ∷ a ∷ ks) (a ∷ c ∷ ks)
-commute_first true a c ks is apart = let idle : ltb c a ≡ false = le-ltb c a (omega (arith, ltb-true a c is)) in rw (is, idle) refl
-commute_first false a c ks is apart = let busy : ltb c a ≡ true = lt-ltb c a (omega (arith, ltb-false a c is, apart)) in rw (is, busy) refl
-
-commute_step : (x y : Bool) (a c k : ℕ) (ks : List ℕ) → ltb a k ≡ x → ltb c k ≡ y → (a ≡ c → ⊥) → put_key a (put_key c ks) ≡ put_key c (put_key a ks) → put_key a (put_key c (k ∷ ks)) ≡ put_key c (put_key a (k ∷ ks))
-commute_step true true a c k ks xa yc apart later = rw (xa, yc) (rw xa (commute_first (ltb a c) a c (k ∷ ks) refl apart))
-commute_step true false a c k ks xa yc apart later =
-    let idle : ltb c a ≡ false = le-ltb c a (omega (arith, ltb-true a k xa, ltb-false c k yc)) in
-    rw (xa, yc) (rw (idle, xa) refl)
-commute_step false true a c k ks xa yc apart later =
-    let idle : ltb a c ≡ false = le-ltb a c (omega (arith, ltb-false a k xa, ltb-true c k yc)) in
-    rw (xa, yc) (rw (idle, xa) refl)
-commute_step false false a c k ks xa yc apart later = rw (xa, yc) (rw xa (ap (λ ns. k ∷ ns) later))
-
-pub commute : (a c : ℕ) (ks : List ℕ) → (a ≡ c → ⊥) → put_key a (put_key c ks) ≡ put_key c (put_key a ks)
-commute a c [] apart = commute_first (ltb a c) a c [] refl apart
-commute a c (k ∷ ks) apart = commute_step (ltb a k) (ltb c k) a c k ks refl refl apart (commute a c ks apart)
-
-drop_put_step : (b : Bool) (key k : ℕ) (ks : List ℕ) → ltb key k ≡ b → eqb k key ≡ false → drop_key key (put_key key ks) ≡ ks → drop_key key (put_key key (k ∷ ks)) ≡ k ∷ ks
-drop_put_step true key k ks is apart later = rw is (rw (eq-eqb key key refl) refl)
-drop_put_step false key k ks is apart later = rw is (rw apart (ap (λ ns. k ∷ ns) later))
-
-or_none : (a b : Bool) → (a || b) ≡ false → (a ≡ false) × (b ≡ false)
-or_none true b h = absurd (false≢true (sym h))
-or_none false b h = (refl, h)
-
-none_or : (a b : Bool) → a ≡ false → b ≡ false → (a || b) ≡ false
-none_or true b h k = absurd (false≢true (sym h))
-none_or false b h k = k
-
-pub drop_put : (key : ℕ) (ks : List ℕ) → list_any (λ (k : ℕ). eqb k key) ks ≡ false → drop_key key (put_key key ks) ≡ ks
-drop_put key [] none = rw (eq-eqb key key refl) refl
-drop_put key (k ∷ ks) none =
-    let split = or_none (eqb k key) (list_any (λ (n : ℕ). eqb n key) ks) none in
-    drop_put_step (ltb key k) key k ks refl split.0 (drop_put key ks split.1)
-
-none-put_step : (b : Bool) (test : ℕ → Bool) (key k : ℕ) (ks : List ℕ) → ltb key k ≡ b → test key ≡ false → test k ≡ false → list_any test ks ≡ false → list_any test (put_key key ks) ≡ false → list_any test (put_key key (k ∷ ks)) ≡ false
-none-put_step true test key k ks is here first rest later = rw is (none_or _ _ here (none_or _ _ first rest))
-none-put_step false test key k ks is here first rest later = rw is (none_or _ _ first later)
-
-pub none-put : (test : ℕ → Bool) (key : ℕ) (ks : List ℕ) → test key ≡ false → list_any test ks ≡ false → list_any test (put_key key ks) ≡ false
-none-put test key [] here rest = none_or _ _ here refl
-none-put test key (k ∷ ks) here rest =
-    let split = or_none (test k) (list_any test ks) rest in
-    none-put_step (ltb key k) test key k ks refl here split.0 split.1 (none-put test key ks here split.1)
-
-length-put_step : (b : Bool) (key k : ℕ) (ks : List ℕ) → ltb key k ≡ b → length (put_key key ks) ≡ suc (length ks) → length (put_key key (k ∷ ks)) ≡ suc (suc (length ks))
-length-put_step true key k ks is later = rw is refl
-length-put_step false key k ks is later = rw is (ap suc later)
-
-pub length-put : (key : ℕ) (ks : List ℕ) → length (put_key key ks) ≡ suc (length ks)
-length-put key [] = refl
-length-put key (k ∷ ks) = length-put_step (ltb key k) key k ks refl (length-put key ks)
-
-pub length-sorted : (ks : List ℕ) → length (sorted ks) ≡ length ks
-length-sorted [] = refl
-length-sorted (k ∷ ks) = length-put k (sorted ks) ∙ ap suc (length-sorted ks)
 
 fewer_step : (b : Bool) (p : JobRow → Bool) (j : JobRow) (js : List JobRow) → p j ≡ b → length (filter p js) ≤ length js → length (filter p (j ∷ js)) ≤ length (j ∷ js)
 fewer_step true p j js is later = rw is (omega (arith, later))

@@ -24,8 +24,9 @@ use Rattle.farm_law.proofs.KeptJobsRows.{frame_kept}
 use Rattle.job_book.specs.Finished.{has_finish}
 use Rattle.job_book.specs.Inside.{IsBook, frames_left, has_layers_if, has_slots, is_below, layer_key, taken_by}
 use Rattle.job_book.specs.Ready.{has_priority}
-use Rattle.job_book.specs.declared.jobs.TheConstants.{MOST_JOBS, PLACE_LIMIT}
-use Rattle.job_book.specs.declared.ready_jobs.TheConstants.{JOB_NUMBERS}
+use Rattle.job_book.specs.declared.jobs.TheConstants.{PLACE_LIMIT}
+use Rattle.job_index.specs.declared.limits.TheConstants.{MOST_JOBS}
+use Rattle.job_index.specs.declared.ready_jobs.TheConstants.{JOB_NUMBERS}
 use Rattle.job_book.proofs.Held.{rising_from}
 use Rattle.job_book.proofs.LeftJobs.{find_numbered}
 use Rattle.job_book.proofs.Placed.{rising_within, rows_few}

@@ -19,7 +19,7 @@ use Rattle.job_book.specs.declared.counts.Counts.{Counts}
 use Rattle.job_book.specs.declared.entries.Place.{Place}
 use Rattle.job_book.specs.declared.entries.TheConstants.{MOST_PLACES}
 use Rattle.job_book.specs.Entries.{KeepsEntries, all_of, are_layers, counts_held, held, index_held, is_held_at, is_whole, layers_held, place_key, row_of}
-use Rattle.job_book.specs.Layers.{LayerPlaces}
+use Rattle.job_index.specs.Places.{LayerPlaces}
 use Rattle.job_book.specs.OneJob.{AllJobs, OneJob}
 use Rattle.job_book.specs.Restored.{AreOwned, own_count, place_with}
 use Rattle.job_book.proofs.Held.{held_more}

@@ -21,8 +21,9 @@ use Rattle.farm_types.proofs.Lists.{and_both, for_some_true, found_is, list_all-
 use Rattle.farm_law.proofs.KeptJobsRows.{frame_kept}
 use Rattle.job_book.specs.Index.{waits_in}
 use Rattle.job_book.specs.Inside.{layer_key}
-use Rattle.job_book.specs.Layers.{KeepsLayers, KeepsWaiting, LayerPlaces, layer_position, place_in, slots_of}
-use Rattle.job_book.specs.Restored.{noted_frame, noted_from, range_length, unplaced, with_slot}
+use Rattle.job_book.specs.Layers.{KeepsLayers, KeepsWaiting, layer_position, place_in, slots_of}
+use Rattle.job_index.specs.Places.{LayerPlaces, with_slot}
+use Rattle.job_book.specs.Restored.{noted_frame, noted_from, range_length, unplaced}
 use Rattle.job_book.proofs.LayerSlots.{at_row, from_slot}
 use Rattle.job_book.proofs.RestoredBook.{place_within}
 

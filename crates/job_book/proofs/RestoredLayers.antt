@@ -1,15 +1,11 @@
 -- The place of a layer among layers in order.
-use Rattle.std.proofs.Common.{◌≡◌, ℕ, ◌+◌, ◌*◌, ◌<◌, ◌&&◌, Bool, true, false, not, cond, eqb, List, [], ◌∷◌, Result, Ok, refl, ap, ◌∙◌, arith}
+use Rattle.std.proofs.Common.{◌≡◌, ℕ, ◌+◌, ◌*◌, ◌<◌, ◌&&◌, Bool, true, false, not, cond, eqb, List, [], ◌∷◌, refl, ap, ◌∙◌, arith}
 use Rattle.std.specs.List.{list_all, position_or_len}
 use Rattle.std.proofs.lemmas.Bool.{eq-eqb, eqb-true, eqb-false, ne_eqb}
 use Rattle.farm_types.specs.declared.limits.TheConstants.{MOST_LAYERS}
 use Rattle.farm_types.specs.declared.rows.LayerRow.{LayerRow}
 use Rattle.farm_types.specs.Kept.{is_formed_layer}
-use Rattle.farm_types.specs.Ranges.{range_numbers, sections_in}
 use Rattle.farm_types.specs.Rising.{layer_key}
-use Rattle.frame_range.specs.declared.fault.RangeFault.{RangeFault}
-use Rattle.frame_range.specs.declared.section.Section.{Section}
-use Rattle.frame_range.specs.Sets.{numbers_of, set_of}
 use Rattle.farm_types.proofs.Lists.{and_both}
 use Rattle.job_book.specs.Layers.{layer_position}
 use Rattle.job_book.proofs.RestoredBook.{place_within}
@@ -30,8 +26,3 @@ position_is job place (l ∷ ls) within formed =
     let first = key_is job place l (place_within l both.0) within in
     ap (λ b. cond (not b) (1 + position_or_len (λ (k : LayerRow). eqb (layer_key k) (MOST_LAYERS * job + place)) ls) 0) first
     ∙ ap (λ (n : ℕ). cond (not (eqb l.job job && eqb l.place place)) (1 + n) 0) (position_is job place ls within both.1)
-
--- the numbers of a range that was read
-pub numbers_read : (text : List ℕ) (sections : List Section) → set_of text ≡ Ok sections → range_numbers text ≡ numbers_of sections
-unfolding range_numbers
-numbers_read text sections is = ap (λ (r : Result (List Section) RangeFault). numbers_of (sections_in r)) is

@@ -1,5 +1,5 @@
 -- What the calls of the job book answer and change.
-use Rattle.std.specs.Prelude.{◌≡◌, ◌<◌, ◌≤◌, All, IsSome, ℕ, ◌==◌, ◌&&◌, ◌+◌, Bool, not, is_some, List, [], ◌∷◌, ◌++◌, filter, option_map, option_and_then, sum_by, Option, None, Some, find, slice_get, nat_lt, bytes_eq, Result, Ok, Err, if◌then◌else◌}
+use Rattle.std.specs.Prelude.{◌≡◌, ℕ, ◌==◌, ◌&&◌, ◌+◌, Bool, not, is_some, List, [], ◌∷◌, ◌++◌, filter, option_map, option_and_then, sum_by, Option, None, Some, find, slice_get, nat_lt, bytes_eq, Result, Ok, Err, if◌then◌else◌}
 use Rattle.std.specs.List.{prefix_len}
 use Rattle.farm_types.specs.declared.job.JobSpec.{JobSpec}
 use Rattle.farm_types.specs.declared.rows.JobRow.{JobRow}
@@ -11,8 +11,8 @@ use Rattle.farm_types.specs.Farm.{for_some}
 use Rattle.farm_types.specs.Jobs.{JobLists, frames_in, frames_of, is_free, job_refusal, job_row, layer_rows, place_frames}
 use Rattle.job_book.specs.declared.counts.Counts.{Counts}
 use Rattle.job_book.specs.declared.frame_view.FrameView.{FrameView}
-use Rattle.job_book.specs.declared.placing.JobFault.{JobFault}
-use Rattle.job_book.specs.declared.placing.JobFault.TheVariants as fault
+use Rattle.farm_types.specs.declared.fault.FarmFault.{FarmFault}
+use Rattle.farm_types.specs.declared.fault.FarmFault.TheVariants as fault
 use Rattle.job_book.specs.declared.placing.Placing.{Placing}
 
 -- no jobs, no slot used, and 1 the next job's number
@@ -30,7 +30,7 @@ abbrev pub placing_of : JobLists → ℕ → JobSpec → Placing
 placing_of b show spec = record { job = b.next_job; show = show; first = first_free b.slots; frames = frames_in spec.layers }
 
 -- the place of a job that isn't refused, or exactly its refusal; out of memory needs no cause
-abbrev pub Checks : JobLists → ℕ → JobSpec → Result Placing JobFault → Type 0
+abbrev pub Checks : JobLists → ℕ → JobSpec → Result Placing FarmFault → Type 0
 Checks b show spec (Ok placing) = (job_refusal b spec ≡ None) × (placing ≡ placing_of b show spec)
 Checks b show spec (Err (fault.Refused why)) = job_refusal b spec ≡ Some why
 Checks b show spec (Err fault.NoMemory) = Unit {0}
@@ -82,12 +82,6 @@ job_named b name = option_map (λ (j : JobRow). j.job) (find (λ j. bytes_eq j.n
 -- the number of the first job with a number above that one: numbers rise, so it is the least
 abbrev pub job_after : JobLists → ℕ → Option ℕ
 job_after b after = option_map (λ (j : JobRow). j.job) (find (λ j. nat_lt after j.job) b.jobs)
-
--- a job has the number, it is above the other one, and no job's number lies between
-pub record IsLeastAbove (jobs : List JobRow) (after job : ℕ) : Type 0 where
-  pub there : IsSome (find (λ j. j.job == job) jobs)
-  pub above : after < job
-  pub least : All (λ j. after < j.job → job ≤ j.job) jobs
 
 abbrev pub frame_view : ℕ → Frame → FrameView
 frame_view version x =

@@ -13,7 +13,7 @@ use Rattle.job_book.specs.declared.entries.Place.{Place}
 use Rattle.job_book.specs.declared.entries.TheConstants.{MOST_PLACES}
 use Rattle.job_book.specs.Book.{with_pause}
 use Rattle.job_book.specs.Counting.{moved, new_counts}
-use Rattle.job_book.specs.Layers.{LayerPlaces, marked}
+use Rattle.job_index.specs.Places.{LayerPlaces, marked}
 use Rattle.job_book.specs.OneJob.{AllJobs, OneJob}
 
 -- ---- all jobs

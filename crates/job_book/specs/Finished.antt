@@ -7,9 +7,9 @@ use Rattle.farm_types.specs.Finish.{finished_row, freed_row, is_finished}
 use Rattle.farm_types.specs.Jobs.{JobLists}
 use Rattle.farm_types.specs.Kept.{finish_of, has_its_finish, is_pending_job}
 use Rattle.farm_types.specs.declared.limits.TheConstants.{MOST_FINISHED}
-use Rattle.job_book.specs.Ready.{job_of, sorted}
-use Rattle.job_book.specs.declared.jobs.TheConstants.{MOST_JOBS}
-use Rattle.job_book.specs.declared.ready_jobs.TheConstants.{JOB_NUMBERS}
+use Rattle.job_index.specs.Keys.{job_of, sorted}
+use Rattle.job_index.specs.declared.limits.TheConstants.{MOST_JOBS}
+use Rattle.job_index.specs.declared.ready_jobs.TheConstants.{JOB_NUMBERS}
 
 -- keys rise by the number of the finish, and then by the job's
 abbrev pub finish_key : JobRow → ℕ

@@ -8,13 +8,8 @@ use Rattle.farm_types.specs.declared.slot_row.Frame.{Frame}
 use Rattle.farm_types.specs.declared.slot_row.SlotRow.{SlotRow}
 use Rattle.farm_types.specs.Jobs.{is_free}
 use Rattle.farm_types.specs.Farm.{is_placed, slot_from}
+use Rattle.job_index.specs.Places.{LayerPlaces}
 use Rattle.job_book.specs.Index.{waits_in}
-use Rattle.place_set.specs.Places.{first_from}
-
--- a layer's slots in range order, and for each of them whether its frame waits
-pub record LayerPlaces : Type 0 where
-  pub slots : List ℕ
-  pub waiting : List Bool
 
 abbrev pub slots_of : LayerPlaces → List ℕ
 slots_of x = x.slots
@@ -36,14 +31,6 @@ pub record Spare : Type 0 where
 
 abbrev pub spare_of : JobSpec → Spare
 spare_of spec = record { name = spec.name; layers = map fresh_places spec.layers }
-
--- with the mark at a position set
-abbrev pub marked : ℕ → Bool → LayerPlaces → LayerPlaces
-marked position waits x = record x { waiting = slice_set x.waiting position waits }
-
--- the slot of the first marked position at one or after it
-abbrev pub first_marked : ℕ → LayerPlaces → Option ℕ
-first_marked from x = option_and_then (slice_get x.slots) (first_from x.waiting from)
 
 -- ---- layers
 

@@ -11,5 +11,4 @@ pub mod Names
 pub mod OneJob
 pub mod Puts
 pub mod Ready
-pub mod Refused
 pub mod Restored

@@ -1,12 +1,8 @@
 -- The names of the jobs, by which a job is found without a walk.
 use Rattle.std.specs.Prelude.{ℕ, ◌≡◌, ◌≤◌, Bool, List, [], ◌∷◌, map, filter, length, bytes_eq, Option, None, Some, if◌then◌else◌}
 use Rattle.farm_types.specs.declared.rows.JobRow.{JobRow}
+use Rattle.job_index.specs.Names.{number_of}
 use Rattle.farm_types.specs.Rising.{job_key}
-
--- the number of the first name that is equal
-abbrev pub number_of : List ℕ → List (List ℕ × ℕ) → Option ℕ
-number_of name [] = None
-number_of name (p ∷ ps) = if bytes_eq name p.0 then Some p.1 else number_of name ps
 
 abbrev pub as_list : Option ℕ → List ℕ
 as_list None = []

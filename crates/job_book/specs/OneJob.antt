@@ -3,7 +3,7 @@ use Rattle.std.specs.Prelude.{ℕ, List}
 use Rattle.farm_types.specs.declared.rows.JobRow.{JobRow}
 use Rattle.farm_types.specs.declared.rows.LayerRow.{LayerRow}
 use Rattle.job_book.specs.declared.counts.Counts.{Counts}
-use Rattle.job_book.specs.Layers.{LayerPlaces}
+use Rattle.job_index.specs.Places.{LayerPlaces}
 
 -- a job's row, how many of its frames are in which state, its layers, and where the frames of each stand
 pub record OneJob : Type 0 where

@@ -9,8 +9,9 @@ use Rattle.farm_types.specs.Farm.{changed_at}
 use Rattle.farm_types.specs.Rising.{IsRising}
 use Rattle.farm_types.specs.declared.limits.TheConstants.{MOST_PRIORITY, MOST_SHOWS}
 use Rattle.job_book.specs.Book.{count_in}
-use Rattle.job_book.specs.declared.jobs.TheConstants.{MOST_JOBS}
-use Rattle.job_book.specs.declared.ready_jobs.TheConstants.{JOB_NUMBERS}
+use Rattle.job_index.specs.declared.limits.TheConstants.{MOST_JOBS}
+use Rattle.job_index.specs.Keys.{CanPut, drop_key, job_of, put_key, sorted}
+use Rattle.job_index.specs.declared.ready_jobs.TheConstants.{JOB_NUMBERS}
 
 -- ---- keys
 
@@ -18,31 +19,10 @@ use Rattle.job_book.specs.declared.ready_jobs.TheConstants.{JOB_NUMBERS}
 abbrev pub ready_key : JobRow → ℕ
 ready_key j = (MOST_PRIORITY - j.priority) * JOB_NUMBERS + j.job
 
--- the job's number
-abbrev pub job_of : ℕ → ℕ
-job_of key = key % JOB_NUMBERS
-
 -- the numbers of a list, where it is there
 abbrev pub jobs_in : Option (List ℕ) → List ℕ
 jobs_in None = []
 jobs_in (Some keys) = map job_of keys
-
-abbrev pub itself : ℕ → ℕ
-itself key = key
-
--- before the first greater key
-abbrev pub put_key : ℕ → List ℕ → List ℕ
-put_key key [] = key ∷ []
-put_key key (k ∷ ks) = if nat_lt key k then key ∷ k ∷ ks else k ∷ put_key key ks
-
--- without the first key that is equal
-abbrev pub drop_key : ℕ → List ℕ → List ℕ
-drop_key key [] = []
-drop_key key (k ∷ ks) = if k == key then ks else k ∷ drop_key key ks
-
-abbrev pub sorted : List ℕ → List ℕ
-sorted [] = []
-sorted (k ∷ ks) = put_key k (sorted ks)
 
 -- ---- ready jobs
 
@@ -66,19 +46,7 @@ pub record KeepsReady (jobs : List JobRow) (slots : List SlotRow) (ready : List 
   pub as_many : length ready ≡ MOST_SHOWS
   pub keys : (show : ℕ) (ks : List ℕ) → slice_get ready show ≡ Some ks → ks ≡ ready_keys jobs slots show
 
--- the keys of one list rise, its jobs are theirs, and there is capacity for all jobs
-pub record KeepsOrder (keys jobs : List ℕ) (keys_fit jobs_fit : ℕ) : Type 0 where
-  pub rising : IsRising itself 0 keys 18446744073709551616
-  pub jobs_are : jobs ≡ map job_of keys
-  pub keys_capacity : MOST_JOBS ≤ keys_fit
-  pub jobs_capacity : MOST_JOBS ≤ jobs_fit
-
 -- ---- changes
-
--- the key isn't there, and one more fits
-pub record CanPut (key : ℕ) (keys : List ℕ) : Type 0 where
-  pub new : list_any (λ (k : ℕ). k == key) keys ≡ false
-  pub few : length keys < MOST_JOBS
 
 -- a job can become ready, where it didn't stand among the ready ones
 abbrev pub CanBeReady : JobRow → List (List ℕ) → Type 0

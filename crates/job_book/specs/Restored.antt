@@ -15,7 +15,8 @@ use Rattle.job_book.specs.declared.counts.Counts.{Counts}
 use Rattle.job_book.specs.declared.entries.Place.{Place}
 use Rattle.job_book.specs.Counting.{part, counted_in}
 use Rattle.job_book.specs.Entries.{are_layers}
-use Rattle.job_book.specs.Layers.{LayerPlaces, layer_position}
+use Rattle.job_book.specs.Layers.{layer_position}
+use Rattle.job_index.specs.Places.{LayerPlaces, with_slot}
 use Rattle.job_book.specs.Ready.{ready_key}
 
 -- the lists that these rows make
@@ -43,10 +44,6 @@ range_length l = length (range_numbers l.range)
 abbrev pub unplaced : LayerRow → LayerPlaces
 unplaced l = record { slots = replicate (range_length l) 0; waiting = replicate (range_length l) true }
 
--- with the slot of the frame at a position, and whether that frame waits
-abbrev pub with_slot : ℕ → ℕ → Bool → LayerPlaces → LayerPlaces
-with_slot position slot waits x = record { slots = slice_set x.slots position slot; waiting = slice_set x.waiting position waits }
-
 -- the slot's frame is noted at its layer
 abbrev pub noted_frame : ℕ → List LayerRow → Option Frame → List LayerPlaces → List LayerPlaces
 noted_frame slot layers None index = index
@@ -73,11 +70,6 @@ abbrev pub place_with : JobRow → Counts → List LayerRow → List LayerPlaces
 place_with row counts layers index = record { job = row.job; held = Some (record { row = row; counts = counts; layers = layers; index = index }) }
 
 -- ---- keys
-
--- each key is a word, and none stands twice
-abbrev pub AreKeys : List ℕ → Type 0
-AreKeys [] = Unit {0}
-AreKeys (k ∷ ks) = (k < 18446744073709551616) × (list_any (λ (n : ℕ). n == k) ks ≡ false) × AreKeys ks
 
 -- a job of the show that is pending, with its counts, of which a frame waits
 abbrev pub is_ready_by : ℕ → JobRow → Counts → Bool

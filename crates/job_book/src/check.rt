@@ -1,26 +1,27 @@
 //! Whether a job can be placed.
 
-ghost use Rattle.std.specs.Prelude.{◌≡◌, option_map, bytes_eq, if◌then◌else◌, IfOk, Some, None, []};
+ghost use Rattle.std.specs.Prelude.{◌≡◌, option_map, bytes_eq, if◌then◌else◌, Some, None, []};
 ghost use Rattle.std.specs.List.{list_any};
+ghost use Rattle.farm_types.specs.Faults.{Refuses};
 ghost use Rattle.farm_types.specs.Jobs.{frames_in, is_pending_named, repeated_name, room_refusal};
 ghost use Rattle.farm_types.specs.Kept.{is_of_pending};
 ghost use Rattle.farm_types.specs.SpecLimits.{JobKeepsLimits};
 ghost use Rattle.farm_types.specs.declared.refusal.Refusal.TheVariants as refusal;
 ghost use Rattle.job_book.specs.Book.{Checks, first_free};
-ghost use Rattle.job_book.specs.Refused.{Refuses};
-ghost use Rattle.job_book.specs.declared.placing.JobFault.TheVariants as fault;
 
 use crate::entries::Entries;
 use crate::jobs::Jobs;
-use crate::placing::{JobFault, Placing};
+use crate::placing::Placing;
 use crate::put::next_free;
-use farm_types::{Counted, JobNo, JobSpec, LAST_JOB, LayerSpec, Refusal, ShowNo, Slot, Text};
-use std::alloc::{AllocError, Global};
+use farm_types::{
+    Counted, FarmFault, JobNo, JobSpec, LAST_JOB, LayerSpec, Refusal, ShowNo, Slot, Text,
+};
+use std::alloc::Global;
 
 impl Jobs {
     /// Where a job of that show would be placed, or its first refusal: a pending job of its name, a layer's name that
     /// stands twice, fewer free slots than it has frames, no number left for a job. It changes nothing.
-    pub fn check(&self, alloc: Global, spec: &JobSpec, show: ShowNo) -> Result<Placing, JobFault>
+    pub fn check(&self, alloc: Global, spec: &JobSpec, show: ShowNo) -> Result<Placing, FarmFault>
         requires { JobKeepsLimits spec.now }
         ensures { Checks self.now show spec.now result }
     {
@@ -44,11 +45,11 @@ impl Jobs {
     }
 
     // Refuses the name of a pending job.
-    fn check_name(&self, alloc: Global, name: &Text) -> Result<(), JobFault>
+    fn check_name(&self, alloc: Global, name: &Text) -> Result<(), FarmFault>
         ensures { Refuses (if list_any (is_pending_named name.now) self.now.jobs then Some (refusal.Exists name.now) else None) result }
     {
         if self.is_pending_named(name) {
-            return Err(existing(alloc, name)?);
+            return Err(FarmFault::existing(alloc, name));
         }
         Ok(())
     }
@@ -64,22 +65,17 @@ impl Jobs {
     }
 
     // Refuses a job that has more frames than there are free slots, and one for which no number is left.
-    fn check_left(&self, spec: &JobSpec, frames: u32) -> Result<(), JobFault>
+    fn check_left(&self, spec: &JobSpec, frames: u32) -> Result<(), FarmFault>
         requires { frames ≡ frames_in spec.now.layers }
         ensures { Refuses (room_refusal self.now spec.now) result }
     {
         if self.free < frames {
-            return Err(JobFault::Refused {
+            return Err(FarmFault::Refused {
                 why: Refusal::FarmFull { free: self.free },
             });
         }
         if self.entries.next() > u64::from(LAST_JOB) {
-            return Err(JobFault::Refused {
-                why: Refusal::Full {
-                    limit: u64::from(LAST_JOB),
-                    what: Counted::Jobs,
-                },
-            });
+            return Err(FarmFault::full(u64::from(LAST_JOB), Counted::Jobs));
         }
         Ok(())
     }
@@ -96,12 +92,12 @@ pub(crate) fn is_pending_in(entries: &Entries, job: JobNo) -> bool
 }
 
 // Refuses layers of which two have one name.
-fn check_layers(alloc: Global, layers: &[LayerSpec]) -> Result<(), JobFault>
+fn check_layers(alloc: Global, layers: &[LayerSpec]) -> Result<(), FarmFault>
     ensures { Refuses (option_map refusal.Exists (repeated_name [] layers.now)) result }
 {
     for (place, layer) in layers.iter().enumerate() {
         if has_name(&layers[..place], &layer.name) {
-            return Err(existing(alloc, &layer.name)?);
+            return Err(FarmFault::existing(alloc, &layer.name));
         }
     }
     Ok(())
@@ -112,14 +108,4 @@ fn has_name(layers: &[LayerSpec], name: &Text) -> bool
     ensures { result ≡ list_any (λ layer. bytes_eq name.now layer.name) layers.now }
 {
     layers.iter().any(|layer| name.is(layer.name.as_str()))
-}
-
-// That something of that name is there.
-fn existing(alloc: Global, name: &Text) -> Result<JobFault, AllocError>
-    ensures { IfOk result (λ why. why ≡ fault.Refused (refusal.Exists name.now)) }
-{
-    let name = name.copy(alloc)?;
-    Ok(JobFault::Refused {
-        why: Refusal::Exists { name },
-    })
 }

@@ -6,9 +6,9 @@ ghost use Rattle.std.specs.Vec.{vec_capacity};
 use crate::entries::{Entries, MOST_PLACES, Place};
 use crate::entry::Entry;
 use crate::jobs::Jobs;
-use crate::layer_frames::LayerFrames;
 use crate::ready::copy_ready;
 use farm_types::{LayerRow, SLOT_LIMIT};
+use job_index::{LayerFrames, plain_copies};
 use std::alloc::{AllocError, Global};
 
 impl Jobs {
@@ -93,19 +93,5 @@ pub(crate) fn copies<R: Row>(alloc: Global, rows: &[R], capacity: u32) -> Result
     for row in rows {
         copies.push(row.copy(alloc)?)?;
     }
-    Ok(copies)
-}
-
-/// Equal values that own no memory, with a capacity.
-pub(crate) fn plain_copies<T: Copy>(
-    alloc: Global,
-    values: &[T],
-    capacity: u32,
-) -> Result<Vec<T>, AllocError>
-    ensures items { IfOk result (λ copies. copies.items ≡ values.now) }
-    ensures capacity { IfOk result (λ copies. capacity ≤ vec_capacity copies) }
-{
-    let mut copies = Vec::with_capacity(alloc, capacity as usize)?;
-    copies.extend_from_slice(values)?;
     Ok(copies)
 }

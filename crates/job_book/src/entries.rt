@@ -5,14 +5,13 @@ ghost use Rattle.std.specs.List.{position_or_len};
 ghost use Rattle.farm_types.specs.Farm.{layers_of};
 ghost use Rattle.job_book.specs.Entries.{no_entries};
 ghost use Rattle.job_book.specs.Layers.{layer_position};
-ghost use Rattle.job_book.specs.declared.jobs.TheConstants.{MOST_JOBS};
+ghost use Rattle.job_index.specs.declared.limits.TheConstants.{MOST_JOBS};
 
 use crate::counts::Counts;
 use crate::entry::Entry;
-use crate::jobs::MOST_JOBS;
-use crate::layer_frames::LayerFrames;
 use crate::places::{entry_in, number_after};
 use farm_types::{JobNo, JobRow, LayerRow};
+use job_index::{LayerFrames, MOST_JOBS};
 use std::alloc::{AllocError, Global};
 use std::marker::Model;
 

@@ -6,10 +6,10 @@ ghost use Rattle.job_book.specs.Entries.{with_finish, with_mark, with_moved, wit
 
 use crate::counting::moved;
 use crate::counts::Counts;
-use crate::layer_frames::LayerFrames;
 use crate::layer_index::mark_in;
 use crate::place::all_waiting;
 use farm_types::{FrameState, JobRow, JobState, LayerRow};
+use job_index::LayerFrames;
 use std::marker::Model;
 
 /// A job's row, how many of its frames are in each state, its layers, and where the frames of each layer stand.

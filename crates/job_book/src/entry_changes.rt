@@ -10,8 +10,9 @@ ghost use Rattle.std.specs.Vec.{vec_capacity};
 ghost use Rattle.job_book.specs.declared.entries.TheConstants.{MOST_PLACES};
 ghost use Rattle.job_book.specs.Counting.{CanMove, moved, new_counts};
 ghost use Rattle.job_book.specs.Entries.{are_layers, beside, finished_by, held, is_held_at, place_key};
-ghost use Rattle.job_book.specs.Layers.{layer_position, marked};
-ghost use Rattle.job_book.specs.declared.jobs.TheConstants.{MOST_JOBS};
+ghost use Rattle.job_book.specs.Layers.{layer_position};
+ghost use Rattle.job_index.specs.Places.{marked};
+ghost use Rattle.job_index.specs.declared.limits.TheConstants.{MOST_JOBS};
 
 use crate::counts::Counts;
 use crate::entries::{Entries, MOST_PLACES, Place};

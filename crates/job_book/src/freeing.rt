@@ -11,9 +11,9 @@ ghost use Rattle.job_book.specs.Inside.{KeepsFree};
 ghost use Rattle.job_book.specs.Layers.{slots_of};
 
 use crate::change::set_row;
-use crate::layer_frames::LayerFrames;
 use crate::put::{is_free, row_at};
 use farm_types::{JobNo, Slot, SlotRow};
+use job_index::LayerFrames;
 
 /// How many slots are free, and a slot below which none is.
 #[derive(Clone, Copy, Debug, PartialEq, Eq)]

@@ -4,15 +4,11 @@ ghost use Rattle.std.specs.Prelude.{◌≡◌, IfOk};
 ghost use Rattle.job_book.specs.Book.{no_jobs};
 
 use crate::entries::Entries;
-use crate::job_names::JobNames;
 use crate::ready::no_ready;
-use crate::ready_jobs::ReadyJobs;
-use farm_types::{MOST_FINISHED, SLOT_LIMIT, SlotRow};
+use farm_types::{SLOT_LIMIT, SlotRow};
+use job_index::{JobNames, ReadyJobs};
 use std::alloc::{AllocError, Global};
 use std::marker::Model;
-
-/// How many jobs the book has memory for: one for each slot, the finished ones that are kept, and two more.
-pub(crate) const MOST_JOBS: u32 = SLOT_LIMIT + MOST_FINISHED + 2;
 
 /// A layer's place in its job is below this, so that a job's number and a place make one key.
 pub(crate) const PLACE_LIMIT: u64 = 4_294_967_296;

@@ -3,10 +3,11 @@
 ghost use Rattle.std.specs.Prelude.{◌≡◌, ℕ, map, slice_get, option_and_then, IfOk};
 ghost use Rattle.std.specs.Vec.{vec_capacity};
 ghost use Rattle.farm_types.specs.Farm.{changed_at};
-ghost use Rattle.job_book.specs.Layers.{first_marked, fresh_places, marked, place_in, slots_of};
+ghost use Rattle.job_book.specs.Layers.{fresh_places, place_in, slots_of};
+ghost use Rattle.job_index.specs.Places.{first_marked, marked};
 
-use crate::layer_frames::LayerFrames;
 use farm_types::{LayerSpec, Slot};
+use job_index::LayerFrames;
 use std::alloc::{AllocError, Global};
 
 /// The slot at a position of the layer at that place.

@@ -5,14 +5,14 @@ ghost use Rattle.farm_types.specs.Farm.{for_some};
 ghost use Rattle.farm_types.specs.Finish.{is_finished};
 ghost use Rattle.farm_types.specs.Jobs.{without_finished};
 ghost use Rattle.job_book.specs.Finished.{can_put, finish_key, has_finish};
-ghost use Rattle.job_book.specs.Ready.{put_key};
-ghost use Rattle.job_book.specs.declared.ready_jobs.TheConstants.{JOB_NUMBERS};
+ghost use Rattle.job_index.specs.Keys.{put_key};
+ghost use Rattle.job_index.specs.declared.ready_jobs.TheConstants.{JOB_NUMBERS};
 
 use crate::check::is_pending_in;
 use crate::entries::Entries;
 use crate::jobs::Jobs;
-use crate::ready_jobs::{JOB_NUMBERS, ReadyJobs};
 use farm_types::{JobNo, JobRow, Text};
+use job_index::{JOB_NUMBERS, ReadyJobs};
 
 impl Jobs {
     /// A finished job of that name leaves, where there is one.

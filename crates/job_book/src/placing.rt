@@ -1,9 +1,7 @@
 //! Where a job is to be placed, and the memory for it.
 
-use crate::layer_frames::LayerFrames;
-use farm_types::{JobNo, LayerRow, Refusal, ShowNo, Slot};
-use std::alloc::AllocError;
-use std::fmt;
+use farm_types::{JobNo, LayerRow, ShowNo, Slot};
+use job_index::LayerFrames;
 use std::marker::Model;
 
 /// Where a job is to be placed: its number and its show's, its lowest slot, and how many frames it has. They take the
@@ -35,33 +33,4 @@ impl Model for JobSpare {
     ghost view = { λ a. record { name = string_bytes a.name; layers = a.index.items } };
 
     ghost invariant = { λ a. (a.rows.items ≡ []) × (length a.index.items ≤ vec_capacity a.rows) };
-}
-
-/// Why a job can't be placed.
-#[derive(Debug, Drop)]
-pub enum JobFault {
-    /// The book refuses it: its name or a layer's is taken, its frames have no slots, or there is no number for it.
-    Refused { why: Refusal },
-    /// Memory ran out.
-    NoMemory,
-}
-
-impl fmt::Display for JobFault {
-    fn fmt<W: fmt::Write>(&self, f: &mut fmt::Formatter<W>) -> fmt::Result {
-        match self {
-            JobFault::Refused { why } => write!(f, "the job is refused: {why:?}"),
-            JobFault::NoMemory => write!(f, "out of memory"),
-        }
-    }
-}
-
-impl From<AllocError> for JobFault {
-    ghost use Rattle.std.specs.Prelude.{◌≡◌};
-    ghost use Rattle.job_book.specs.declared.placing.JobFault.TheVariants.{NoMemory};
-
-    ghost from_gives = { λ _ e. e ≡ NoMemory };
-
-    fn from(_: AllocError) -> JobFault {
-        JobFault::NoMemory
-    }
 }

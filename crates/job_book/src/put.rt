@@ -9,8 +9,8 @@ ghost use Rattle.job_book.specs.Layers.{count_of, fresh_places, marks_of, put_pl
 ghost use Rattle.job_book.specs.Puts.{HasFree, Puts, free_from};
 ghost use Rattle.farm_types.specs.declared.limits.TheConstants.{MOST_FRAMES, MOST_LAYERS, SLOT_LIMIT};
 
-use crate::layer_frames::LayerFrames;
 use farm_types::{Frame, FrameState, JobNo, LAST_VERSION, LayerSpec, Slot, SlotRow, Version};
+use job_index::LayerFrames;
 
 /// Puts the frames of a job's layers into the lowest free slots, the first of which is said, and says a place below which
 /// no slot is free. It takes no memory.

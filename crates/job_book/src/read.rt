@@ -2,8 +2,9 @@
 
 ghost use Rattle.std.specs.Prelude.{◌≡◌, ◌==◌, ◌&&◌, ◌≤◌, ◌<◌, length, slice_get, find, option_copied, true, All, IfNone, IfSome, Some};
 ghost use Rattle.farm_types.specs.Farm.{is_placed, slot_from};
+ghost use Rattle.farm_types.specs.Rising.{IsNextKey, job_key};
 ghost use Rattle.farm_types.specs.declared.limits.TheConstants.{MOST_SHOWS, SLOT_LIMIT};
-ghost use Rattle.job_book.specs.Book.{job_named, job_after, IsLeastAbove, frame_at, frame_view, state_at, has_frame, has_job, counts_of};
+ghost use Rattle.job_book.specs.Book.{job_named, job_after, frame_at, frame_view, state_at, has_frame, has_job, counts_of};
 ghost use Rattle.job_book.specs.Finished.{finished_of};
 ghost use Rattle.job_book.specs.Index.{WaitsFirst, ready_of};
 
@@ -40,7 +41,7 @@ impl Jobs {
     /// The number of the job with the least number above `after`.
     pub fn next(&self, after: u32) -> Option<JobNo>
         ensures value { result ≡ job_after self.now after }
-        ensures least { IfSome result (IsLeastAbove self.now.jobs after) }
+        ensures least { IfSome result (IsNextKey job_key self.now.jobs after) }
         ensures none { IfNone result (All (λ j. j.job ≤ after) self.now.jobs) }
     {
         self.entries.after(after)

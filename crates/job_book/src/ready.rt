@@ -4,12 +4,13 @@ ghost use Rattle.std.specs.Prelude.{ℕ, List, ◌≡◌, ◌==◌, find, ◌≤
 ghost use Rattle.farm_types.specs.Farm.{changed_at, for_some};
 ghost use Rattle.farm_types.specs.declared.limits.TheConstants.{MOST_PRIORITY, MOST_SHOWS};
 ghost use Rattle.std.specs.List.{position_or_len};
-ghost use Rattle.job_book.specs.declared.ready_jobs.TheConstants.{JOB_NUMBERS};
-ghost use Rattle.job_book.specs.Ready.{CanBeReady, CanChange, changed_ready, drop_key, has_priority, jobs_in, put_key, ready_key};
+ghost use Rattle.job_index.specs.declared.ready_jobs.TheConstants.{JOB_NUMBERS};
+ghost use Rattle.job_book.specs.Ready.{CanBeReady, CanChange, changed_ready, has_priority, jobs_in, ready_key};
+ghost use Rattle.job_index.specs.Keys.{drop_key, put_key};
 
 use crate::entries::Entries;
-use crate::ready_jobs::{JOB_NUMBERS, ReadyJobs};
 use farm_types::{JobNo, JobRow, MOST_PRIORITY, MOST_SHOWS};
+use job_index::{JOB_NUMBERS, ReadyJobs};
 use std::alloc::{AllocError, Global};
 
 /// A list for each show, in which there is no job.

@@ -7,9 +7,9 @@ ghost use Rattle.job_book.specs.Restored.{AreOwned, own_count, place_with};
 use crate::counts::Counts;
 use crate::entries::{Entries, MOST_PLACES, Place};
 use crate::entry::Entry;
-use crate::layer_frames::LayerFrames;
 use crate::restored_counts::counts_at;
 use farm_types::{JobNo, JobRow, LayerRow};
+use job_index::LayerFrames;
 use std::alloc::{AllocError, Global};
 use std::collections::VecDeque;
 

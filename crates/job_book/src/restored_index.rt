@@ -8,13 +8,14 @@ ghost use Rattle.farm_types.specs.Kept.{is_formed_layer, is_kept_slot};
 ghost use Rattle.farm_types.specs.Ranges.{is_range_text, range_numbers};
 ghost use Rattle.farm_types.specs.Rising.{IsRising, layer_key};
 ghost use Rattle.farm_types.specs.declared.limits.TheConstants.{MOST_LAYERS, SLOT_LIMIT};
-ghost use Rattle.job_book.specs.declared.ready_jobs.TheConstants.{JOB_NUMBERS};
+ghost use Rattle.job_index.specs.declared.ready_jobs.TheConstants.{JOB_NUMBERS};
 ghost use Rattle.job_book.specs.Layers.{layer_position};
-ghost use Rattle.job_book.specs.Restored.{noted_frame, noted_from, range_length, unplaced, with_slot};
+ghost use Rattle.job_book.specs.Restored.{noted_frame, noted_from, range_length, unplaced};
+ghost use Rattle.job_index.specs.Places.{with_slot};
 
-use crate::layer_frames::LayerFrames;
 use farm_types::{Frame, JobNo, LayerRow, MOST_LAYERS, Slot, SlotRow, Text};
 use frame_range::parse_set;
+use job_index::LayerFrames;
 use std::alloc::{AllocError, Global};
 
 /// Where the frames of each of these layers stand.

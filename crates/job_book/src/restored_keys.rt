@@ -6,20 +6,20 @@ ghost use Rattle.farm_types.specs.Finish.{is_finished};
 ghost use Rattle.farm_types.specs.Kept.{AllDiffer, job_label};
 ghost use Rattle.farm_types.specs.Rising.{IsRising, job_key};
 ghost use Rattle.farm_types.specs.declared.limits.TheConstants.{MOST_SHOWS};
-ghost use Rattle.job_book.specs.declared.jobs.TheConstants.{MOST_JOBS};
-ghost use Rattle.job_book.specs.declared.ready_jobs.TheConstants.{JOB_NUMBERS};
+ghost use Rattle.job_index.specs.declared.limits.TheConstants.{MOST_JOBS};
+ghost use Rattle.job_index.specs.declared.ready_jobs.TheConstants.{JOB_NUMBERS};
 ghost use Rattle.job_book.specs.Finished.{finish_key, has_finish};
 ghost use Rattle.job_book.specs.Names.{KeepsNames};
-ghost use Rattle.job_book.specs.Ready.{has_priority, sorted};
-ghost use Rattle.job_book.specs.Restored.{AreKeys, keys_beside, with_ready};
+ghost use Rattle.job_book.specs.Ready.{has_priority};
+ghost use Rattle.job_index.specs.Keys.{sorted, AreKeys};
+ghost use Rattle.job_book.specs.Restored.{keys_beside, with_ready};
 
 use crate::counts::Counts;
-use crate::job_names::JobNames;
 use crate::leave::finish_key;
 use crate::ready::ready_key;
-use crate::ready_jobs::ReadyJobs;
 use crate::restored_counts::counts_at;
 use farm_types::{Items, JobRow, MOST_SHOWS};
+use job_index::{JobNames, ReadyJobs};
 use std::alloc::{AllocError, Global};
 
 /// The names of these jobs, each of which is copied.

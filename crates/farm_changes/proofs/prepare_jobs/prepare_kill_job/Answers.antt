@@ -11,23 +11,23 @@ pub returns-in_default : goal.returns-in_default
 returns-in_default c =
     let f = c.args.books.now in
     let name = c.args.job.now in
-    let is = named_is f name c.as_str.result.now c.jobs.result.now c.pending.result c.as_str.ensures c.jobs.ensures c.pending.ensures in
-    job_refuses f c.args.moment (act.KillJob name) name c.missing.result refl (sym is ∙ c.in_default.is) c.missing.ensures
+    let is = named_is f name c.as_str.result.now c.jobs-jobs.result.now c.pending.result c.as_str.ensures c.jobs-jobs.ensures c.pending.ensures in
+    job_refuses f c.args.moment (act.KillJob name) name c.jobs-jobs.result.now c.missing.result c.jobs-jobs.ensures refl (sym is ∙ c.in_default.is) c.missing.ensures
 
 pub counts-ended-requires : goal.counts-ended-requires
 counts-ended-requires c =
     let f = c.args.books.now in
     let name = c.args.job.now in
-    let is = named_is f name c.as_str.result.now c.jobs.result.now c.pending.result c.as_str.ensures c.jobs.ensures c.pending.ensures in
-    named_there f name c.jobs-2.result.now c.in-Some.job c.jobs-2.ensures (sym is ∙ c.in-Some.is)
+    let is = named_is f name c.as_str.result.now c.jobs-jobs.result.now c.pending.result c.as_str.ensures c.jobs-jobs.ensures c.pending.ensures in
+    named_there f name c.jobs-jobs.result.now c.in-Some.job c.jobs-jobs.ensures (sym is ∙ c.in-Some.is)
 
 pub returns : goal.returns
 returns c =
     let f = c.args.books.now in
     let name = c.args.job.now in
-    let is = named_is f name c.as_str.result.now c.jobs.result.now c.pending.result c.as_str.ensures c.jobs.ensures c.pending.ensures in
+    let is = named_is f name c.as_str.result.now c.jobs-jobs.result.now c.pending.result c.as_str.ensures c.jobs-jobs.ensures c.pending.ensures in
     let job = c.in-Some.job in
     let count : c.counts-ended.result.running ≡ count_in job frame_state.Running f.slots =
-    ap (λ (n : Counts). n.running) c.counts-ended.ensures ∙ ap (λ (b : JobLists). count_in job frame_state.Running b.slots) c.jobs-2.ensures in
+    ap (λ (n : Counts). n.running) c.counts-ended.ensures ∙ ap (λ (b : JobLists). count_in job frame_state.Running b.slots) c.jobs-jobs.ensures in
     kill_makes f name c.args.moment job c.counts-ended.result.running c.in_ok-rows.rows c.change_of.result c.requires.kept c.requires.ahead (sym is ∙ c.in-Some.is) count
     c.in_ok-rows.ensures.farm c.in_ok-rows.ensures.ready c.change_of.ensures

@@ -5,9 +5,9 @@ use Rattle.farm_types.specs.declared.depend.Group.{Group}
 use Rattle.farm_types.specs.DependActs.{new_groups}
 use Rattle.depend_book.specs.declared.new_depend.NewDepend.{NewDepend}
 use Rattle.depend_graph.specs.Graph.{IsGroup}
-use Rattle.farm_places.specs.declared.fault.PrepareFault.{PrepareFault}
+use Rattle.farm_types.specs.declared.fault.FarmFault.{FarmFault}
 use Rattle.farm_depends.specs.Coming.{Comes, groups_refusal_with}
-use Rattle.farm_places.specs.Ends.{Refuses}
+use Rattle.farm_types.specs.Faults.{Refuses}
 use Rattle.farm_depends.proofs.ComingGroups.{found_groups, new_are_groups, refusal_is, third_refused}
 use Rattle.farm_depends.proofs.coming.between.Goals as goal
 
@@ -26,8 +26,8 @@ returns-in_err-check_groups c =
     let counts = c.args.counts.now in
     let groups = c.in_ok-groups.groups in
     let are : groups ≡ new_groups f spec = c.in_ok-groups.ensures ∙ found_groups f spec c.args.waiter c.args.target c.requires.waiter c.requires.target in
-    let refused = subst (λ (e : PrepareFault). Refuses {X = Unit {0}} (groups_refusal_with f counts groups) (Err e)) (sym p.2) c.in_err-check_groups.ensures in
-    subst (λ (r : Result NewDepend PrepareFault). Comes f counts spec r) (sym p.1)
+    let refused = subst (λ (e : FarmFault). Refuses {X = Unit {0}} (groups_refusal_with f counts groups) (Err e)) (sym p.2) c.in_err-check_groups.ensures in
+    subst (λ (r : Result NewDepend FarmFault). Comes f counts spec r) (sym p.1)
     (third_refused f counts spec c.requires.waiter.accepted c.requires.target.accepted groups are (Unit {0}) p.0 refused)
 
 pub returns : goal.returns

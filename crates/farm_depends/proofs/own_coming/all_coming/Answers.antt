@@ -4,7 +4,7 @@ use Rattle.std.proofs.lemmas.Result.{err_from_is_err_and}
 use Rattle.farm_types.specs.declared.depend.DependSpec.{DependSpec}
 use Rattle.farm_types.specs.DependActs.{new_groups}
 use Rattle.depend_book.specs.declared.new_depend.NewDepend.{NewDepend}
-use Rattle.farm_places.specs.declared.fault.PrepareFault.{PrepareFault}
+use Rattle.farm_types.specs.declared.fault.FarmFault.{FarmFault}
 use Rattle.farm_depends.specs.Coming.{ComeAll, Comes, counts_full, counts_more, each_coming, refusal_with_all}
 use Rattle.farm_depends.specs.Placed.{placed}
 use Rattle.farm_depends.proofs.ComingInTurn.{allowed_by, coming_more, fault_comes, left_more, own_each}
@@ -34,8 +34,8 @@ returns-in_err-new c =
     let spec = c.spec-item.result in
     let i = c.loop-spec.spec-index in
     let at : spec ≡ get_or job.depends i spec = subst (λ (xs : List DependSpec). spec ≡ get_or xs i spec) c.as_slice-spec-items.ensures c.spec-item.is in
-    let comes = subst (λ (e : PrepareFault). Comes farm c.loop-spec.counts spec (Err e)) (sym p.2) c.in_err-new.ensures in
-    subst (λ (r : Result (List NewDepend) PrepareFault). ComeAll farm c.args.counts job.depends r) (sym p.1)
+    let comes = subst (λ (e : FarmFault). Comes farm c.loop-spec.counts spec (Err e)) (sym p.2) c.in_err-new.ensures in
+    subst (λ (r : Result (List NewDepend) FarmFault). ComeAll farm c.args.counts job.depends r) (sym p.1)
     (fault_comes farm job.depends i spec (omega (arith, ap length c.as_slice-spec-items.ensures)) at c.args.counts c.loop-spec.counts c.loop-spec.invariant.left p.0 comes)
 
 pub loop-spec-preserved : goal.loop-spec-preserved

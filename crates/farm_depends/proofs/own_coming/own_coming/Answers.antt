@@ -3,7 +3,7 @@ use Rattle.std.specs.Prelude.{Result}
 use Rattle.std.specs.Str.{bytes_eq}
 use Rattle.std.proofs.lemmas.Result.{err_from_is_err_and}
 use Rattle.depend_book.specs.declared.new_depend.NewDepend.{NewDepend}
-use Rattle.farm_places.specs.declared.fault.PrepareFault.{PrepareFault}
+use Rattle.farm_types.specs.declared.fault.FarmFault.{FarmFault}
 use Rattle.farm_places.specs.declared.ends.FoundEnd.{FoundEnd}
 use Rattle.farm_depends.specs.Coming.{Comes}
 use Rattle.farm_places.specs.Ends.{FindsEnd}
@@ -23,8 +23,8 @@ returns-in_err-waiter c =
     let mine = c.requires.own in
     let farm = placed f job in
     let p = err_from_is_err_and c.from_residual.result c.from_residual.ensures.1 in
-    let refused = subst (λ (e : PrepareFault). EndsIn own spec.waiter (Err e)) (sym p.2) c.in_err-waiter.ensures in
-    subst (λ (r : Result NewDepend PrepareFault). Comes farm counts spec r) (sym p.1)
+    let refused = subst (λ (e : FarmFault). EndsIn own spec.waiter (Err e)) (sym p.2) c.in_err-waiter.ensures in
+    subst (λ (r : Result NewDepend FarmFault). Comes farm counts spec r) (sym p.1)
     (first_refused farm counts spec p.0 (own_fault f job can own mine spec.waiter c.requires.waiter p.0 refused))
 
 pub returns-in_err-target : goal.returns-in_err-target
@@ -40,8 +40,8 @@ returns-in_err-target c =
     let w = own_is_end f job can own mine spec.waiter c.requires.waiter c.in_ok-waiter.waiter c.in_ok-waiter.ensures in
     let named = same_name spec.target.job job.name (ap (bytes_eq spec.target.job) (sym c.as_str.ensures) ∙ (sym c.is.ensures ∙ c.if-is.true)) in
     let p = err_from_is_err_and c.from_residual-in_err-target.result c.from_residual-in_err-target.ensures.1 in
-    let refused = subst (λ (e : PrepareFault). EndsIn own spec.target (Err e)) (sym p.2) c.in_err-target.ensures in
-    subst (λ (r : Result NewDepend PrepareFault). Comes farm counts spec r) (sym p.1)
+    let refused = subst (λ (e : FarmFault). EndsIn own spec.target (Err e)) (sym p.2) c.in_err-target.ensures in
+    subst (λ (r : Result NewDepend FarmFault). Comes farm counts spec r) (sym p.1)
     (second_refused farm counts spec p.0 w.accepted (own_fault f job can own mine spec.target named p.0 refused))
 
 pub groups_between-requires-clause-each : goal.groups_between-requires-clause-each
@@ -75,8 +75,8 @@ returns-in_err-groups c =
     let target : FoundEnd = record { end = c.in_ok-target.target; shape = own.shape } in
     let t = own_is_end f job can own mine spec.target named c.in_ok-target.target c.in_ok-target.ensures in
     let p = err_from_is_err_and c.from_residual-in_err-groups.result c.from_residual-in_err-groups.ensures.1 in
-    let refused = subst (λ (e : PrepareFault). GroupsBetween own own.shape counts spec (Err e)) (sym p.2) c.in_err-groups.ensures in
-    subst (λ (r : Result NewDepend PrepareFault). Comes farm counts spec r) (sym p.1)
+    let refused = subst (λ (e : FarmFault). GroupsBetween own own.shape counts spec (Err e)) (sym p.2) c.in_err-groups.ensures in
+    subst (λ (r : Result NewDepend FarmFault). Comes farm counts spec r) (sym p.1)
     (between_fault f job can own mine spec c.requires.waiter c.in_ok-waiter.waiter target w t counts p.0 refused)
 
 pub returns-then-is : goal.returns-then-is
@@ -108,8 +108,8 @@ returns-in_err-target-2 c =
     let w = own_is_end f job can own mine spec.waiter c.requires.waiter c.in_ok-waiter.waiter c.in_ok-waiter.ensures in
     let apart : bytes_eq spec.target.job job.name ≡ false = ap (bytes_eq spec.target.job) (sym c.as_str.ensures) ∙ (sym c.is.ensures ∙ c.if-is.false) in
     let p = err_from_is_err_and c.from_residual-in_err-target-2.result c.from_residual-in_err-target-2.ensures.1 in
-    let refused = subst (λ (e : PrepareFault). FindsEnd f spec.target (Err e)) (sym p.2) c.in_err-target-2.ensures in
-    subst (λ (r : Result NewDepend PrepareFault). Comes farm counts spec r) (sym p.1)
+    let refused = subst (λ (e : FarmFault). FindsEnd f spec.target (Err e)) (sym p.2) c.in_err-target-2.ensures in
+    subst (λ (r : Result NewDepend FarmFault). Comes farm counts spec r) (sym p.1)
     (second_refused farm counts spec p.0 w.accepted (other_finds f job can spec.target apart (Err p.0) refused))
 
 pub groups_between-requires-2-clause-each : goal.groups_between-requires-2-clause-each
@@ -143,8 +143,8 @@ returns-in_err-groups-2 c =
     let target = c.in_ok-target-2.target in
     let t = other_finds f job can spec.target apart (Ok target) c.in_ok-target-2.ensures in
     let p = err_from_is_err_and c.from_residual-in_err-groups-2.result c.from_residual-in_err-groups-2.ensures.1 in
-    let refused = subst (λ (e : PrepareFault). GroupsBetween own target.shape counts spec (Err e)) (sym p.2) c.in_err-groups-2.ensures in
-    subst (λ (r : Result NewDepend PrepareFault). Comes farm counts spec r) (sym p.1)
+    let refused = subst (λ (e : FarmFault). GroupsBetween own target.shape counts spec (Err e)) (sym p.2) c.in_err-groups-2.ensures in
+    subst (λ (r : Result NewDepend FarmFault). Comes farm counts spec r) (sym p.1)
     (between_fault f job can own mine spec c.requires.waiter c.in_ok-waiter.waiter target w t counts p.0 refused)
 
 pub returns : goal.returns

@@ -3,7 +3,7 @@ use Rattle.std.specs.Prelude.{Result}
 use Rattle.std.proofs.lemmas.Result.{err_from_is_err_and}
 use Rattle.farm_types.specs.declared.entry.Act.TheVariants as act
 use Rattle.depend_book.specs.Book.{joined}
-use Rattle.farm_places.specs.declared.fault.PrepareFault.{PrepareFault}
+use Rattle.farm_types.specs.declared.fault.FarmFault.{FarmFault}
 use Rattle.farm_depends.specs.declared.counts.Counts.{Counts}
 use Rattle.farm_depends.specs.declared.follow.Follow.{Follow}
 use Rattle.farm_depends.specs.Coming.{Comes, refusal_with}
@@ -17,9 +17,9 @@ returns-in_err-new c =
     let f = c.args.books.now in
     let b = c.args.depends.now in
     let spec = c.args.spec.now in
-    let comes = subst (λ (e : PrepareFault). Comes f c.counts_of-counts.result spec (Err e)) (sym p.2) c.in_err-new.ensures in
+    let comes = subst (λ (e : FarmFault). Comes f c.counts_of-counts.result spec (Err e)) (sym p.2) c.in_err-new.ensures in
     let counted = subst (λ (n : Counts). Comes f n spec (Err p.0)) c.counts_of-counts.ensures.value comes in
-    subst (λ (r : Result Follow PrepareFault). PreparesFollow (joined f b) (joined f b) (act.AddDepend spec) r) (sym p.1)
+    subst (λ (r : Result Follow FarmFault). PreparesFollow (joined f b) (joined f b) (act.AddDepend spec) r) (sym p.1)
     (depend_refused f b c.kept.ensures c.requires.whole spec c.requires.formed p.0 counted)
 
 pub added-requires : goal.added-requires

@@ -5,7 +5,7 @@ use Rattle.std.proofs.lemmas.Result.{err_from_is_err_and}
 use Rattle.farm_types.specs.declared.depend.DependSpec.{DependSpec}
 use Rattle.farm_types.specs.declared.entry.Act.TheVariants as act
 use Rattle.depend_book.specs.Book.{joined}
-use Rattle.farm_places.specs.declared.fault.PrepareFault.{PrepareFault}
+use Rattle.farm_types.specs.declared.fault.FarmFault.{FarmFault}
 use Rattle.farm_depends.specs.declared.counts.Counts.{Counts}
 use Rattle.farm_depends.specs.declared.follow.Follow.{Follow}
 use Rattle.farm_depends.specs.Coming.{ComeAll, refusal_with_all}
@@ -38,9 +38,9 @@ returns-in_err-all c =
     let f = c.args.books.now in
     let b = c.args.depends.now in
     let spec = c.args.spec.now in
-    let comes = subst (λ (e : PrepareFault). ComeAll (placed f spec) c.counts_of-counts.result spec.depends (Err e)) (sym p.2) c.in_err-all.ensures in
+    let comes = subst (λ (e : FarmFault). ComeAll (placed f spec) c.counts_of-counts.result spec.depends (Err e)) (sym p.2) c.in_err-all.ensures in
     let counted = subst (λ (n : Counts). ComeAll (placed f spec) n spec.depends (Err p.0)) c.counts_of-counts.ensures.value comes in
-    subst (λ (r : Result Follow PrepareFault). PreparesFollow (joined f b) (joined (placed f spec) b) (act.Submit spec) r) (sym p.1)
+    subst (λ (r : Result Follow FarmFault). PreparesFollow (joined f b) (joined (placed f spec) b) (act.Submit spec) r) (sym p.1)
     (submit_refused f b c.kept.ensures c.requires.whole spec c.requires.formed c.requires.accepted p.0 counted)
 
 pub returns : goal.returns

@@ -8,7 +8,7 @@ returns-then-has_name c =
     let layers = c.args.layers.now in
     let layer = c.index-layers-place.result in
     let named = repeated_here layers c.loop-place.place layer (omega arith) c.index-layers-place.is c.loop-place.invariant (sym c.if-has_name.ensures) in
-    existing_refuses ⊤ _ layer.name c.in_ok-existing.field-0 named c.in_ok-existing.ensures
+    existing_refuses ⊤ _ layer.name c.existing.result named c.existing.ensures
 
 pub loop-place-preserved : goal.loop-place-preserved
 loop-place-preserved c =

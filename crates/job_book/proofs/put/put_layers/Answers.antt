@@ -5,7 +5,8 @@ use Rattle.farm_types.specs.declared.slot_row.Frame.{Frame}
 use Rattle.farm_types.specs.Jobs.{frames_from, frames_of}
 use Rattle.job_book.specs.Book.{first_free}
 use Rattle.farm_types.specs.declared.job.LayerSpec.{LayerSpec}
-use Rattle.job_book.specs.Layers.{LayerPlaces, count_of, marks_of, put_places, slots_of}
+use Rattle.job_book.specs.Layers.{count_of, marks_of, put_places, slots_of}
+use Rattle.job_index.specs.Places.{LayerPlaces}
 use Rattle.job_book.specs.Puts.{Puts}
 use Rattle.job_book.proofs.Putting.{puts_none, puts_join, puts_all, free_first, frames_of-more, length-frames_of, enough_for, found_within, skip_places}
 use Rattle.job_book.proofs.FreeSlots.{put_none}

@@ -5,7 +5,7 @@ use Rattle.std.proofs.lemmas.Option.{get_or_from_slice_get}
 use Rattle.farm_types.specs.declared.rows.JobRow.{JobRow}
 use Rattle.farm_types.specs.declared.rows.LayerRow.{LayerRow}
 use Rattle.job_book.specs.declared.entries.Place.{Place}
-use Rattle.job_book.specs.Layers.{LayerPlaces}
+use Rattle.job_index.specs.Places.{LayerPlaces}
 use Rattle.job_book.specs.OneJob.{AllJobs}
 use Rattle.job_book.specs.Restored.{own_count, place_with}
 use Rattle.job_book.proofs.RestoredEntries.{IsPart, keeps_all, next_part, none_left}

@@ -4,7 +4,7 @@ use Rattle.std.proofs.lemmas.List.Sorted.{answers_always}
 use Rattle.farm_types.specs.Rising.{layer_key}
 use Rattle.farm_types.specs.declared.limits.TheConstants.{MOST_LAYERS}
 use Rattle.farm_types.proofs.Searched.{searched}
-use Rattle.job_book.specs.declared.ready_jobs.TheConstants.{JOB_NUMBERS}
+use Rattle.job_index.specs.declared.ready_jobs.TheConstants.{JOB_NUMBERS}
 use Rattle.job_book.proofs.RestoredLayers.{position_is}
 use Rattle.job_book.proofs.restored_index.layer_place.Goals as goal
 

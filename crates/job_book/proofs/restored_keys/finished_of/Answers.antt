@@ -1,5 +1,5 @@
 use Rattle.std.proofs.Common.{sym, subst}
-use Rattle.job_book.specs.Restored.{AreKeys}
+use Rattle.job_index.specs.Keys.{AreKeys}
 use Rattle.job_book.proofs.RestoredKeys.{finished_differ}
 use Rattle.job_book.proofs.restored_keys.finished_of.Goals as goal
 

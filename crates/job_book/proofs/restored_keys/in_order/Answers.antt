@@ -1,7 +1,7 @@
 use Rattle.std.proofs.Common.{◌≡◌, ◌∙◌, ◌++◌, ◌∷◌, [], ℕ, suc, List, map, sym, ap, append_assoc, rules}
 use Rattle.std.specs.List.{slice_get}
 use Rattle.std.specs.Vec.Iter.{into_iter_items}
-use Rattle.job_book.specs.Ready.{sorted}
+use Rattle.job_index.specs.Keys.{sorted}
 use Rattle.job_book.proofs.restored_keys.in_order.Goals as goal
 
 pub loop-keys-preserved : goal.loop-keys-preserved

@@ -1,8 +1,7 @@
 use Rattle.std.proofs.Common.{◌≡◌, ◌++◌, ℕ, List, Some, map}
 use Rattle.std.specs.List.{slice_get}
 use Rattle.std.specs.Vec.Iter.{into_iter_items}
-use Rattle.job_book.specs.Ready.{sorted}
-use Rattle.job_book.specs.Restored.{AreKeys}
+use Rattle.job_index.specs.Keys.{sorted, AreKeys}
 use Rattle.job_book.proofs.restored_keys.in_order.Given as goal
 
 abbrev pub invariant-loop-keys : goal.invariant-loop-keys

@@ -4,7 +4,8 @@ use Rattle.std.specs.Str.{bytes_eq}
 use Rattle.std.proofs.lemmas.List.{take_more}
 use Rattle.std.proofs.lemmas.Option.{slice_get_read}
 use Rattle.farm_types.specs.declared.rows.JobRow.{JobRow}
-use Rattle.job_book.specs.Names.{KeepsNames, number_of}
+use Rattle.job_book.specs.Names.{KeepsNames}
+use Rattle.job_index.specs.Names.{number_of}
 use Rattle.job_book.proofs.NamedJobs.{keeps_more, unnamed}
 use Rattle.job_book.proofs.RestoredNames.{new_name}
 use Rattle.job_book.proofs.restored_keys.names_of.Goals as goal

@@ -1,8 +1,7 @@
 use Rattle.std.proofs.Common.{◌∙◌, List, ℕ, sym, ap, subst}
 use Rattle.std.specs.List.{slice_get}
 use Rattle.std.proofs.lemmas.Result.{IfOk-weaker}
-use Rattle.job_book.specs.Ready.{sorted}
-use Rattle.job_book.specs.Restored.{AreKeys}
+use Rattle.job_index.specs.Keys.{sorted, AreKeys}
 use Rattle.job_book.proofs.RestoredKeys.{beside_differ, sorted_at}
 use Rattle.job_book.proofs.restored_keys.ready_lists.Goals as goal
 

@@ -2,7 +2,7 @@ use Rattle.std.proofs.Common.{rules, arith, ◌≡◌, ◌∙◌, true, false, B
 use Rattle.std.specs.List.{list_any}
 use Rattle.std.proofs.lemmas.Bool.{eq-eqb, ne_eqb}
 use Rattle.depend_graph.specs.Listed.{ListedLists, watched_with}
-use Rattle.depend_graph.specs.MetAt.{has_mark, is_met_at}
+use Rattle.depend_graph.specs.MetAt.{is_met_at}
 use Rattle.depend_graph.proofs.AllMet.{marked_is}
 use Rattle.depend_graph.proofs.listed.Listed.is_marked.Goals as goal
 

@@ -2,7 +2,8 @@ use Rattle.std.proofs.Common.{◌∙◌, List, Option, sym, ap, subst}
 use Rattle.std.specs.List.{find, slice_get}
 use Rattle.job_book.specs.declared.entries.Place.{Place}
 use Rattle.job_book.specs.Entries.{ArePlaces, has_number, held, index_in}
-use Rattle.job_book.specs.Layers.{LayerPlaces, layer_position}
+use Rattle.job_book.specs.Layers.{layer_position}
+use Rattle.job_index.specs.Places.{LayerPlaces}
 use Rattle.job_book.specs.OneJob.{AllJobs, OneJob}
 use Rattle.job_book.proofs.Held.{rising_held, whole_held}
 use Rattle.job_book.proofs.HeldLists.{index_found}

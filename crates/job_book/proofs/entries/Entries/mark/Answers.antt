@@ -3,7 +3,8 @@ use Rattle.std.specs.Vec.{vec_capacity}
 use Rattle.farm_types.specs.Farm.{changed_at}
 use Rattle.job_book.specs.declared.entries.Place.{Place}
 use Rattle.job_book.specs.Entries.{ArePlaces, KeepsEntries, all_of, held, place_of_number, with_held, with_mark}
-use Rattle.job_book.specs.Layers.{layer_position, marked}
+use Rattle.job_book.specs.Layers.{layer_position}
+use Rattle.job_index.specs.Places.{marked}
 use Rattle.job_book.specs.OneJob.{AllJobs, OneJob}
 use Rattle.job_book.proofs.Held.{changed_held, rising_held, whole_held}
 use Rattle.job_book.proofs.HeldKept.{all_marked, changed_places, mark_whole}

@@ -3,7 +3,7 @@ use Rattle.farm_types.specs.declared.rows.JobRow.{JobRow}
 use Rattle.farm_types.specs.declared.states.FrameState.TheVariants.{Waiting}
 use Rattle.farm_types.specs.Jobs.{JobLists}
 use Rattle.farm_law.proofs.FinishedJobs.{finished_if, unchanged}
-use Rattle.job_book.specs.declared.ready_jobs.TheConstants.{JOB_NUMBERS}
+use Rattle.job_index.specs.declared.ready_jobs.TheConstants.{JOB_NUMBERS}
 use Rattle.job_book.specs.Book.{count_in, without_job}
 use Rattle.job_book.specs.Finished.{finished_of, first_of_full, with_one_finished}
 use Rattle.job_book.proofs.FinishNumbers.{leaver_before, map_without, number_left}

@@ -9,13 +9,13 @@ use Rattle.farm_types.specs.Finish.{freed_row, is_finished}
 use Rattle.farm_types.specs.Jobs.{JobLists}
 use Rattle.farm_types.specs.Kept.{is_of_pending}
 use Rattle.job_book.specs.declared.counts.Counts.{Counts}
-use Rattle.job_book.specs.declared.ready_jobs.TheConstants.{JOB_NUMBERS}
+use Rattle.job_index.specs.declared.ready_jobs.TheConstants.{JOB_NUMBERS}
 use Rattle.job_book.specs.Book.{count_in, counts_of}
 use Rattle.job_book.specs.Counting.{new_counts}
 use Rattle.job_book.specs.Finished.{KeepsFinishes, can_put, finish_key, has_finish, with_one_finished}
 use Rattle.job_book.specs.Inside.{book_of, counts_for}
 use Rattle.job_book.specs.OneJob.{AllJobs}
-use Rattle.job_book.specs.Ready.{put_key}
+use Rattle.job_index.specs.Keys.{put_key}
 use Rattle.job_book.proofs.FinishNumbers.{finished_finishes, number_left}
 use Rattle.job_book.proofs.FinishedBook.{finished_book}
 use Rattle.job_book.proofs.FinishedLayers.{finished_layers, finished_waiting}

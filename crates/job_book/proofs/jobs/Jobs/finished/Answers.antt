@@ -1,7 +1,7 @@
 use Rattle.std.proofs.Common.{◌∙◌, map, ap}
 use Rattle.farm_types.specs.Jobs.{JobLists}
 use Rattle.job_book.specs.Finished.{finished_of}
-use Rattle.job_book.specs.Ready.{job_of}
+use Rattle.job_index.specs.Keys.{job_of}
 use Rattle.job_book.proofs.jobs.Jobs.finished.Goals as goal
 
 pub returns : goal.returns

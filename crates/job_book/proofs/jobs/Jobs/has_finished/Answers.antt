@@ -1,7 +1,8 @@
 use Rattle.std.proofs.Common.{◌≡◌, ◌∙◌, None, Some, not, sym, ap}
 use Rattle.std.specs.List.{list_any}
 use Rattle.farm_types.specs.Jobs.{JobLists, is_finished_named}
-use Rattle.job_book.specs.Names.{as_list, number_of}
+use Rattle.job_book.specs.Names.{as_list}
+use Rattle.job_index.specs.Names.{number_of}
 use Rattle.job_book.proofs.LeftJobs.{has_finished_is, none_finished_named}
 use Rattle.job_book.proofs.jobs.Jobs.has_finished.Goals as goal
 

@@ -2,7 +2,7 @@ use Rattle.std.proofs.Common.{◌∙◌, ℕ, List, Option, is_some, ap}
 use Rattle.std.specs.List.{list_any}
 use Rattle.farm_types.specs.Jobs.{JobLists, is_pending_named}
 use Rattle.farm_types.specs.Kept.{is_of_pending}
-use Rattle.job_book.specs.Names.{number_of}
+use Rattle.job_index.specs.Names.{number_of}
 use Rattle.job_book.proofs.NamedJobs.{if_pending, pending_any, some_if}
 use Rattle.job_book.proofs.jobs.Jobs.is_pending_named.Goals as goal
 

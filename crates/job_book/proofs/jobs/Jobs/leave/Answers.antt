@@ -11,13 +11,15 @@ use Rattle.farm_types.specs.Finish.{is_finished}
 use Rattle.farm_types.specs.Jobs.{JobLists}
 use Rattle.farm_types.proofs.Lists.{find_passes, found_is}
 use Rattle.job_book.specs.declared.counts.Counts.{Counts}
-use Rattle.job_book.specs.declared.ready_jobs.TheConstants.{JOB_NUMBERS}
+use Rattle.job_index.specs.declared.ready_jobs.TheConstants.{JOB_NUMBERS}
 use Rattle.job_book.specs.Entries.{beside}
 use Rattle.job_book.specs.Finished.{KeepsFinished, finish_key, has_finish}
 use Rattle.job_book.specs.Inside.{book_of, has_layers_if}
-use Rattle.job_book.specs.Names.{KeepsNames, number_of}
+use Rattle.job_book.specs.Names.{KeepsNames}
+use Rattle.job_index.specs.Names.{number_of}
 use Rattle.job_book.specs.OneJob.{AllJobs}
-use Rattle.job_book.specs.Ready.{KeepsReady, drop_key}
+use Rattle.job_book.specs.Ready.{KeepsReady}
+use Rattle.job_index.specs.Keys.{drop_key}
 use Rattle.job_book.proofs.FinishNumbers.{left_finishes}
 use Rattle.job_book.proofs.LeftJobs.{book_left, counts_left, finished_left, names_left, not_true, ready_left, remains}
 use Rattle.job_book.proofs.jobs.Jobs.leave.Goals as goal

@@ -7,11 +7,11 @@ use Rattle.farm_types.specs.Farm.{for_some}
 use Rattle.farm_types.specs.Finish.{is_finished}
 use Rattle.farm_types.specs.Jobs.{JobLists}
 use Rattle.farm_types.specs.Kept.{is_of_pending}
-use Rattle.job_book.specs.declared.ready_jobs.TheConstants.{JOB_NUMBERS}
+use Rattle.job_index.specs.declared.ready_jobs.TheConstants.{JOB_NUMBERS}
 use Rattle.job_book.specs.Book.{without_job}
 use Rattle.job_book.specs.Finished.{finished_of, first_of_full}
 use Rattle.job_book.specs.Inside.{book_of}
-use Rattle.job_book.specs.Ready.{job_of}
+use Rattle.job_index.specs.Keys.{job_of}
 use Rattle.job_book.proofs.CutJobs.{can_go}
 use Rattle.job_book.proofs.FinishNumbers.{first_full, none_full, one_leaves, pending_left}
 use Rattle.job_book.proofs.FinishOrder.{as_many}

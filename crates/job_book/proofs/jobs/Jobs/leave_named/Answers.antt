@@ -5,7 +5,8 @@ use Rattle.farm_types.specs.Farm.{for_some}
 use Rattle.farm_types.specs.Finish.{is_finished}
 use Rattle.farm_types.specs.Jobs.{JobLists, without_finished}
 use Rattle.job_book.specs.Inside.{book_of}
-use Rattle.job_book.specs.Names.{as_list, number_of}
+use Rattle.job_book.specs.Names.{as_list}
+use Rattle.job_index.specs.Names.{number_of}
 use Rattle.job_book.proofs.LeftJobs.{can_leave, finished_goes, none_goes, pending_stays}
 use Rattle.job_book.proofs.jobs.Jobs.leave_named.Goals as goal
 

@@ -7,12 +7,13 @@ use Rattle.farm_types.specs.Finish.{is_finished}
 use Rattle.farm_types.specs.Jobs.{free_in}
 use Rattle.farm_types.specs.Rising.{IsRising, job_key}
 use Rattle.farm_types.specs.Rising.{layer_key as kept_key}
-use Rattle.job_book.specs.declared.ready_jobs.TheConstants.{JOB_NUMBERS}
+use Rattle.job_index.specs.declared.ready_jobs.TheConstants.{JOB_NUMBERS}
 use Rattle.job_book.specs.Finished.{finish_key, has_finish}
 use Rattle.job_book.specs.Inside.{counts_for}
-use Rattle.job_book.specs.Layers.{LayerPlaces}
+use Rattle.job_index.specs.Places.{LayerPlaces}
 use Rattle.job_book.specs.Names.{KeepsNames}
-use Rattle.job_book.specs.Ready.{has_priority, sorted}
+use Rattle.job_book.specs.Ready.{has_priority}
+use Rattle.job_index.specs.Keys.{sorted}
 use Rattle.job_book.specs.Restored.{keys_beside, lists_in, noted_from, unplaced}
 use Rattle.job_book.proofs.RestoredBook.{few_jobs, finishes, layers_numbered, made_book, numbered, priorities, rise}
 use Rattle.job_book.proofs.RestoredEntries.{owned}

@@ -11,17 +11,19 @@ use Rattle.farm_types.specs.declared.slot_row.SlotRow.{SlotRow}
 use Rattle.farm_types.specs.Farm.{changed_at}
 use Rattle.farm_types.specs.Jobs.{JobLists, frames_in, free_among, free_in, job_refusal, job_row, layer_rows, place_frames, frames_of}
 use Rattle.job_book.specs.declared.counts.Counts.{Counts}
-use Rattle.job_book.specs.declared.jobs.TheConstants.{MOST_JOBS}
+use Rattle.job_index.specs.declared.limits.TheConstants.{MOST_JOBS}
 use Rattle.job_book.specs.declared.placing.Placing.{Placing}
 use Rattle.job_book.specs.Book.{placing_of, with_new_job}
 use Rattle.job_book.specs.Counting.{new_counts}
 use Rattle.job_book.specs.Entries.{are_layers}
 use Rattle.job_book.specs.Inside.{book_of, counts_for}
 use Rattle.job_book.specs.Layers.{Spare, count_of, fresh_places, marks_of, put_places}
-use Rattle.job_book.specs.Names.{is_named, number_of}
+use Rattle.job_book.specs.Names.{is_named}
+use Rattle.job_index.specs.Names.{number_of}
 use Rattle.job_book.specs.OneJob.{AllJobs}
 use Rattle.job_book.specs.Puts.{free_from}
-use Rattle.job_book.specs.Ready.{has_priority, put_key, ready_key}
+use Rattle.job_book.specs.Ready.{has_priority, ready_key}
+use Rattle.job_index.specs.Keys.{put_key}
 use Rattle.job_book.proofs.FinishNumbers.{placed_finishes}
 use Rattle.job_book.proofs.NamedJobs.{keeps_more, unnamed}
 use Rattle.job_book.proofs.Placed.{accepted_fits, length-layer_rows, placed_book, placed_counts, placed_finished, placed_free, rows_few, rows_are_layers}

@@ -4,7 +4,8 @@ use Rattle.farm_types.specs.Jobs.{JobLists}
 use Rattle.farm_types.proofs.Lists.{slice_get_below}
 use Rattle.job_book.specs.Index.{ready_of}
 use Rattle.job_book.specs.Inside.{book_of}
-use Rattle.job_book.specs.Ready.{job_of, jobs_in}
+use Rattle.job_book.specs.Ready.{jobs_in}
+use Rattle.job_index.specs.Keys.{job_of}
 use Rattle.job_book.proofs.ReadyLists.{ready_is}
 use Rattle.job_book.proofs.jobs.Jobs.ready.Goals as goal
 

@@ -10,10 +10,11 @@ use Rattle.farm_types.proofs.Changed.{changed_at_is}
 use Rattle.farm_types.proofs.Lists.{found_is}
 use Rattle.std.proofs.lemmas.Bool.{eqb-true}
 use Rattle.job_book.specs.declared.counts.Counts.{Counts}
-use Rattle.job_book.specs.declared.jobs.TheConstants.{MOST_JOBS}
+use Rattle.job_index.specs.declared.limits.TheConstants.{MOST_JOBS}
 use Rattle.job_book.specs.Counting.{moved}
 use Rattle.job_book.specs.Inside.{book_of, counts_for}
-use Rattle.job_book.specs.Layers.{layer_position, marked}
+use Rattle.job_book.specs.Layers.{layer_position}
+use Rattle.job_index.specs.Places.{marked}
 use Rattle.job_book.specs.OneJob.{AllJobs}
 use Rattle.job_book.specs.Ready.{CanChange, changed_ready}
 use Rattle.job_book.proofs.InState.{begun_here, can_move, counts_in_state, in_state, in_state_book, in_state_free, with_row}

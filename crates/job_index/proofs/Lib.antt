@@ -1,0 +1,4 @@
+pub mod KeyLists
+pub mod PutKeys
+pub mod SortedKeys
+pub mod TextNumbers
