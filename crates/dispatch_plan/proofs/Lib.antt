@@ -8,6 +8,7 @@ mod Plans
 mod Ranks
 mod Steps
 mod SubList
+mod Told
 mod UnderWay
 mod Views
 mod Waiting

@@ -12,7 +12,7 @@ use Rattle.farm_types.specs.declared.slot_row.SlotRow.{SlotRow}
 use Rattle.farm_types.specs.declared.limits.TheConstants.{CANDIDATES_EACH}
 use Rattle.farm_types.specs.Booking.{may_book}
 use Rattle.farm_types.specs.Dispatch.{rank_of, with_found}
-use Rattle.farm_types.specs.Farm.{Farm, for_some, layer_at, sub_of, is_placed}
+use Rattle.farm_types.specs.Farm.{Farm, layer_at, sub_of, is_placed}
 use Rattle.farm_types.specs.Kept.{KeepsRows}
 use Rattle.farm_types.specs.Ranges.{range_numbers}
 use Rattle.farm_types.specs.Step.{lists_of}
@@ -21,18 +21,19 @@ use Rattle.job_book.specs.Index.{IsFirstWaiting, WaitsFirst, slot_of}
 use Rattle.dispatch_law.specs.ByIndex.{rank_in_slot, rank_at_position, ranks_at}
 use Rattle.dispatch_plan.specs.Offers.{IsBilled, offered, with_candidate}
 use Rattle.dispatch_law.proofs.ByIndexLaw.{in_range}
-use Rattle.dispatch_law.proofs.Found.{IsAt, placed_at, stands}
+use Rattle.farm_law.proofs.FoundSlots.{found_slot}
+use Rattle.farm_law.proofs.KeptJobsCounts.{StandsAt, stands_at}
 use Rattle.dispatch_plan.proofs.Offered.{offered_more, offered_one, offered_none}
 use Rattle.dispatch_law.proofs.RankFacts.{IsRanked, ranked, bookable, unbookable}
 use Rattle.dispatch_plan.proofs.Waiting.{ranks_later, ranks_none}
 
 -- the frame that is found at a position stands there
-pub stands_there : (f : Farm) (job layer position slot : ℕ) (s : SlotRow) (x : Frame) → slot_of (lists_of f) job layer position ≡ Some slot → slice_get f.slots slot ≡ Some s → s.frame ≡ Some x → IsAt job layer position x
+pub stands_there : (f : Farm) (job layer position slot : ℕ) (s : SlotRow) (x : Frame) → slot_of (lists_of f) job layer position ≡ Some slot → slice_get f.slots slot ≡ Some s → s.frame ≡ Some x → StandsAt job layer position x
 stands_there f job layer position slot s x found at framed =
-    let it = stands 0 (is_placed job layer position) f.slots slot found in
-    let place : slot ≡ it.slot = (let far = it.counted in omega arith) in
-    let rows : s ≡ it.row = same_Some s it.row (sym at ∙ (ap (slice_get f.slots) place ∙ it.at)) in
-    placed_at job layer position x (subst (λ (o : Option Frame). for_some o (is_placed job layer position) ≡ true) (ap (λ (t : SlotRow). t.frame) (sym rows) ∙ framed) it.passes)
+    let it = found_slot (is_placed job layer position) f.slots slot found in
+    let rows : s ≡ it.row = same_Some s it.row (sym at ∙ it.at) in
+    let same : x ≡ it.frame = same_Some x it.frame (sym framed ∙ (ap (λ (t : SlotRow). t.frame) rows ∙ it.is)) in
+    stands_at job layer position x (ap (is_placed job layer position) same ∙ it.passes)
 
 -- the candidate of a rank
 candidate_is : (f : Farm) (host slot sub : ℕ) (s : SlotRow) (r : Rank) (has : IsRanked f host slot s r) → IsBilled f host has.frame.job sub → r.candidate ≡ record { slot = slot; version = s.version; sub = sub; host = host }

@@ -75,7 +75,7 @@ module _ (old : Farm) (moment : ℕ) (all : List Candidate) (left : ℕ) (f : Fa
   }
 
   -- the candidate at hand is the first of those that are left
-  at_hand : (i : ℕ) → i < length all → c ≡ get_or all i c → IsUnderWay old moment all left f (drop i all) → IsUnderWay old moment all left f (c ∷ drop (i + 1) all)
+  pub at_hand : (i : ℕ) → i < length all → c ≡ get_or all i c → IsUnderWay old moment all left f (drop i all) → IsUnderWay old moment all left f (c ∷ drop (i + 1) all)
   at_hand i within is so = subst (IsUnderWay old moment all left f) (next_item all i c within is) so
 
   -- the candidate at hand was offered
@@ -96,7 +96,7 @@ module _ (old : Farm) (moment : ℕ) (all : List Candidate) (left : ℕ) (f : Fa
       → 0 < left → IsUnstoredBooking f c.slot c.host moment
   unstored_at i within is so none some = unstored_next (drop (i + 1) all) (at_hand i within is so) none some
 
-  first_ones : (rest : List Candidate) (so : IsUnderWay old moment all left f rest) → so.booked ≡ take (length so.booked) round
+  pub first_ones : (rest : List Candidate) (so : IsUnderWay old moment all left f rest) → so.booked ≡ take (length so.booked) round
   first_ones rest so = sym (ap (take (length so.booked)) (sym so.goes_on) ∙ take-append_seam so.booked (round_from left f moment rest))
 
   stopped : (rest : List Candidate) (new : Farm) (so : IsUnderWay old moment all left f rest) → new ≡ f → new ≡ run_of old (take (length so.booked) round)

@@ -1,10 +1,11 @@
 //! The round of bookings that follows a report.
 
-ghost use Rattle.std.specs.Prelude.{◌≡◌, ◌≤◌, ◌<◌, ◌-◌, IfErr, IfOk};
+ghost use Rattle.std.specs.Prelude.{◌≡◌, ◌≤◌, ◌<◌, ◌-◌, ◌∷◌, [], take, IfErr, IfOk};
 ghost use Rattle.farm_types.specs.Dispatch.{round_for, round_from};
 ghost use Rattle.farm_keeper.specs.Keeping.{Continues};
 ghost use Rattle.recorder.specs.Faults.{is_store_fault};
 ghost use Rattle.recorder.specs.Recording.{ChangesNone, IsUnstoredBooking};
+ghost use Rattle.recorder.specs.Telling.{Tells, TellsOf};
 ghost use Rattle.dispatch_plan.specs.Rounds.{FailsToOffer, HasWalked, IsOffered, IsRound, cut_of, is_store_cut};
 
 use crate::planning::plan;
@@ -25,6 +26,8 @@ pub fn round<K: Keeper>(
     ensures round { IsRound recorder.old.farm host moment result recorder.new.farm }
     ensures few { result.booked ≤ BOOKINGS_EACH }
     ensures keeper { Continues K.tells K.faults recorder.old.keeper recorder.new.keeper (is_store_cut result.cut) }
+    ensures told { Tells K.commits recorder.old.farm (round_for recorder.old.farm host moment) (take result.booked (round_for recorder.old.farm host moment))
+        (is_store_cut result.cut) recorder.old.keeper recorder.new.keeper }
     ensures same { ChangesNone recorder.old.farm (round_for recorder.old.farm host moment) → recorder.new.keeper ≡ recorder.old.keeper }
 {
     match plan(alloc, recorder.read(), host) {
@@ -43,6 +46,9 @@ fn book_in_turn<K: Keeper>(
     ensures round { HasWalked recorder.old.farm (round_from BOOKINGS_EACH recorder.old.farm moment candidates.now) result recorder.new.farm }
     ensures few { result.booked ≤ BOOKINGS_EACH }
     ensures keeper { Continues K.tells K.faults recorder.old.keeper recorder.new.keeper (is_store_cut result.cut) }
+    ensures told { Tells K.commits recorder.old.farm (round_from BOOKINGS_EACH recorder.old.farm moment candidates.now)
+        (take result.booked (round_from BOOKINGS_EACH recorder.old.farm moment candidates.now)) (is_store_cut result.cut)
+        recorder.old.keeper recorder.new.keeper }
     ensures same { ChangesNone recorder.old.farm (round_from BOOKINGS_EACH recorder.old.farm moment candidates.now)
         → recorder.new.keeper ≡ recorder.old.keeper }
 {
@@ -93,6 +99,8 @@ fn offer<K: Keeper>(
     ensures went { IfOk result (λ left_then. IsOffered left recorder.old.farm moment candidate.now left_then recorder.new.farm) }
     ensures failed { IfErr result (λ why. FailsToOffer left recorder.old.farm candidate.now why recorder.new.farm) }
     ensures keeper { Continues K.tells K.faults recorder.old.keeper recorder.new.keeper (is_store_fault result) }
+    ensures told { TellsOf K.commits recorder.old.farm (round_from left recorder.old.farm moment (candidate.now ∷ [])) result
+        recorder.old.keeper recorder.new.keeper }
     ensures same { (0 < left → IsUnstoredBooking recorder.old.farm candidate.now.slot candidate.now.host moment) → recorder.new.keeper ≡ recorder.old.keeper }
 {
     if left == 0 {
@@ -113,6 +121,8 @@ fn offer_due<K: Keeper>(
     ensures went { IfOk result (λ left_then. IsOffered left recorder.old.farm moment candidate.now left_then recorder.new.farm) }
     ensures failed { IfErr result (λ why. FailsToOffer left recorder.old.farm candidate.now why recorder.new.farm) }
     ensures keeper { Continues K.tells K.faults recorder.old.keeper recorder.new.keeper (is_store_fault result) }
+    ensures told { TellsOf K.commits recorder.old.farm (round_from left recorder.old.farm moment (candidate.now ∷ [])) result
+        recorder.old.keeper recorder.new.keeper }
     ensures same { IsUnstoredBooking recorder.old.farm candidate.now.slot candidate.now.host moment → recorder.new.keeper ≡ recorder.old.keeper }
 {
     if recorder.book(alloc, candidate.slot, candidate.host, moment)? {

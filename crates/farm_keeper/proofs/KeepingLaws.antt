@@ -1,13 +1,12 @@
 -- How any keeper goes on from call to call, and what a stop leaves of it.
-use Rattle.std.proofs.Common.{◌≡◌, ◌<◌, ◌≤◌, ◌+◌, ◌∙◌, ℕ, Bool, false, List, [], ◌∷◌, ◌++◌, inl, inr, refl, ap, subst, arith}
-use Rattle.std.specs.Prelude.{◌⊎◌, min}
-use Rattle.std.proofs.lemmas.Bool.{cases_lt}
+use Rattle.std.proofs.Common.{◌≡◌, ◌∙◌, ℕ, Bool, false, List, [], ◌∷◌, ◌++◌, inl, inr, refl, ap, subst}
+use Rattle.std.specs.Prelude.{◌⊎◌}
 use Rattle.std.specs.List.{Any}
 use Rattle.std.proofs.lemmas.List.Elements.{Contains-append_left}
 use Rattle.std.proofs.lemmas.List.Quantifiers.{Any-push}
 use Rattle.farm_keeper.specs.declared.row.Batch.{Batch}
 use Rattle.farm_keeper.specs.Rows.{Rows, after}
-use Rattle.farm_keeper.specs.Faults.{HasRisen, incremented, incremented_if, last_count}
+use Rattle.fault_counts.specs.Counts.{incremented_if}
 use Rattle.farm_keeper.specs.Keeping.{Continues, HasKept, HoldsWith, Keeps, LeavesSome, LeavesTaken, MayLeave, MayRemain}
 
 -- ---- how it goes on
@@ -28,14 +27,6 @@ Continues-then tells faults before mid now failed first second = record {
   told = λ tells_now. first.told (second.told tells_now);
   counted = second.counted ∙ ap (incremented_if failed) first.counted;
 }
-
-risen : (old new : ℕ) → new ≡ min (old + 1) last_count → (old < last_count) ⊎ (last_count ≤ old) → HasRisen old new
-risen old new is (inl below) = inl (omega (arith, is))
-risen old new is (inr full) = inr (omega (arith, is))
-
--- where the store failed, the count went up
-pub HasRisen-incremented : (old new : ℕ) → new ≡ incremented old → HasRisen old new
-HasRisen-incremented old new is = risen old new is (cases_lt old last_count)
 
 -- ---- what a stop leaves
 

@@ -5,7 +5,8 @@ use Rattle.std.specs.FinMap.{code}
 use Rattle.farm_keeper.specs.declared.row.Row.{Row}
 use Rattle.farm_keeper.specs.declared.row.Batch.{Batch}
 use Rattle.farm_keeper.specs.Rows.{Key, Rows}
-use Rattle.farm_keeper.specs.Memory.{Kept, Plan}
+use Rattle.fault_counts.specs.Plans.{Plan}
+use Rattle.farm_keeper.specs.Memory.{Kept}
 
 abbrev bytes_code : Coded (List ℕ)
 bytes_code = coded_list coded_ℕ

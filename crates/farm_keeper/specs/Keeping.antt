@@ -1,8 +1,9 @@
 -- What a call does to what a keeper holds, and to what a stop may leave of it.
-use Rattle.std.specs.Prelude.{◌≡◌, ◌⊎◌, ℕ, Bool, List}
+use Rattle.std.specs.Prelude.{◌≡◌, ◌⊎◌, ℕ, Bool, List, Result}
 use Rattle.std.specs.List.{Any}
+use Rattle.farm_keeper.specs.declared.fault.KeeperFault.{KeeperFault}
 use Rattle.farm_keeper.specs.declared.row.Batch.{Batch}
-use Rattle.farm_keeper.specs.Faults.{incremented_if}
+use Rattle.fault_counts.specs.Counts.{incremented_if}
 use Rattle.farm_keeper.specs.Rows.{Rows, after}
 
 -- How a keeper goes on, by whether its store failed meanwhile: one that tells now told before, and its count of faults is one more where it failed, and
@@ -10,6 +11,10 @@ use Rattle.farm_keeper.specs.Rows.{Rows, after}
 pub record Continues {K : Type 0} (tells : K → Type 0) (faults : K → ℕ) (before now : K) (failed : Bool) : Type 0 where
   pub told : tells now → tells before
   pub counted : faults now ≡ incremented_if failed (faults before)
+
+-- what is told of a commit, by its batch, its answer, and the keeper before and after it
+abbrev pub Committing : Type 0 → Type 1
+Committing K = Batch → Result (Unit {0}) KeeperFault → K → K → Type 0
 
 -- what was so before is so now
 abbrev pub Keeps : (Rows → Type 0) → (Rows → Type 0) → Type 0

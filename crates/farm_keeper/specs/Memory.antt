@@ -1,35 +1,12 @@
 -- A keeper in memory: its rows, the batches that a stop may leave, and the calls that are to fail.
-use Rattle.std.specs.Prelude.{◌≡◌, ℕ, Bool, true, false, ◌==◌, List, [], ◌∷◌, ◌++◌, Result, Ok, Err}
-use Rattle.std.specs.List.{list_any}
+use Rattle.std.specs.Prelude.{◌≡◌, ℕ, true, false, List, [], ◌∷◌, ◌++◌, Result, Ok, Err}
 use Rattle.std.specs.FinMap.{empty}
 use Rattle.farm_keeper.specs.declared.row.Row.{Row}
 use Rattle.farm_keeper.specs.declared.row.Batch.{Batch}
 use Rattle.farm_keeper.specs.declared.fault.KeeperFault.{KeeperFault}
 use Rattle.farm_keeper.specs.declared.fault.KeeperFault.TheVariants.{Failed, NoMemory}
-use Rattle.farm_keeper.specs.Faults.{incremented}
+use Rattle.fault_counts.specs.Plans.{Plan, is_to_fail, new_plan, with_call, with_fault}
 use Rattle.farm_keeper.specs.Rows.{Rows, Lists, after}
-
--- the calls that are to fail, by their number from 1, and the calls and the faults so far
-pub record Plan : Type 0 where
-  pub fails : List ℕ
-  pub calls : ℕ
-  pub faults : ℕ
-
--- no call so far
-abbrev pub new_plan : List ℕ → Plan
-new_plan fails = record { fails = fails; calls = 0; faults = 0 }
-
--- whether the next call is to fail
-abbrev pub is_to_fail : Plan → Bool
-is_to_fail plan = list_any (λ call. call == incremented plan.calls) plan.fails
-
--- one more call
-abbrev pub after_call : Plan → Plan
-after_call plan = record plan { calls = incremented plan.calls }
-
--- one more fault
-abbrev pub with_fault : Plan → Plan
-with_fault plan = record plan { faults = incremented plan.faults }
 
 -- a keeper: its rows, the batches refused since the last Ok of a commit, and its calls
 pub record Kept : Type 0 where
@@ -43,7 +20,7 @@ new_keeper fails = record { rows = empty; refused = []; plan = new_plan fails }
 
 -- one more call
 abbrev pub called : Kept → Kept
-called kept = record kept { plan = after_call kept.plan }
+called kept = record kept { plan = with_call kept.plan }
 
 -- one more fault
 abbrev pub failed : Kept → Kept
@@ -65,7 +42,7 @@ Loads old (Err NoMemory) new = (is_to_fail old.plan ≡ false) × (new ≡ calle
 
 -- what a commit answers and leaves: all of the batch or none of it; it fails where it is to and there is memory for the
 -- batch that is refused, and only there
-abbrev pub Commits : {T : Type 0} → Batch → Kept → Result T KeeperFault → Kept → Type 0
-Commits batch old (Ok _) new = (is_to_fail old.plan ≡ false) × (new ≡ committed batch (called old))
-Commits batch old (Err Failed) new = (is_to_fail old.plan ≡ true) × (new ≡ refused_with batch (called old))
-Commits batch old (Err NoMemory) new = new ≡ called old
+abbrev pub Commits : {T : Type 0} → Batch → Result T KeeperFault → Kept → Kept → Type 0
+Commits batch (Ok _) old new = (is_to_fail old.plan ≡ false) × (new ≡ committed batch (called old))
+Commits batch (Err Failed) old new = (is_to_fail old.plan ≡ true) × (new ≡ refused_with batch (called old))
+Commits batch (Err NoMemory) old new = new ≡ called old

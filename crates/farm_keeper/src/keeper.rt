@@ -8,12 +8,13 @@ use std::alloc::Global;
 /// A keeper of rows. `holds` says which rows it holds, and `left` which rows a stop at this moment may leave. Both say
 /// nothing false whatever the store does; where the store has been true so far, which `tells` says, what is loaded is
 /// what it holds, a stop leaves some rows, and rows that it holds alone are among those that a stop may leave. It counts
-/// its faults: one more at each call that is Failed, and none at any other.
+/// its faults: one more at each call that is Failed, and none at any other. What it can tell of a commit beyond this, by
+/// the batch, the answer, and what it was before and after, is `commits`.
 pub trait Keeper {
     ghost use Rattle.std.specs.Prelude.{ℕ, IfOk, OnOk, OnErr};
     ghost use Rattle.farm_keeper.specs.Faults.{is_failed};
     ghost use Rattle.farm_keeper.specs.Rows.{Rows, Lists};
-    ghost use Rattle.farm_keeper.specs.Keeping.{Continues, HoldsOnly, HoldsWith, Keeps, LeavesSome, LeavesTaken, MayLeave};
+    ghost use Rattle.farm_keeper.specs.Keeping.{Committing, Continues, HoldsOnly, HoldsWith, Keeps, LeavesSome, LeavesTaken, MayLeave};
 
     ghost tells: { Self → Type 0 };
 
@@ -22,6 +23,9 @@ pub trait Keeper {
     ghost left: { Self → Rows → Type 0 };
 
     ghost faults: { Self → ℕ };
+
+    // one that can tell no more of a commit says nothing here
+    ghost commits: { Committing Self };
 
     /// The rows, by kind and then by id. What is held stays, and a stop leaves nothing that it couldn't leave before.
     fn load(&mut self, alloc: Global) -> Result<Items<Row>, KeeperFault>
@@ -37,7 +41,8 @@ pub trait Keeper {
         ensures taken { OnOk result (HoldsWith batch.now (holds self.old) (holds self.new)) }
         ensures kept { OnErr result (Keeps (holds self.old) (holds self.new)) }
         ensures left_ok { OnOk result (LeavesTaken batch.now (holds self.old) (left self.new)) }
-        ensures left_err { OnErr result (MayLeave batch.now (holds self.old) (left self.old) (left self.new)) };
+        ensures left_err { OnErr result (MayLeave batch.now (holds self.old) (left self.old) (left self.new)) }
+        ensures told { commits batch.now result self.old self.new };
 
     // A stop leaves some rows, also after a call that failed.
     ghost leaves: { (k : Self) → tells k → LeavesSome (left k) };

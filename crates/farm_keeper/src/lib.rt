@@ -1,7 +1,6 @@
 //! Keepers of rows: what a stop of the machine leaves of the farm.
 #![tactic(auto)]
 
-mod call_plan;
 mod fault;
 mod keeper;
 mod laws;

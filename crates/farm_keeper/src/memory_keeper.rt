@@ -5,12 +5,12 @@ ghost use Rattle.farm_keeper.specs.Rows.{Rows, Lists};
 ghost use Rattle.farm_keeper.specs.Keeping.{Continues, HoldsWith, Keeps, LeavesTaken, MayLeave, MayRemain};
 ghost use Rattle.farm_keeper.specs.Memory.{Commits, Kept, Loads, committed, new_keeper, refused_with};
 
-use crate::call_plan::CallPlan;
 use crate::fault::KeeperFault;
 use crate::keeper::Keeper;
 use crate::places::{Places, delete_rows, list_rows, put_rows, take_places};
 use crate::row::{Batch, Row, copies_of};
 use farm_types::Items;
+use fault_counts::FaultPlan;
 use std::alloc::{AllocError, Global};
 use std::collections::BTreeMap;
 use std::marker::Model;
@@ -22,7 +22,7 @@ use std::marker::Model;
 pub struct MemoryKeeper {
     places: Places,
     refused: Vec<Batch>,
-    plan: CallPlan,
+    plan: FaultPlan,
 }
 
 impl Model for MemoryKeeper {
@@ -45,7 +45,7 @@ impl MemoryKeeper {
         Ok(MemoryKeeper {
             places: BTreeMap::new(alloc),
             refused: Vec::new(alloc),
-            plan: CallPlan::make(alloc, fails)?,
+            plan: FaultPlan::make(alloc, fails)?,
         })
     }
 
@@ -103,6 +103,8 @@ impl Keeper for MemoryKeeper {
 
     ghost faults = { λ k. k.plan.faults };
 
+    ghost commits = { λ batch answer before now. Commits batch answer before now };
+
     ghost use Rattle.farm_keeper.specs.Remains.{leaves, leaves_held};
 
     ghost leaves = { λ k tells. leaves k };
@@ -118,7 +120,7 @@ impl Keeper for MemoryKeeper {
         // exactly what a call answers and leaves
         ensures exact { Loads self.old result self.new }
     {
-        if self.plan.call() {
+        if self.plan.count_call() {
             self.plan.fault();
             return Err(KeeperFault::Failed);
         }
@@ -133,9 +135,9 @@ impl Keeper for MemoryKeeper {
         ensures left_err { OnErr result (MayLeave batch.now (λ rows. rows ≡ self.old.rows) (MayRemain self.old.rows self.old.refused) (MayRemain self.new.rows self.new.refused)) }
 
         // exactly what a call answers and leaves
-        ensures exact { Commits batch.now self.old result self.new }
+        ensures told { Commits batch.now result self.old self.new }
     {
-        if self.plan.call() {
+        if self.plan.count_call() {
             self.refuse(alloc, batch)?;
             return Err(KeeperFault::Failed);
         }

@@ -1,3 +1,7 @@
 pub mod MadeRows
 pub mod MadeLists
+pub mod Faultless
+pub mod FrameFits
+pub mod OneSlotMore
+pub mod RowOrder
 mod Exactness

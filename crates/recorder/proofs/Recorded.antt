@@ -1,5 +1,5 @@
 -- What a change and an entry that were recorded, or weren't, leave.
-use Rattle.std.proofs.Common.{◌≡◌, ◌<◌, ◌≤◌, ◌^◌, ℕ, Bool, refl, sym, ap, subst, ◌∙◌, List, true, false, Result, Ok, Err, OnOk, IsErrAnd}
+use Rattle.std.proofs.Common.{◌≡◌, ◌<◌, ◌^◌, ℕ, Bool, refl, sym, ap, subst, ◌∙◌, List, true, false, Result, Ok, Err, OnOk, IsErrAnd}
 use Rattle.std.specs.Prelude.{if◌then◌else◌}
 use Rattle.std.proofs.lemmas.Result.{err_from_is_err_and}
 use Rattle.farm_types.specs.declared.answer.Answer.{Answer}
@@ -19,15 +19,15 @@ use Rattle.farm_keeper.specs.Faults.{is_store_failure}
 use Rattle.farm_keeper.specs.Keeping.{Continues}
 use Rattle.farm_keeper.proofs.KeepingLaws.{Continues-as, Continues-same}
 use Rattle.farm_keeper.specs.Rows.{Rows}
-use Rattle.farm_places.specs.declared.fault.PrepareFault.{PrepareFault}
-use Rattle.farm_places.specs.declared.fault.PrepareFault.TheVariants as prepare_fault
+use Rattle.farm_types.specs.declared.fault.FarmFault.{FarmFault}
+use Rattle.farm_types.specs.declared.fault.FarmFault.TheVariants as farm_fault
 use Rattle.farm_core.specs.declared.change.Change.{Change}
 use Rattle.farm_core.specs.Change.{IsReserved, Makes, Prepares, after_change, reserved_of}
 use Rattle.recorder.specs.declared.refusal.CommitRefusal.{CommitRefusal}
 use Rattle.recorder.specs.declared.refusal.CommitRefusal.TheVariants as refusal
 use Rattle.recorder.specs.declared.refusal.RecordFault.{RecordFault}
 use Rattle.recorder.specs.declared.refusal.RecordFault.TheVariants as fault
-use Rattle.recorder.specs.Faults.{is_by_store, is_of_store, is_store_fault, is_store_refusal, of_keeper, of_prepare, of_record}
+use Rattle.recorder.specs.Faults.{is_by_store, is_of_store, is_store_fault, is_store_refusal, of_keeper, of_farm, of_record}
 use Rattle.recorder.specs.Recording.{Books, Commits, FailsToRecord, HasRecorded, HasSameRows, IsOfEntry, IsUnstoredBooking, Recording, Records, RecordsAnswered, StaysAtFault, StaysRecorded, booking}
 
 -- ---- the parts of a recorder
@@ -152,22 +152,22 @@ store_told why r err =
 
 -- ---- an entry
 
-refused_as : (f : Farm) (e : Entry) (why : PrepareFault) → Prepares f e (Err why) → Commits f e (Err (of_prepare why)) f
-refused_as f e (prepare_fault.Refused why) is = (is, refl)
-refused_as f e prepare_fault.NoMemory is = refl
+refused_as : (f : Farm) (e : Entry) (why : FarmFault) → Prepares f e (Err why) → Commits f e (Err (of_farm why)) f
+refused_as f e (farm_fault.Refused why) is = (is, refl)
+refused_as f e farm_fault.NoMemory is = refl
 
-pub commits_nothing : (f : Farm) (e : Entry) (why : PrepareFault) (r : Result Answer CommitRefusal) → IsErrAnd r (λ told. told ≡ of_prepare why) → Prepares f e (Err why)
+pub commits_nothing : (f : Farm) (e : Entry) (why : FarmFault) (r : Result Answer CommitRefusal) → IsErrAnd r (λ told. told ≡ of_farm why) → Prepares f e (Err why)
     → Commits f e r f
 commits_nothing f e why r err is =
     let p = err_from_is_err_and r err in
     subst (λ (q : Result Answer CommitRefusal). Commits f e q f) (sym (p.1 ∙ ap Err p.2)) (refused_as f e why is)
 
-not_store : (why : PrepareFault) → is_by_store (of_prepare why) ≡ false
-not_store (prepare_fault.Refused why) = refl
-not_store prepare_fault.NoMemory = refl
+not_store : (why : FarmFault) → is_by_store (of_farm why) ≡ false
+not_store (farm_fault.Refused why) = refl
+not_store farm_fault.NoMemory = refl
 
 -- preparing tells of no store
-pub never_store : (why : PrepareFault) (r : Result Answer CommitRefusal) → IsErrAnd r (λ told. told ≡ of_prepare why) → is_store_refusal r ≡ false
+pub never_store : (why : FarmFault) (r : Result Answer CommitRefusal) → IsErrAnd r (λ told. told ≡ of_farm why) → is_store_refusal r ≡ false
 never_store why r err =
     let p = err_from_is_err_and r err in
     ap is_store_refusal p.1 ∙ (ap is_by_store p.2 ∙ not_store why)

@@ -12,13 +12,16 @@ use Rattle.farm_rows.specs.declared.row_change.RowChange.TheVariants as change
 use Rattle.farm_rows.specs.Changes.{Differs, NamesExactly, change_key, row_at}
 use Rattle.farm_rows.specs.Rows.{rows_of}
 use Rattle.farm_keeper.specs.declared.row.Batch.{Batch}
-use Rattle.farm_keeper.specs.Keeping.{HoldsWith, Keeps, LeavesTaken, MayLeave}
+use Rattle.farm_keeper.specs.declared.fault.KeeperFault.{KeeperFault}
+use Rattle.farm_keeper.specs.declared.fault.KeeperFault.TheVariants as keeper_fault
+use Rattle.farm_keeper.specs.Keeping.{Committing, HoldsWith, Keeps, LeavesTaken, MayLeave}
 use Rattle.farm_keeper.specs.Rows.{Rows, rows_from}
 use Rattle.farm_keeper.specs.Rows as batched
 use Rattle.store_law.specs.Stored.{batch_of, stored, stored_row}
 use Rattle.recorder.specs.declared.refusal.RecordFault.{RecordFault}
 use Rattle.recorder.specs.declared.refusal.RecordFault.TheVariants as fault
 use Rattle.recorder.specs.Recording.{HasRecorded, HasSameRows, MayBe, StaysRecorded}
+use Rattle.recorder.specs.Telling.{IsTold, TakesEach, TellsBatch, TellsOf}
 
 -- ---- lists with and without items
 
@@ -105,3 +108,19 @@ module _ (rows : (f g : Farm) (cs : List RowChange) → IsKeptFarm f → IsKeptF
       (rows_differ some, refused holds left holds' left' f e legal (batch_of cs) stored_then keeps leaves)
   told_stays some holds left holds' left' (Err fault.NoMemory) takes keeps leaves_taken leaves =
       refused holds left holds' left' f e legal (batch_of cs) stored_then keeps leaves
+
+  -- what changes no row isn't told to the keeper
+  pub untold : cs ≡ [] → {K : Type 0} (commits : Committing K) (k : K) → TakesEach commits f (e ∷ []) k k
+  untold none commits k = (k, inl (ap rows_of (same_then none), refl), refl)
+
+  -- the batch of what changes is that of the entry
+  told_by : (cs ≡ [] → ⊥) → {K : Type 0} (commits : Committing K) (answer : Result (Unit {0}) KeeperFault) (before now : K) → commits (batch_of cs) answer before now
+      → IsTold commits f (after f e) answer before now
+  told_by some commits answer before now told = record { batch = batch_of cs; makes = stored_then; changes = rows_differ some; told = told }
+
+  pub told_entry : (cs ≡ [] → ⊥) → {K T : Type 0} (commits : Committing K) (r : Result T RecordFault) (before now : K) → TellsBatch commits (batch_of cs) r before now
+      → TellsOf commits f (e ∷ []) r before now
+  told_entry some commits (Ok done) before now told = (now, inr (told_by some commits (Ok tt) before now told), refl)
+  told_entry some commits (Err fault.Store) before now told = told_by some commits (Err keeper_fault.Failed) before now told
+  told_entry some commits (Err fault.NoMemory) before now (inl same) = inl same
+  told_entry some commits (Err fault.NoMemory) before now (inr told) = inr (told_by some commits (Err keeper_fault.NoMemory) before now told)

@@ -2,8 +2,8 @@
 use Rattle.std.specs.Prelude.{Bool, true, false, Result, Ok, Err}
 use Rattle.farm_keeper.specs.declared.fault.KeeperFault.{KeeperFault}
 use Rattle.farm_keeper.specs.declared.fault.KeeperFault.TheVariants as keeper_fault
-use Rattle.farm_places.specs.declared.fault.PrepareFault.{PrepareFault}
-use Rattle.farm_places.specs.declared.fault.PrepareFault.TheVariants as prepare_fault
+use Rattle.farm_types.specs.declared.fault.FarmFault.{FarmFault}
+use Rattle.farm_types.specs.declared.fault.FarmFault.TheVariants as farm_fault
 use Rattle.recorder.specs.declared.refusal.CommitRefusal.{CommitRefusal}
 use Rattle.recorder.specs.declared.refusal.CommitRefusal.TheVariants as refusal
 use Rattle.recorder.specs.declared.refusal.RecordFault.{RecordFault}
@@ -13,9 +13,9 @@ abbrev pub of_keeper : KeeperFault → RecordFault
 of_keeper keeper_fault.Failed = fault.Store
 of_keeper keeper_fault.NoMemory = fault.NoMemory
 
-abbrev pub of_prepare : PrepareFault → CommitRefusal
-of_prepare (prepare_fault.Refused why) = refusal.Refused why
-of_prepare prepare_fault.NoMemory = refusal.NoMemory
+abbrev pub of_farm : FarmFault → CommitRefusal
+of_farm (farm_fault.Refused why) = refusal.Refused why
+of_farm farm_fault.NoMemory = refusal.NoMemory
 
 abbrev pub of_record : RecordFault → CommitRefusal
 of_record fault.Store = refusal.Store

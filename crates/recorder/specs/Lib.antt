@@ -1,3 +1,4 @@
 pub mod Batches
 pub mod Faults
 pub mod Recording
+pub mod Telling

@@ -1,6 +1,6 @@
 //! A farm and a keeper of its rows, changed together.
 
-ghost use Rattle.std.specs.Prelude.{◌≡◌, true, Err, OnErr, OnOk};
+ghost use Rattle.std.specs.Prelude.{◌≡◌, ◌∷◌, [], true, Err, OnErr, OnOk};
 ghost use Rattle.farm_types.specs.declared.entry.Entry.{Entry};
 ghost use Rattle.farm_types.specs.Booking.{may_book};
 ghost use Rattle.farm_types.specs.Farm as farms;
@@ -13,6 +13,7 @@ ghost use Rattle.farm_core.specs.Change.{after_change, reserved_of};
 ghost use Rattle.store_law.specs.Stored.{batch_of as stored_batch};
 ghost use Rattle.recorder.specs.Faults.{is_store_fault};
 ghost use Rattle.recorder.specs.Recording.{booking, Books, HasRecorded, IsOfEntry, IsUnstoredBooking, HasSameRows, Records, StaysRecorded};
+ghost use Rattle.recorder.specs.Telling.{TellsBatch, TellsOf, due_booking};
 
 use crate::batch::batch_of;
 use crate::refusal::RecordFault;
@@ -37,6 +38,7 @@ pub(crate) fn record_in<K: Keeper>(
     ensures kept { HasRecorded (K.holds keeper.old) (K.left keeper.old) farm.old → HasRecorded (K.holds keeper.new) (K.left keeper.new) farm.new }
     ensures same { HasSameRows farm.old (after farm.old entry.now) → keeper.new ≡ keeper.old }
     ensures keeper { Continues K.tells K.faults keeper.old keeper.new (is_store_fault result) }
+    ensures told { TellsOf K.commits farm.old (entry.now ∷ []) result keeper.old keeper.new }
 {
     let mut change = change;
     match make_ready(alloc, farm, keeper, entry, &mut change) {
@@ -69,6 +71,7 @@ fn make_ready<K: Keeper>(
     ensures kept { StaysRecorded (K.holds keeper.old) (K.left keeper.old) (K.holds keeper.new) (K.left keeper.new) farm.old entry.now result }
     ensures same { HasSameRows farm.old (after farm.old entry.now) → keeper.new ≡ keeper.old }
     ensures keeper { Continues K.tells K.faults keeper.old keeper.new (is_store_fault result) }
+    ensures told { TellsOf K.commits farm.old (entry.now ∷ []) result keeper.old keeper.new }
 {
     farm.kept();
     let rows = farm.changes(alloc, entry, change)?;
@@ -89,6 +92,8 @@ fn reserve_and_keep<K: Keeper>(
         → StaysRecorded (K.holds keeper.old) (K.left keeper.old) (K.holds keeper.new) (K.left keeper.new) f e result }
     ensures same { (f : farms.Farm) (e : Entry) → IsKeptFarm f → IsLegalStep f e → NamesExactly f (after f e) rows.now → HasSameRows f (after f e) → keeper.new ≡ keeper.old }
     ensures keeper { Continues K.tells K.faults keeper.old keeper.new (is_store_fault result) }
+    ensures told { (f : farms.Farm) (e : Entry) → IsKeptFarm f → IsLegalStep f e → NamesExactly f (after f e) rows.now
+        → TellsOf K.commits f (e ∷ []) result keeper.old keeper.new }
 {
     farm.reserve(alloc, change)?;
     keep(alloc, keeper, rows)
@@ -107,6 +112,7 @@ pub(crate) fn book_in<K: Keeper>(
     ensures kept { HasRecorded (K.holds keeper.old) (K.left keeper.old) farm.old → HasRecorded (K.holds keeper.new) (K.left keeper.new) farm.new }
     ensures same { IsUnstoredBooking farm.old slot host moment → keeper.new ≡ keeper.old }
     ensures keeper { Continues K.tells K.faults keeper.old keeper.new (is_store_fault result) }
+    ensures told { TellsOf K.commits farm.old (due_booking farm.old slot host moment) result keeper.old keeper.new }
 {
     if farm.may_book(slot, host) {
         return book_there(alloc, farm, keeper, slot, host, moment);
@@ -128,6 +134,7 @@ fn book_there<K: Keeper>(
     ensures kept { HasRecorded (K.holds keeper.old) (K.left keeper.old) farm.old → HasRecorded (K.holds keeper.new) (K.left keeper.new) farm.new }
     ensures same { HasSameRows farm.old (after farm.old (booking slot host moment)) → keeper.new ≡ keeper.old }
     ensures keeper { Continues K.tells K.faults keeper.old keeper.new (is_store_fault result) }
+    ensures told { TellsOf K.commits farm.old (booking slot host moment ∷ []) result keeper.old keeper.new }
 {
     keep_booking(alloc, farm, keeper, slot, host, moment)?;
     Ok(farm.book_if(slot, host, moment))
@@ -146,6 +153,7 @@ fn keep_booking<K: Keeper>(
     ensures kept { StaysRecorded (K.holds keeper.old) (K.left keeper.old) (K.holds keeper.new) (K.left keeper.new) farm.now (booking slot host moment) result }
     ensures same { HasSameRows farm.now (after farm.now (booking slot host moment)) → keeper.new ≡ keeper.old }
     ensures keeper { Continues K.tells K.faults keeper.old keeper.new (is_store_fault result) }
+    ensures told { TellsOf K.commits farm.now (booking slot host moment ∷ []) result keeper.old keeper.new }
 {
     farm.kept();
     let rows = farm.booking_changes(alloc, slot, host, moment)?;
@@ -158,6 +166,8 @@ fn keep<K: Keeper>(alloc: Global, keeper: &mut K, changes: &[RowChange]) -> Resu
         → StaysRecorded (K.holds keeper.old) (K.left keeper.old) (K.holds keeper.new) (K.left keeper.new) f e result }
     ensures same { (f : farms.Farm) (e : Entry) → IsKeptFarm f → IsLegalStep f e → NamesExactly f (after f e) changes.now → HasSameRows f (after f e) → keeper.new ≡ keeper.old }
     ensures keeper { Continues K.tells K.faults keeper.old keeper.new (is_store_fault result) }
+    ensures told { (f : farms.Farm) (e : Entry) → IsKeptFarm f → IsLegalStep f e → NamesExactly f (after f e) changes.now
+        → TellsOf K.commits f (e ∷ []) result keeper.old keeper.new }
 {
     batches_make_the_rows();
     farms_differ_in_their_stores();
@@ -179,6 +189,7 @@ fn commit<K: Keeper>(
     ensures left_ok { OnOk result (LeavesTaken (stored_batch changes.now) (K.holds keeper.old) (K.left keeper.new)) }
     ensures left_err { OnErr result (MayLeave (stored_batch changes.now) (K.holds keeper.old) (K.left keeper.old) (K.left keeper.new)) }
     ensures keeper { Continues K.tells K.faults keeper.old keeper.new (is_store_fault result) }
+    ensures told { TellsBatch K.commits (stored_batch changes.now) result keeper.old keeper.new }
 {
     let batch = batch_of(alloc, changes)?;
     keeper.commit(alloc, &batch)?;

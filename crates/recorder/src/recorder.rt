@@ -1,18 +1,19 @@
 //! The farm with its keeper.
 
-ghost use Rattle.std.specs.Prelude.{◌≡◌};
+ghost use Rattle.std.specs.Prelude.{◌≡◌, ◌∷◌, []};
 ghost use Rattle.farm_types.specs.Formed.{IsFormed};
 ghost use Rattle.farm_types.specs.Step.{HasCondition, after};
 ghost use Rattle.farm_keeper.specs.Keeping.{Continues};
 ghost use Rattle.farm_core.specs.Change.{Prepares, after_change};
 ghost use Rattle.recorder.specs.Faults.{is_store_fault, is_store_refusal};
 ghost use Rattle.recorder.specs.Recording.{RecordsAnswered, Books, Commits, HasRecorded, IsOfEntry, IsUnstoredBooking, IsUnstored, HasSameRows, Records};
+ghost use Rattle.recorder.specs.Telling.{TellsCommit, TellsOf, due_booking};
 
 use crate::keeping::{book_in, record_in};
 use crate::refusal::{CommitRefusal, RecordFault};
-use farm_core::{Change, Farm, PrepareFault};
+use farm_core::{Change, Farm};
 use farm_keeper::Keeper;
-use farm_types::{Answer, Entry, HostNo, Slot};
+use farm_types::{Answer, Entry, FarmFault, HostNo, Slot};
 use std::alloc::Global;
 use std::marker::Model;
 
@@ -50,6 +51,13 @@ impl<K: Keeper> PlainRecorder<K> {
         &self.farm
     }
 
+    /// What its keeper has: where it tells the truth, the farm's rows, and a stop leaves these, or those of the farm one legal entry further.
+    pub fn recorded(&self)
+        ensures { K.tells self.now.keeper → HasRecorded (K.holds self.now.keeper) (K.left self.now.keeper) self.now.farm }
+    {
+        let _farm = &self.farm;
+    }
+
     /// The keeper, as it is.
     pub fn close(self) -> K
         ensures value { result ≡ self.keeper }
@@ -60,7 +68,7 @@ impl<K: Keeper> PlainRecorder<K> {
 
     /// Prepares what the entry does, and changes nothing. The entry is within its forms and limits, and an entry to book is one whose booking may be
     /// recorded.
-    pub fn prepare(&self, alloc: Global, entry: &Entry) -> Result<Change, PrepareFault>
+    pub fn prepare(&self, alloc: Global, entry: &Entry) -> Result<Change, FarmFault>
         requires condition { HasCondition self.now.farm entry.now.act }
         requires formed { IsFormed entry.now }
         ensures { Prepares self.now.farm entry.now result }
@@ -79,6 +87,7 @@ impl<K: Keeper> PlainRecorder<K> {
         ensures farm { Records self.old.farm (after_change self.old.farm change) result self.new.farm }
         ensures same { HasSameRows self.old.farm (after self.old.farm entry.now) → self.new.keeper ≡ self.old.keeper }
         ensures keeper { Continues K.tells K.faults self.old.keeper self.new.keeper (is_store_fault result) }
+        ensures told { TellsOf K.commits self.old.farm (entry.now ∷ []) result self.old.keeper self.new.keeper }
     {
         record_in(alloc, &mut self.farm, &mut self.keeper, entry, change)
     }
@@ -91,6 +100,7 @@ impl<K: Keeper> PlainRecorder<K> {
         ensures farm { Commits self.old.farm entry.now result self.new.farm }
         ensures same { IsUnstored self.old.farm entry.now → self.new.keeper ≡ self.old.keeper }
         ensures keeper { Continues K.tells K.faults self.old.keeper self.new.keeper (is_store_refusal result) }
+        ensures told { TellsCommit K.commits self.old.farm entry.now result self.old.keeper self.new.keeper }
     {
         let change = self.prepare(alloc, entry)?;
         self.record_answered(alloc, entry, change)
@@ -107,6 +117,7 @@ impl<K: Keeper> PlainRecorder<K> {
         ensures farm { RecordsAnswered self.old.farm (after_change self.old.farm change) change.act.answer result self.new.farm }
         ensures same { HasSameRows self.old.farm (after self.old.farm entry.now) → self.new.keeper ≡ self.old.keeper }
         ensures keeper { Continues K.tells K.faults self.old.keeper self.new.keeper (is_store_refusal result) }
+        ensures told { TellsCommit K.commits self.old.farm entry.now result self.old.keeper self.new.keeper }
     {
         let answer = change.answer();
         self.record(alloc, entry, change)?;
@@ -124,6 +135,7 @@ impl<K: Keeper> PlainRecorder<K> {
         ensures farm { Books self.old.farm slot host moment result self.new.farm }
         ensures same { IsUnstoredBooking self.old.farm slot host moment → self.new.keeper ≡ self.old.keeper }
         ensures keeper { Continues K.tells K.faults self.old.keeper self.new.keeper (is_store_fault result) }
+        ensures told { TellsOf K.commits self.old.farm (due_booking self.old.farm slot host moment) result self.old.keeper self.new.keeper }
     {
         book_in(alloc, &mut self.farm, &mut self.keeper, slot, host, moment)
     }

@@ -3,8 +3,7 @@
 ghost use Rattle.std.specs.Prelude.{◌≡◌};
 
 use farm_keeper::KeeperFault;
-use farm_places::PrepareFault;
-use farm_types::Refusal;
+use farm_types::{FarmFault, Refusal};
 use std::alloc::AllocError;
 
 /// Why an entry isn't recorded: the farm refuses it, the store failed, or memory ran out.
@@ -45,15 +44,15 @@ impl From<AllocError> for RecordFault {
     }
 }
 
-impl From<PrepareFault> for CommitRefusal {
-    ghost use Rattle.recorder.specs.Faults.{of_prepare};
+impl From<FarmFault> for CommitRefusal {
+    ghost use Rattle.recorder.specs.Faults.{of_farm};
 
-    ghost from_gives = { λ fault e. e ≡ of_prepare fault };
+    ghost from_gives = { λ fault e. e ≡ of_farm fault };
 
-    fn from(fault: PrepareFault) -> CommitRefusal {
+    fn from(fault: FarmFault) -> CommitRefusal {
         match fault {
-            PrepareFault::Refused { why } => CommitRefusal::Refused { why },
-            PrepareFault::NoMemory => CommitRefusal::NoMemory,
+            FarmFault::Refused { why } => CommitRefusal::Refused { why },
+            FarmFault::NoMemory => CommitRefusal::NoMemory,
         }
     }
 }

@@ -1,13 +1,11 @@
 -- What rows of frames keep that fit the rows before them.
-use Rattle.std.proofs.Common.{◌≡◌, ◌≤◌, ℕ, suc, zero, ◌+◌, ◌-◌, ◌*◌, Bool, true, false, cond, ◌&&◌, not, eqb, leb, ltb, List, [], ◌∷◌, ◌++◌, length, Option, Some, None, refl, sym, ap, subst, ◌∙◌, arith, ℤ}
+use Rattle.std.proofs.Common.{◌≡◌, ◌≤◌, ℕ, suc, zero, ◌+◌, ◌-◌, Bool, true, false, cond, ◌&&◌, not, eqb, leb, ltb, List, [], ◌∷◌, ◌++◌, length, Option, Some, None, refl, sym, ap, subst, ◌∙◌, arith, ℤ}
 use Rattle.std.specs.Prelude.{replicate, slice_get, is_some}
 use Rattle.std.specs.List.{find, list_all, list_any, position_or_len, sum_by}
 use Rattle.std.specs.Ordering.{int_eq}
 use Rattle.std.specs.Cmp.Derive.{both_true}
 use Rattle.std.proofs.lemmas.Bool.{eq-eqb, eqb-true, false≢true, le-leb, leb-true, lt-ltb, ltb-false, ltb-true, not-true}
-use Rattle.std.proofs.lemmas.List.{append_assoc}
-use Rattle.std.proofs.lemmas.List.Folds.{sum_by-replicate}
-use Rattle.std.proofs.lemmas.List.Sums.{sum_by-append, sum_by-cons}
+use Rattle.std.proofs.lemmas.List.{append_assoc, length-replicate}
 use Rattle.std.proofs.lemmas.Option.{none-some, same_Some}
 use Rattle.farm_types.specs.Booking.{is_up}
 use Rattle.farm_types.specs.declared.attempt.ProcRow.{ProcRow}
@@ -19,12 +17,12 @@ use Rattle.farm_types.specs.declared.rows.JobRow.{JobRow}
 use Rattle.farm_types.specs.declared.rows.LayerRow.{LayerRow}
 use Rattle.farm_types.specs.declared.slot_row.Frame.{Frame}
 use Rattle.farm_types.specs.declared.slot_row.SlotRow.{SlotRow}
-use Rattle.farm_types.specs.Farm.{Farm, for_some, is_placed, layer_at, slot_from, sub_at, sub_of}
+use Rattle.farm_types.specs.Farm.{Farm, for_some, is_placed, layer_at, slot_from, sub_of}
 use Rattle.farm_types.specs.Kept.{EachOnce, EndsUsed, KeepsAttempts, is_kept_slot, is_setup, is_used, layer_in}
 use Rattle.farm_types.specs.Ranges.{range_numbers}
 use Rattle.farm_types.specs.Run.{HasItsAttempt, IsSound}
 use Rattle.farm_types.specs.Sums.{cores_on, memory_on, used_cores, used_memory}
-use Rattle.farm_types.proofs.Lists.{and_both, list_all-at, list_all-from_at}
+use Rattle.farm_types.proofs.Lists.{list_all-at, list_all-from_at}
 use Rattle.farm_types.proofs.Passes.{for_some-there}
 use Rattle.farm_law.proofs.KeptAttempts.{Fits, attempts_from_each, each_fits, none_fits}
 use Rattle.farm_law.proofs.KeptJobsCounts.{count_at, count_from_once, count_there, counts_frame, once_from_count, stands_at}
@@ -34,9 +32,9 @@ use Rattle.farm_rows.specs.declared.frame_row.FrameRow.{FrameRow}
 use Rattle.farm_rows.specs.declared.frame_row.StoredFrame.{StoredFrame}
 use Rattle.farm_rows.specs.declared.frame_row.StoredState.{StoredState}
 use Rattle.farm_rows.specs.declared.frame_row.StoredState.TheVariants as stored
-use Rattle.farm_rows.specs.Recovery.{attempt_at, attempt_fits, attempt_of, frame_of, host_takes, numbers_in, position_of, slot_fits, slot_row, state_of, taken_fits, unused_slot, with_slot}
-use Rattle.recovery_law.proofs.Fits.{AttemptFits, attempt_parts, frame_parts, slot_parts}
-use Rattle.recovery_law.proofs.RowKinds.{gap_length, slots_long}
+use Rattle.farm_rows.specs.Recovery.{attempt_at, attempt_fits, attempt_of, frame_of, numbers_in, position_of, slot_fits, slot_row, state_of, taken_fits, unused_slot, with_slot}
+use Rattle.farm_rows.proofs.FrameFits.{AttemptFits, attempt_parts, frame_parts, slot_parts, takes_parts}
+use Rattle.farm_rows.proofs.OneSlotMore.{slots_long, sum_with}
 
 -- ---- one slot more
 
@@ -60,19 +58,11 @@ pub each_with : (P : ℕ → SlotRow → Type 0) (slots : List SlotRow) (slot : 
 each_with P slots slot t past old unused new =
     let n = slot - length slots in
     let gap = replicate n unused_slot in
-    let place : length slots + length gap ≡ slot = omega (arith, past, gap_length n) in
+    let place : length slots + length gap ≡ slot = omega (arith, past, length-replicate {A = SlotRow} n unused_slot) in
     let last : P (length slots + length gap) t = subst (λ (k : ℕ). P k t) (sym place) new in
     each_append P slots (gap ++ t ∷ []) old
     (each_append (λ k. P (length slots + k)) gap (t ∷ []) (each_unused (λ k. P (length slots + k)) n (λ k. unused (length slots + k)))
     (each_one (λ k. P (length slots + k)) (length gap) t last))
-
--- a sum grows by what the new one weighs
-pub sum_with : (weight : SlotRow → ℕ) (slots : List SlotRow) (slot : ℕ) (t : SlotRow) → weight unused_slot ≡ 0 → sum_by weight (with_slot slots slot t) ≡ sum_by weight slots + weight t
-sum_with weight slots slot t none =
-    let n = slot - length slots in
-    let gap = replicate n unused_slot in
-    let zeros : sum_by weight gap ≡ 0 = sum_by-replicate weight n unused_slot ∙ ap (λ (w : ℕ). n * w) none ∙ omega arith in
-    omega (arith, sum_by-append weight slots (gap ++ t ∷ []), sum_by-append weight gap (t ∷ []), sum_by-cons weight t [], zeros)
 
 ends_push : (slots : List SlotRow) (t : SlotRow) → is_used t ≡ true → EndsUsed (slots ++ t ∷ [])
 ends_push [] t used = used
@@ -166,24 +156,10 @@ module _ (f : Farm) where
   has_attempt : (slot version : ℕ) (x : StoredFrame) (boot host since : ℕ) (k : AttemptFits f version x boot host since) → attempt_at f slot version x (stored.Running boot host since) ≡ Some (proc_of slot version x boot host since k)
   has_attempt slot version x boot host since k = rw (k.has_job, k.has_layer, k.has_host) refl
 
-  -- what the host has
-  record Takes (boot host : ℕ) (job : JobRow) (layer : LayerRow) (h : HostRow) : Type 0 where
-    up : (is_up h.state && eqb h.boot boot) ≡ true
-    subscribed : is_some (sub_at f (sub_of job.show h.alloc)) ≡ true
-    cores : used_cores f host + layer.cores ≤ h.cores
-    memory : used_memory f host + layer.memory ≤ h.memory
-
-  takes_parts : (boot host : ℕ) (job : JobRow) (layer : LayerRow) (h : HostRow) → host_takes f boot host job layer h ≡ true → Takes boot host job layer h
-  takes_parts boot host job layer h takes =
-      let up = and_both (is_up h.state && eqb h.boot boot) _ takes in
-      let sub = and_both (is_some (sub_at f (sub_of job.show h.alloc))) _ up.1 in
-      let room = and_both (leb (used_cores f host + layer.cores) h.cores) _ sub.1 in
-      record { up = up.0; subscribed = sub.0; cores = leb-true _ h.cores room.0; memory = leb-true _ h.memory room.1 }
-
   fits_running : (slot version : ℕ) (x : StoredFrame) (frame : Frame) (boot host since : ℕ) (k : AttemptFits f version x boot host since) → frame.job ≡ x.job → frame.layer ≡ x.layer
       → Fits f (record { version = version; frame = Some frame; proc = Some (proc_of slot version x boot host since k) })
   fits_running slot version x frame boot host since k job layer =
-      let t = takes_parts boot host k.job k.layer k.on k.takes in
+      let t = takes_parts f boot host k.job k.layer k.on k.takes in
       record {
         hosted = for_some-there (slice_get f.hosts host) (λ row. is_up row.state && eqb row.boot boot) k.on k.has_host t.up;
         measured = for_some-there (layer_in f.layers frame.job frame.layer) (λ l. eqb k.layer.cores l.cores && eqb k.layer.memory l.memory) k.layer (rw (job, layer) k.has_layer) (both_true (eq-eqb k.layer.cores k.layer.cores refl) (eq-eqb k.layer.memory k.layer.memory refl));
@@ -229,7 +205,7 @@ module _ (f : Farm) where
       → used_cores f n + cores_on n (attempt_at f slot version x state) ≤ row.cores
   cores_room slot version x (stored.Running boot host since) h n row here old =
       let k = attempt_parts f version x boot host since h in
-      let t = takes_parts boot host k.job k.layer k.on k.takes in
+      let t = takes_parts f boot host k.job k.layer k.on k.takes in
       subst (λ (o : Option ProcRow). used_cores f n + cores_on n o ≤ row.cores) (sym (has_attempt slot version x boot host since k))
       (room_step (eqb host n) (used_cores f n) k.layer.cores host n (λ r. r.cores) k.on row refl k.has_host here old (λ same. subst (λ (m : ℕ). used_cores f m + k.layer.cores ≤ k.on.cores) same t.cores))
   cores_room slot version x stored.Setup h n row here old = omega (arith, old)
@@ -243,7 +219,7 @@ module _ (f : Farm) where
       → used_memory f n + memory_on n (attempt_at f slot version x state) ≤ row.memory
   memory_room slot version x (stored.Running boot host since) h n row here old =
       let k = attempt_parts f version x boot host since h in
-      let t = takes_parts boot host k.job k.layer k.on k.takes in
+      let t = takes_parts f boot host k.job k.layer k.on k.takes in
       subst (λ (o : Option ProcRow). used_memory f n + memory_on n o ≤ row.memory) (sym (has_attempt slot version x boot host since k))
       (room_step (eqb host n) (used_memory f n) k.layer.memory host n (λ r. r.memory) k.on row refl k.has_host here old (λ same. subst (λ (m : ℕ). used_memory f m + k.layer.memory ≤ k.on.memory) same t.memory))
   memory_room slot version x stored.Setup h n row here old = omega (arith, old)

@@ -1,26 +1,24 @@
 -- What the rows say once nothing is at fault: each number has its frame, ends are there, and what the draft keeps is what every farm keeps of its rows.
-use Rattle.std.proofs.Common.{◌≡◌, ◌<◌, ◌≤◌, ℕ, ℤ, suc, zero, ◌+◌, ◌-◌, ◌*◌, Bool, true, false, cond, ◌&&◌, not, eqb, leb, ltb, List, [], ◌∷◌, map, length, Option, Some, None, refl, sym, ap, subst, ◌∙◌, arith, option_map}
+use Rattle.std.proofs.Common.{◌≡◌, ◌<◌, ◌≤◌, ℕ, ℤ, suc, zero, ◌+◌, ◌-◌, ◌*◌, Bool, true, false, cond, ◌&&◌, not, eqb, leb, ltb, List, [], ◌∷◌, length, Option, Some, None, refl, sym, ap, subst, ◌∙◌, arith}
 use Rattle.std.specs.Prelude.{◌/◌, bytes_eq, is_some, slice_get}
 use Rattle.std.specs.List.{filter, find, list_all, list_any, position_or_len}
 use Rattle.std.specs.Ordering.{int_eq}
 use Rattle.std.specs.Cmp.Derive.{both_true}
-use Rattle.std.proofs.lemmas.Bool.{eqb-true, false≢true, leb-true, ltb-true, or_parts, or_left, or_right}
+use Rattle.std.proofs.lemmas.Bool.{eqb-true, false≢true, leb-true, ltb-true, or_left, or_right}
 use Rattle.std.proofs.lemmas.Cmp.{int_eq_equiv}
 use Rattle.std.proofs.lemmas.List.Folds.{find_at}
 use Rattle.std.proofs.lemmas.Option.{none-some, same_Some}
-use Rattle.farm_types.specs.DependActs.{has_number, or_else}
-use Rattle.farm_types.specs.Depends.{groups_of, layer_shape, or_first, slots_placed}
+use Rattle.farm_types.specs.DependActs.{has_number}
 use Rattle.farm_types.specs.declared.depend.DependEnd.{DependEnd}
 use Rattle.farm_types.specs.declared.depend.DependRow.{DependRow}
-use Rattle.farm_types.specs.declared.limits.TheConstants.{LAST_VERSION, MOST_ALLOCS, MOST_LAYERS, SLOT_LIMIT, SUB_NUMBERS}
+use Rattle.farm_types.specs.declared.limits.TheConstants.{LAST_VERSION, MOST_ALLOCS, MOST_LAYERS, SUB_NUMBERS}
 use Rattle.farm_types.specs.declared.rows.JobRow.{JobRow}
 use Rattle.farm_types.specs.declared.rows.LayerRow.{LayerRow}
 use Rattle.farm_types.specs.declared.slot_row.Frame.{Frame}
 use Rattle.farm_types.specs.declared.slot_row.SlotRow.{SlotRow}
-use Rattle.farm_types.specs.Farm.{Farm, for_some, is_placed, layers_of, slot_from}
+use Rattle.farm_types.specs.Farm.{Farm, for_some, layers_of, slot_from}
 use Rattle.farm_types.specs.Finish.{finishes}
 use Rattle.farm_types.specs.Forms.{is_between, is_name_text}
-use Rattle.farm_types.specs.Groups.{groups_by, part_at}
 use Rattle.farm_types.specs.Kept.{EachThere, KeepsJobs, KeepsRows, KeepsWork, for_any, frames_said, has_frame_in, has_part, is_end_there, is_formed_layer, is_kept_frame, is_kept_slot, is_kept_sub, is_of_pending, is_pending_job, layer_in, runs_unmet}
 use Rattle.farm_types.specs.Ranges.{range_numbers}
 use Rattle.farm_types.specs.Rising.{IsRising, depend_key, job_key, layer_key, sub_key}
@@ -31,37 +29,20 @@ use Rattle.farm_types.proofs.Passes.{for_some-there}
 use Rattle.farm_law.proofs.KeptJobsRows.{frame_kept}
 use Rattle.depend_law.proofs.Among.{In, kept_from, rising_once}
 use Rattle.farm_rows.specs.declared.farm_row.FarmRow.TheVariants as row
-use Rattle.farm_rows.specs.Recovery.{StoredKey, end_fault, end_is_there, first_depend, first_job, first_layer, first_slot, groups_so_far, head_ends, is_frame_in, is_part_in, is_wrongly_marked, lacks_frames, lacks_number, lacks_slots, layer_so_far, slot_or, slots_so_far}
+use Rattle.farm_rows.specs.Recovery.{StoredKey, end_fault, end_is_there, first_depend, first_job, first_layer, first_slot, head_ends, is_frame_in, is_part_in, is_wrongly_marked, lacks_frames, lacks_slots}
+use Rattle.farm_rows.proofs.Faultless.{each_there, first_fails, groups_alike, neither, none_told}
 use Rattle.recovery_law.proofs.DraftDepends.{HasAllGroups}
 use Rattle.recovery_law.proofs.Drafts.{Draft}
 use Rattle.recovery_law.proofs.Ordered.{InOrder, rises}
 
 -- ---- nothing at fault
 
-neither : {X : Type 0} (a b : Option X) → or_else a b ≡ None → (a ≡ None) × (b ≡ None)
-neither None b e = (refl, e)
-neither (Some x) b e = absurd (none-some x (sym e))
-
-unfound_step : {X : Type 0} (b : Bool) (y : X) (later : Option X) → cond b (Some y) later ≡ None → (b ≡ false) × (later ≡ None)
-unfound_step true y later e = absurd (none-some y (sym e))
-unfound_step false y later e = (refl, e)
-
--- where none is found, none passes
-pub none_passes : {X : Type 0} (test : X → Bool) (xs : List X) → find test xs ≡ None → (n : ℕ) (x : X) → slice_get xs n ≡ Some x → test x ≡ false
-none_passes test [] e n x at = absurd (none-some x at)
-none_passes test (y ∷ ys) e zero x at = subst (λ z. test z ≡ false) (same_Some y x at) (unfound_step (test y) y (find test ys) e).0
-none_passes test (y ∷ ys) e (suc n) x at = none_passes test ys (unfound_step (test y) y (find test ys) e).1 n x at
-
-none_of_map : {X Y : Type 0} (change : X → Y) (o : Option X) → option_map change o ≡ None → o ≡ None
-none_of_map change None e = refl
-none_of_map change (Some x) e = absurd (none-some (change x) (sym e))
-
 no_slot : (test : ℕ → SlotRow → Bool) (place : ℕ) (slots : List SlotRow) → first_slot test place slots ≡ None → (n : ℕ) (s : SlotRow) → slice_get slots n ≡ Some s → test (place + n) s ≡ false
 no_slot test place [] e n s at = absurd (none-some s at)
 no_slot test place (t ∷ ts) e zero s at =
-    subst (λ (k : ℕ). test k s ≡ false) (omega arith) (subst (λ (r : SlotRow). test place r ≡ false) (same_Some t s at) (unfound_step (test place t) (8, place) (first_slot test (place + 1) ts) e).0)
+    subst (λ (k : ℕ). test k s ≡ false) (omega arith) (subst (λ (r : SlotRow). test place r ≡ false) (same_Some t s at) (first_fails (test place t) (8, place) (first_slot test (place + 1) ts) e).0)
 no_slot test place (t ∷ ts) e (suc n) s at =
-    subst (λ (k : ℕ). test k s ≡ false) (omega arith) (no_slot test (place + 1) ts (unfound_step (test place t) (8, place) (first_slot test (place + 1) ts) e).1 n s at)
+    subst (λ (k : ℕ). test k s ≡ false) (omega arith) (no_slot test (place + 1) ts (first_fails (test place t) (8, place) (first_slot test (place + 1) ts) e).1 n s at)
 
 -- what no fault says
 pub record NoFault (f : Farm) : Type 0 where
@@ -83,69 +64,22 @@ no_fault f e =
     let runs = neither (first_slot (runs_unmet f) 0 f.slots) (first_slot (opens f) 0 f.slots) marked.1 in
     record {
       head = head.0;
-      frames = none_passes (lacks_frames f) f.jobs (none_of_map _ (find (lacks_frames f) f.jobs) frames.0);
-      slots = none_passes (lacks_slots f) f.layers (none_of_map _ (find (lacks_slots f) f.layers) slots.0);
-      work = none_passes (finishes f.slots) f.jobs (none_of_map _ (find (finishes f.slots) f.jobs) work.0);
-      marked = none_passes (is_wrongly_marked f) f.depends (none_of_map _ (find (is_wrongly_marked f) f.depends) marked.0);
+      frames = none_told _ (lacks_frames f) f.jobs frames.0;
+      slots = none_told _ (lacks_slots f) f.layers slots.0;
+      work = none_told _ (finishes f.slots) f.jobs work.0;
+      marked = none_told _ (is_wrongly_marked f) f.depends marked.0;
       runs = λ n s at. subst (λ (k : ℕ). runs_unmet f k s ≡ false) (omega arith) (no_slot (runs_unmet f) 0 f.slots runs.0 n s at);
       blocked = λ n s at. subst (λ (k : ℕ). opens f k s ≡ false) (omega arith) (no_slot (opens f) 0 f.slots runs.1 n s at);
     }
 
 -- ---- each number has its frame
 
-not_false : (b : Bool) → not b ≡ false → b ≡ true
-not_false true e = refl
-not_false false e = absurd (false≢true (sym e))
-
-pub each_numbered : (f : Farm) (l : LayerRow) (position : ℕ) (ns : List ℤ) → lacks_number f l position ns ≡ false → (k : ℕ) → k < length ns → is_some (slot_from 0 (is_placed l.job l.place (position + k)) f.slots) ≡ true
-each_numbered f l position [] none k below = absurd (omega (arith, below))
-each_numbered f l position (n ∷ ns) none zero below =
-    let here = not_false _ (or_parts (not (is_some (slot_from 0 (is_placed l.job l.place position) f.slots))) (lacks_number f l (position + 1) ns) none).0 in
-    subst (λ (p : ℕ). is_some (slot_from 0 (is_placed l.job l.place p) f.slots) ≡ true) (omega arith) here
-each_numbered f l position (n ∷ ns) none (suc k) below =
-    let later = (or_parts (not (is_some (slot_from 0 (is_placed l.job l.place position) f.slots))) (lacks_number f l (position + 1) ns) none).1 in
-    subst (λ (p : ℕ). is_some (slot_from 0 (is_placed l.job l.place p) f.slots) ≡ true) (omega arith) (each_numbered f l (position + 1) ns later k (omega (arith, below)))
-
 pub there : (f : Farm) → NoFault f → EachThere f.layers f.slots
-there f fine n l at position below =
-    subst (λ (p : ℕ). is_some (slot_from 0 (is_placed l.job l.place p) f.slots) ≡ true) (omega arith) (each_numbered f l 0 (range_numbers l.range) (fine.slots n l at) position below)
+there f fine = each_there f fine.slots
 
 -- so groups so far are all groups
-stands_in : (none : ℕ) (o : Option ℕ) → is_some o ≡ true → slot_or none o ≡ or_first o
-stands_in none None h = absurd (false≢true h)
-stands_in none (Some slot) h = refl
-
-slots_same : (none : ℕ) (slots : List SlotRow) (l : LayerRow) (position : ℕ) (ns : List ℤ) → ((k : ℕ) → k < length ns → is_some (slot_from 0 (is_placed l.job l.place (position + k)) slots) ≡ true) → slots_so_far none slots l position ns ≡ slots_placed slots l.job l.place position ns
-slots_same none slots l position [] each = refl
-slots_same none slots l position (n ∷ ns) each =
-    let first : is_some (slot_from 0 (is_placed l.job l.place position) slots) ≡ true = subst (λ (p : ℕ). is_some (slot_from 0 (is_placed l.job l.place p) slots) ≡ true) (omega arith) (each 0 (omega arith)) in
-    let here = stands_in none (slot_from 0 (is_placed l.job l.place position) slots) first in
-    let rest = slots_same none slots l (position + 1) ns (λ k below. subst (λ (p : ℕ). is_some (slot_from 0 (is_placed l.job l.place p) slots) ≡ true) (omega arith) (each (suc k) (omega (arith, below)))) in
-    λ j. here j ∷ rest j
-
-map_alike : {X Y : Type 0} (first second : X → Y) (xs : List X) → ((n : ℕ) (x : X) → slice_get xs n ≡ Some x → first x ≡ second x) → map first xs ≡ map second xs
-map_alike first second [] same = refl
-map_alike first second (x ∷ xs) same =
-    let here = same 0 x refl in
-    let rest = map_alike first second xs (λ n y at. same (suc n) y at) in
-    λ j. here j ∷ rest j
-
-layer_alike : (past : ℕ) (f : Farm) (l : LayerRow) → lacks_slots f l ≡ false → layer_so_far past f.slots l ≡ layer_shape f.slots l
-layer_alike past f l none =
-    ap (λ (slots : List ℕ). record { name = l.name; numbers = range_numbers l.range; slots = slots })
-    (slots_same past f.slots l 0 (range_numbers l.range) (λ k below. each_numbered f l 0 (range_numbers l.range) none k below))
-
-layers_alike : (f : Farm) → NoFault f → (past job : ℕ) → map (layer_so_far past f.slots) (layers_of f.layers job) ≡ map (layer_shape f.slots) (layers_of f.layers job)
-layers_alike f fine past job =
-    map_alike (layer_so_far past f.slots) (layer_shape f.slots) (layers_of f.layers job)
-    (λ n l at. let own = kept_from (λ (k : LayerRow). eqb k.job job) f.layers n l at in layer_alike past f l (fine.slots own.0.0 l own.0.1))
-
 pub all_groups : (f : Farm) → NoFault f → HasAllGroups f
-unfolding groups_of groups_so_far
-all_groups f fine d =
-    let waiters = layers_alike f fine SLOT_LIMIT d.waiter.job in
-    let targets = layers_alike f fine (SLOT_LIMIT + 1) d.target.job in
-    λ j. groups_by d.kind d.any (part_at d.waiter) (part_at d.target) (record { layers = waiters j }) (record { layers = targets j })
+all_groups f fine = groups_alike f (there f fine)
 
 -- ---- ends of depends
 

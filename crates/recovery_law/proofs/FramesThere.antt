@@ -1,5 +1,5 @@
 -- The frames that depends name have slots, and so have all frames of a layer: the groups of a depend are those of the rows so far.
-use Rattle.std.proofs.Common.{◌≡◌, ◌≤◌, ◌<◌, ℕ, ℤ, suc, zero, ◌+◌, ◌*◌, eqb, leb, Bool, true, false, cond, ◌&&◌, ◌||◌, List, [], ◌∷◌, map, length, is_some, Option, Some, None, refl, ap, sym, subst, ◌∙◌, arith}
+use Rattle.std.proofs.Common.{◌≡◌, ℕ, ℤ, suc, zero, ◌+◌, ◌*◌, eqb, leb, Bool, true, false, cond, ◌&&◌, ◌||◌, List, [], ◌∷◌, is_some, Option, Some, None, refl, ap, sym, subst, ◌∙◌, arith}
 use Rattle.std.specs.Prelude.{bytes_eq}
 use Rattle.std.specs.List.{find, list_any, position_or_len, slice_get}
 use Rattle.std.specs.Ordering.{int_eq}
@@ -13,11 +13,10 @@ use Rattle.farm_types.specs.declared.depend.DependRow.{DependRow}
 use Rattle.farm_types.specs.declared.rows.LayerRow.{LayerRow}
 use Rattle.farm_types.specs.declared.slot_row.Frame.{Frame}
 use Rattle.farm_types.specs.declared.slot_row.SlotRow.{SlotRow}
-use Rattle.farm_types.specs.declared.limits.TheConstants.{LAST_VERSION, MOST_LAYERS, SLOT_LIMIT}
+use Rattle.farm_types.specs.declared.limits.TheConstants.{LAST_VERSION, MOST_LAYERS}
 use Rattle.farm_types.specs.DependActs.{has_number}
-use Rattle.farm_types.specs.Depends.{groups_of, layer_shape, or_first, slots_placed}
+use Rattle.farm_types.specs.Depends.{groups_of}
 use Rattle.farm_types.specs.Farm.{Farm, for_some, is_placed, layers_of, slot_from}
-use Rattle.farm_types.specs.Groups.{groups_by, part_at}
 use Rattle.farm_types.specs.Kept.{KeepsRows, for_any, has_frame_in, has_part, is_end_there, is_kept_frame, is_kept_slot, is_of_pending, layer_in}
 use Rattle.farm_types.specs.Ranges.{range_numbers}
 use Rattle.farm_types.specs.Rising.{IsRising, layer_key}
@@ -26,7 +25,8 @@ use Rattle.farm_types.proofs.Passes.{for_some-there}
 use Rattle.farm_law.proofs.Filtered.{at_kept}
 use Rattle.farm_law.proofs.KeptJobsCounts.{StandsAt, stands_at}
 use Rattle.depend_law.proofs.Among.{rising_above}
-use Rattle.farm_rows.specs.Recovery.{end_is_there, groups_so_far, is_frame_in, is_part_in, layer_so_far, slot_or, slots_so_far}
+use Rattle.farm_rows.specs.Recovery.{end_is_there, groups_so_far, is_frame_in, is_part_in}
+use Rattle.farm_rows.proofs.Faultless as faultless
 use Rattle.recovery_law.proofs.Parts.{upto_depends}
 use Rattle.recovery_law.proofs.SlotBack.{Stands, stands}
 
@@ -76,26 +76,7 @@ at_from : (test : Frame → Bool) (place : ℕ) (ss : List SlotRow) → is_some 
 at_from test place [] h = absurd (false≢true h)
 at_from test place (t ∷ ts) h = at_by test place (for_some t.frame test) t ts refl (at_from test (place + 1) ts) h
 
--- ---- groups
-
-stand_by : (none : ℕ) (o : Option ℕ) → is_some o ≡ true → slot_or none o ≡ or_first o
-stand_by none None there = absurd (false≢true there)
-stand_by none (Some slot) there = refl
-
-so_far : (none : ℕ) (slots : List SlotRow) (l : LayerRow) (position : ℕ) (ns : List ℤ) → ((p : ℕ) → position ≤ p → p < position + length ns → is_some (slot_from 0 (is_placed l.job l.place p) slots) ≡ true)
-    → slots_so_far none slots l position ns ≡ slots_placed slots l.job l.place position ns
-so_far none slots l position [] there = refl
-so_far none slots l position (n ∷ ns) there =
-    let first = stand_by none (slot_from 0 (is_placed l.job l.place position) slots) (there position (omega arith) (omega arith)) in
-    let rest = so_far none slots l (position + 1) ns (λ p low high. there p (omega (arith, low)) (omega (arith, high))) in
-    λ i. first i ∷ rest i
-
-map_alike : {X Y : Type 0} (g h : X → Y) (xs : List X) → ((n : ℕ) (x : X) → slice_get xs n ≡ Some x → g x ≡ h x) → map g xs ≡ map h xs
-map_alike g h [] alike = refl
-map_alike g h (x ∷ xs) alike =
-    let first = alike 0 x refl in
-    let rest = map_alike g h xs (λ n y at. alike (suc n) y at) in
-    λ i. first i ∷ rest i
+-- ---- numbers
 
 numbers_meet : (own named at number : ℤ) → int_eq own named ≡ true → own ≡ at → int_eq number at ≡ true → named ≡ number
 numbers_meet own named at number same is wanted = sym ((Decides-int_eq own named).0 same) ∙ is ∙ sym ((Decides-int_eq number at).0 wanted)
@@ -165,18 +146,7 @@ module _ (f : Farm) (k : KeepsRows f) where
         let both = and_both (is_of_pending f.jobs e.job) (has_part (layers_of f.layers e.job) e.layer e.frame) there in
         both_true both.0 (part_there e.job e.layer e.frame both.1)
 
-    layers_alike : (none job : ℕ) → map (layer_so_far none f.slots) (layers_of f.layers job) ≡ map (layer_shape f.slots) (layers_of f.layers job)
-    layers_alike none job =
-        map_alike (layer_so_far none f.slots) (layer_shape f.slots) (layers_of f.layers job)
-        (λ n l at.
-        let there = at_kept (λ (l : LayerRow). eqb l.job job) f.layers n l at in
-        ap (λ (slots : List ℕ). record { name = l.name; numbers = range_numbers l.range; slots = slots })
-        (so_far none f.slots l 0 (range_numbers l.range) (λ p low high. k.jobs.frames_there there.0 l there.1 p (omega (arith, high)))))
-
     -- the groups are those of the rows so far
     pub groups_alike : (d : DependRow) → groups_so_far (upto_depends f done) d ≡ groups_of f d
-    unfolding groups_so_far groups_of
-    groups_alike d =
-        let waiters = layers_alike SLOT_LIMIT d.waiter.job in
-        let targets = layers_alike (SLOT_LIMIT + 1) d.target.job in
-        λ i. groups_by d.kind d.any (part_at d.waiter) (part_at d.target) (record { layers = waiters i }) (record { layers = targets i })
+    unfolding groups_of
+    groups_alike d = faultless.groups_alike (upto_depends f done) k.jobs.frames_there d

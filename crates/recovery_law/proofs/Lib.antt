@@ -5,7 +5,6 @@ pub mod Drafts
 pub mod Ended
 pub mod FarmsKept
 pub mod Firsts
-pub mod Fits
 pub mod FramesThere
 pub mod MetSaid
 pub mod Ordered

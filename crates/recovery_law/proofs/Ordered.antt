@@ -8,7 +8,7 @@ use Rattle.farm_rows.specs.declared.farm_row.FarmRow.TheVariants as row
 use Rattle.farm_rows.specs.Recovery.{StoredKey, is_before, key_of}
 use Rattle.farm_rows.specs.Rows.{head_row, numbered, recorded_rows, slot_rows}
 use Rattle.recovery_law.proofs.RowKinds.{from_allocs, from_depends, from_hosts, from_jobs, from_layers, from_shows, from_slots, from_subs}
-use Rattle.recovery_law.proofs.Steps.{before_parts}
+use Rattle.farm_rows.proofs.RowOrder.{before_parts}
 
 -- each row comes after the one before it, the first one after a key, and the last one has a key
 abbrev pub Follow : StoredKey → List FarmRow → StoredKey → Type 0

@@ -4,7 +4,7 @@ use Rattle.std.specs.Prelude.{replicate}
 use Rattle.std.specs.List.{list_all}
 use Rattle.std.specs.Cmp.Derive.{both_true}
 use Rattle.std.proofs.lemmas.Bool.{false≢true, leb-true, le-leb}
-use Rattle.std.proofs.lemmas.List.{append_assoc, length-append}
+use Rattle.std.proofs.lemmas.List.{append_assoc, length-replicate}
 use Rattle.std.proofs.lemmas.List.Folds.{list_all-append}
 use Rattle.farm_types.specs.declared.slot_row.SlotRow.{SlotRow}
 use Rattle.farm_types.specs.Farm.{Farm}
@@ -146,10 +146,6 @@ unused_rows : (place n : ℕ) → slot_rows place (replicate n unused_slot) ≡ 
 unused_rows place zero = refl
 unused_rows place (suc n) = unused_rows (place + 1) n
 
-pub gap_length : (n : ℕ) → length (replicate n unused_slot) ≡ n
-gap_length zero = refl
-gap_length (suc n) = ap suc (gap_length n)
-
 used_row : (b : Bool) (place : ℕ) (s : SlotRow) → is_unused s ≡ b → b ≡ false → slot_rows place (s ∷ []) ≡ row.Frame (frame_row place s) ∷ []
 used_row true place s is used = absurd (false≢true (sym used))
 used_row false place s is used = rw is refl
@@ -159,7 +155,7 @@ pub slot_added : (slots : List SlotRow) (slot : ℕ) (s : SlotRow) → length sl
 slot_added slots slot s past used =
     let gap = replicate (slot - length slots) unused_slot in
     let from : 0 + length slots ≡ length slots = omega arith in
-    let place : length slots + length gap ≡ slot = omega (arith, past, gap_length (slot - length slots)) in
+    let place : length slots + length gap ≡ slot = omega (arith, past, length-replicate {A = SlotRow} (slot - length slots) unused_slot) in
     slot_rows_more 0 slots (gap ++ s ∷ [])
     ∙ ap (λ (n : ℕ). slot_rows 0 slots ++ slot_rows n (gap ++ s ∷ [])) from
     ∙ ap (λ (rows : List FarmRow). slot_rows 0 slots ++ rows)
@@ -167,8 +163,3 @@ slot_added slots slot s past used =
     ∙ ap (λ (rows : List FarmRow). rows ++ slot_rows (length slots + length gap) (s ∷ [])) (unused_rows (length slots) (slot - length slots))
     ∙ ap (λ (n : ℕ). slot_rows n (s ∷ [])) place
     ∙ used_row (is_unused s) slot s refl used)
-
-pub slots_long : (slots : List SlotRow) (slot : ℕ) (s : SlotRow) → length slots ≤ slot → length (with_slot slots slot s) ≡ slot + 1
-slots_long slots slot s past =
-    let gap = replicate (slot - length slots) unused_slot in
-    omega (arith, length-append slots (gap ++ s ∷ []), length-append gap (s ∷ []), gap_length (slot - length slots), past)

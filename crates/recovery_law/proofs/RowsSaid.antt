@@ -25,9 +25,11 @@ use Rattle.farm_rows.specs.declared.frame_row.StoredState.TheVariants as stored
 use Rattle.farm_rows.specs.declared.head_row.HeadRow.{HeadRow}
 use Rattle.farm_rows.specs.Recovery.{StoredKey, is_before, attempt_at, attempt_fits, farm_said, key_of, row_fits, slot_fits, slot_row, state_of, taken_fits, with_slot, with_stored}
 use Rattle.farm_rows.specs.Rows.{head_row, frame_row, is_unused, numbered, recorded_rows, row_kind, rows_of, slot_rows, stored_state}
-use Rattle.recovery_law.proofs.Fits.{attempt_parts, frame_parts, slot_parts}
-use Rattle.recovery_law.proofs.RowKinds.{IsUpTo, allocs_are, depends_are, ends_with, from_allocs, from_depends, from_hosts, from_jobs, from_layers, from_shows, from_slots, from_subs, hosts_are, in_front, jobs_are, layers_are, met_are, none_between, numbered_next, slot_added, slots_are, slots_long, subs_are, up_to_more}
-use Rattle.recovery_law.proofs.Steps.{IsStep, all_rows, before_parts}
+use Rattle.farm_rows.proofs.OneSlotMore.{slots_long}
+use Rattle.farm_rows.proofs.RowOrder.{before_parts}
+use Rattle.farm_rows.proofs.FrameFits.{attempt_parts, frame_parts, slot_parts}
+use Rattle.recovery_law.proofs.RowKinds.{IsUpTo, allocs_are, depends_are, ends_with, from_allocs, from_depends, from_hosts, from_jobs, from_layers, from_shows, from_slots, from_subs, hosts_are, in_front, jobs_are, layers_are, met_are, none_between, numbered_next, slot_added, slots_are, subs_are, up_to_more}
+use Rattle.recovery_law.proofs.Steps.{IsStep, all_rows}
 
 -- ---- slots
 

@@ -1,35 +1,20 @@
 -- Rows that say a farm, one after the other: what each row keeps holds of the farm that all rows say.
-use Rattle.std.proofs.Common.{◌≡◌, ◌<◌, Bool, true, false, cond, ◌&&◌, ◌||◌, eqb, ltb, List, [], ◌∷◌, ◌++◌, Option, Some, None, refl, sym, subst, append-nil, ◌⊎◌, inl, inr}
+use Rattle.std.proofs.Common.{◌≡◌, Bool, true, false, cond, ◌&&◌, List, [], ◌∷◌, ◌++◌, Option, Some, None, refl, sym, subst, append-nil}
 use Rattle.std.specs.Prelude.{Result, Ok, Err}
-use Rattle.std.proofs.lemmas.Bool.{eqb-true, false≢true, ltb-true}
 use Rattle.std.proofs.lemmas.List.{append_assoc}
 use Rattle.farm_types.specs.Farm.{Farm}
 use Rattle.farm_types.proofs.Lists.{and_both}
 use Rattle.farm_rows.specs.declared.farm_row.FarmRow.{FarmRow}
-use Rattle.farm_rows.specs.Recovery.{StoredKey, comes_after, end_fault, ended, farm_with, is_before, key_of, row_fits, with_stored}
+use Rattle.farm_rows.specs.Recovery.{StoredKey, comes_after, end_fault, ended, farm_with, key_of, row_fits, with_stored}
 
--- ---- keys
-
-before_by : (a b c : Bool) (x y : StoredKey) → ltb x.0 y.0 ≡ a → eqb x.0 y.0 ≡ b → ltb x.1 y.1 ≡ c → (a || (b && c)) ≡ true → (x.0 < y.0) ⊎ ((x.0 ≡ y.0) × (x.1 < y.1))
-before_by true b c x y kind same id h = inl (ltb-true x.0 y.0 kind)
-before_by false true true x y kind same id h = inr (eqb-true x.0 y.0 same, ltb-true x.1 y.1 id)
-before_by false true false x y kind same id h = absurd (false≢true h)
-before_by false false c x y kind same id h = absurd (false≢true h)
-
--- a key before another has an earlier kind, or an earlier id of its kind
-pub before_parts : (x y : StoredKey) → is_before x y ≡ true → (x.0 < y.0) ⊎ ((x.0 ≡ y.0) × (x.1 < y.1))
-before_parts x y h = before_by (ltb x.0 y.0) (eqb x.0 y.0) (ltb x.1 y.1) x y refl refl refl h
-
--- ---- all rows
-
-err_ok : {X : Type 0} (key : StoredKey) (x : X) → ◌≡◌ {A = Result X StoredKey} (Err key) (Ok x) → ⊥
+pub err_ok : {X : Type 0} (key : StoredKey) (x : X) → ◌≡◌ {A = Result X StoredKey} (Err key) (Ok x) → ⊥
 err_ok key x e = cc
 
 ended_by : (o : Option StoredKey) (f g : Farm) → end_fault f ≡ o → ended f o ≡ Ok g → (f ≡ g) × (end_fault f ≡ None)
 ended_by None f g is e = (cc, is)
 ended_by (Some key) f g is e = absurd (err_ok key g e)
 
-taken_by : (b : Bool) (key : StoredKey) (rest : Result Farm StoredKey) (g : Farm) → cond b rest (Err key) ≡ Ok g → (b ≡ true) × (rest ≡ Ok g)
+pub taken_by : (b : Bool) (key : StoredKey) (rest : Result Farm StoredKey) (g : Farm) → cond b rest (Err key) ≡ Ok g → (b ≡ true) × (rest ≡ Ok g)
 taken_by true key rest g e = (refl, e)
 taken_by false key rest g e = absurd (err_ok key g e)
 

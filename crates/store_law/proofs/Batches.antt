@@ -20,7 +20,8 @@ use Rattle.farm_keeper.specs.Rows.{Key, NamesEachOnce, after, is_among, key_cmp,
 use Rattle.farm_keeper.proofs.RowLaws.{after-deleted, after-other, after-put, key_total, same_rows}
 use Rattle.row_codec.specs.RowLaws.{Fits}
 use Rattle.store_law.proofs.InOrder.{rows_rise}
-use Rattle.store_law.proofs.Keys.{HasId, is_key-true, key_itself, pair_is, pair_of, row_has_id, same_key}
+use Rattle.farm_rows.proofs.MadeRows.{is_key-same, is_key-true}
+use Rattle.store_law.proofs.Keys.{HasId, pair_is, pair_of, row_has_id, same_key}
 use Rattle.store_law.proofs.Members.{Has, all_from_has, all_has, any_has, has_behind, has_either, has_front, has_map, has_mapped, one_from_any, place_of, there}
 use Rattle.store_law.proofs.RowsFit.{fits_each}
 use Rattle.store_law.proofs.RowsThere.{has-row_at, row_at-has}
@@ -211,7 +212,7 @@ module _ (f g : Farm) (cs : List RowChange) (kept : IsKeptFarm f) (also : IsKept
   once : Once cs
   once n m c d at there same =
       let one = same_key (change_key c) (change_key d) (named_id n c at) (named_id m d there) same in
-      exact.once n m c d at there (subst (λ (k : RowKey). is_key (change_key c) k ≡ true) one (key_itself (change_key c)))
+      exact.once n m c d at there (subst (λ (k : RowKey). is_key (change_key c) k ≡ true) one (is_key-same (change_key c)))
 
   pub named_once : NamesEachOnce (batch_of cs)
   named_once = each_once cs once

@@ -1,5 +1,5 @@
 -- The rows of a farm are in the order of their kinds and ids.
-use Rattle.std.proofs.Common.{◌≡◌, ◌<◌, Bool, true, false, cond, ◌&&◌, List, [], ◌∷◌, map, Option, Some, None, Result, Ok, Err, Less, Equal, refl, ap, sym, ◌∙◌, inl, inr, ◌⊎◌}
+use Rattle.std.proofs.Common.{◌≡◌, ◌<◌, true, ◌&&◌, List, [], ◌∷◌, map, Option, Some, None, Ok, Less, Equal, ap, sym, ◌∙◌, inl, inr, ◌⊎◌}
 use Rattle.std.specs.Cmp.{nat_cmp_is}
 use Rattle.std.specs.List.{AllByRecursion}
 use Rattle.std.specs.List.Sorted.{IsStrictlySortedBy}
@@ -10,10 +10,11 @@ use Rattle.farm_types.proofs.Lists.{and_both}
 use Rattle.farm_rows.specs.declared.farm_row.FarmRow.{FarmRow}
 use Rattle.farm_rows.specs.Recovery.{StoredKey, comes_after, farm_with, is_before, row_fits, with_stored}
 use Rattle.farm_rows.specs.Rows.{rows_of}
+use Rattle.farm_rows.proofs.RowOrder.{before_parts}
 use Rattle.farm_keeper.specs.Rows.{Key, key_cmp, key_of}
 use Rattle.farm_keeper.proofs.RowLaws.{key_total}
 use Rattle.recovery_law.proofs.Said.{rows_say}
-use Rattle.recovery_law.proofs.Steps.{before_parts}
+use Rattle.recovery_law.proofs.Steps.{taken_by}
 use Rattle.store_law.proofs.Keys.{pair_of}
 use Rattle.store_law.specs.Stored.{stored_row, stored_rows}
 
@@ -30,13 +31,6 @@ abbrev pub pairs : List FarmRow → List Key
 pairs rows = map key_of (map stored_row rows)
 
 -- ---- rows that say a farm
-
-err_ok : {X : Type 0} (key : StoredKey) (x : X) → ◌≡◌ {A = Result X StoredKey} (Err key) (Ok x) → ⊥
-err_ok key x e = cc
-
-taken_by : (b : Bool) (key : StoredKey) (rest : Result Farm StoredKey) (g : Farm) → cond b rest (Err key) ≡ Ok g → (b ≡ true) × (rest ≡ Ok g)
-taken_by true key rest g e = (refl, e)
-taken_by false key rest g e = absurd (err_ok key g e)
 
 -- a row is taken where it comes after the last one, and those behind it are taken after it
 taken : (last : Option StoredKey) (f : Farm) (r : FarmRow) (rs : List FarmRow) (g : Farm) → farm_with last f (r ∷ rs) ≡ Ok g

@@ -1,14 +1,11 @@
 -- Keys of rows as pairs of a kind and an id.
-use Rattle.std.proofs.Common.{◌≡◌, ℕ, ◌+◌, ◌*◌, ◌/◌, ◌%◌, ◌<◌, ◌==◌, if◌then◌else◌, true, eqb, refl, ap, sym, ◌∙◌, arith}
-use Rattle.std.proofs.lemmas.Bool.{eq-eqb, eqb-true, false≢true}
-use Rattle.std.specs.Cmp.Derive.{both_true}
-use Rattle.farm_types.proofs.Lists.{and_both}
+use Rattle.std.proofs.Common.{◌≡◌, ℕ, ◌+◌, ◌*◌, ◌/◌, ◌%◌, ◌<◌, ◌==◌, if◌then◌else◌, refl, ap, sym, ◌∙◌, arith}
 use Rattle.farm_rows.specs.declared.farm_row.FarmRow.{FarmRow}
 use Rattle.farm_rows.specs.declared.farm_row.FarmRow.TheVariants as row
 use Rattle.farm_rows.specs.declared.ids.TheConstants.{GROUP_IDS, LAYER_IDS}
 use Rattle.farm_rows.specs.declared.row_key.RowKey.{RowKey}
 use Rattle.farm_rows.specs.declared.row_key.RowKey.TheVariants as key
-use Rattle.farm_rows.specs.Changes.{is_key, row_key}
+use Rattle.farm_rows.specs.Changes.{row_key}
 use Rattle.farm_keeper.specs.Rows.{Key, key_of}
 use Rattle.row_codec.specs.RowLaws.{Fits}
 use Rattle.store_law.specs.Stored.{key_pair, stored_row}
@@ -64,37 +61,6 @@ key_back (key.Met depend position) h = λ i. key.Met (group_number depend positi
 -- keys with ids of their own that make one pair are one
 pub same_key : (a b : RowKey) → HasId a → HasId b → key_pair a ≡ key_pair b → a ≡ b
 same_key a b has_a has_b same = sym (key_back a has_a) ∙ ap key_from same ∙ key_back b has_b
-
--- ---- tests of keys
-
-pub key_itself : (k : RowKey) → is_key k k ≡ true
-key_itself key.Head = refl
-key_itself (key.Show show) = eq-eqb show show refl
-key_itself (key.Alloc alloc) = eq-eqb alloc alloc refl
-key_itself (key.Sub sub) = eq-eqb sub sub refl
-key_itself (key.Host host) = eq-eqb host host refl
-key_itself (key.Job job) = eq-eqb job job refl
-key_itself (key.Layer job place) = both_true (eq-eqb job job refl) (eq-eqb place place refl)
-key_itself (key.Frame slot) = eq-eqb slot slot refl
-key_itself (key.Depend depend) = eq-eqb depend depend refl
-key_itself (key.Met depend position) = both_true (eq-eqb depend depend refl) (eq-eqb position position refl)
-
-pub is_key-true : (a b : RowKey) → is_key a b ≡ true → a ≡ b
-is_key-true key.Head key.Head h = refl
-is_key-true (key.Show m) (key.Show n) h = ap key.Show (eqb-true m n h)
-is_key-true (key.Alloc m) (key.Alloc n) h = ap key.Alloc (eqb-true m n h)
-is_key-true (key.Sub m) (key.Sub n) h = ap key.Sub (eqb-true m n h)
-is_key-true (key.Host m) (key.Host n) h = ap key.Host (eqb-true m n h)
-is_key-true (key.Job m) (key.Job n) h = ap key.Job (eqb-true m n h)
-is_key-true (key.Layer j m) (key.Layer k n) h =
-    let both = and_both (eqb j k) (eqb m n) h in
-    λ i. key.Layer (eqb-true j k both.0 i) (eqb-true m n both.1 i)
-is_key-true (key.Frame m) (key.Frame n) h = ap key.Frame (eqb-true m n h)
-is_key-true (key.Depend m) (key.Depend n) h = ap key.Depend (eqb-true m n h)
-is_key-true (key.Met j m) (key.Met k n) h =
-    let both = and_both (eqb j k) (eqb m n) h in
-    λ i. key.Met (eqb-true j k both.0 i) (eqb-true m n both.1 i)
-is_key-true a b h = absurd (false≢true h)
 
 -- ---- rows
 

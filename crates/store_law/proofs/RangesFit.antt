@@ -1,18 +1,13 @@
--- The text of a range is ASCII, and its numbers are within 32 bits.
-use Rattle.std.proofs.Common.{◌≡◌, ◌<◌, ◌≤◌, ℕ, suc, zero, ◌+◌, ◌*◌, ◌/◌, Bool, true, false, not, cond, leb, List, [], ◌∷◌, ◌++◌, length, Some, None, Result, Ok, Err, refl, ap, sym, subst, ◌∙◌, arith, inl, inr, div-mul-le_self, suc-mul}
+-- The numbers of a range are within 32 bits.
+use Rattle.std.proofs.Common.{◌≡◌, ◌≤◌, ℕ, suc, zero, ◌+◌, ◌*◌, ◌/◌, Bool, true, false, not, cond, List, [], ◌∷◌, ◌++◌, Some, None, Result, Ok, Err, refl, sym, subst, arith, div-mul-le_self, suc-mul}
 use Rattle.std.specs.Prelude.{ℤ, pos, negsuc, ◌+ℤ◌, ◌-ℤ◌, unsigned_abs, ◌||◌}
 use Rattle.std.specs.Int.{int_signum}
-use Rattle.std.specs.List.{AllByRecursion, filter, flat_map, list_all, list_any, slice_get}
-use Rattle.std.proofs.lemmas.Bool.{false≢true, le-leb, lt-ltb, ltb-false}
+use Rattle.std.specs.List.{AllByRecursion, filter, flat_map, slice_get}
+use Rattle.std.proofs.lemmas.Bool.{le-leb, ltb-false}
 use Rattle.std.proofs.lemmas.Int.{ints}
-use Rattle.std.proofs.lemmas.List.Folds.{list_any-append}
 use Rattle.std.proofs.lemmas.Option.{none-some, same_Some}
-use Rattle.std.proofs.lemmas.Slice.Eq.{bytes_eq-Decides}
 use Rattle.std.specs.Cmp.Derive.{both_true}
-use Rattle.farm_types.specs.declared.limits.TheConstants.{MOST_RANGE}
-use Rattle.farm_types.specs.Ranges.{is_range_text, prints_as, range_numbers, sections_in}
-use Rattle.farm_types.proofs.Lists.{and_both}
-use Rattle.farm_types.proofs.Utf8.{ascii_utf8, is_ascii}
+use Rattle.farm_types.specs.Ranges.{range_numbers, sections_in}
 use Rattle.frame_range.specs.declared.fault.RangeFault.{RangeFault}
 use Rattle.frame_range.specs.declared.limits.TheConstants.{GREATEST}
 use Rattle.frame_range.specs.declared.section.Section.{Section}
@@ -20,79 +15,23 @@ use Rattle.frame_range.specs.declared.section.Section.TheVariants.{Single, Range
 use Rattle.frame_range.specs.Checks.{has_past}
 use Rattle.frame_range.specs.Number.{is_past}
 use Rattle.frame_range.specs.Places.{has, with_all, with_number}
-use Rattle.frame_range.specs.Printed.{printed, printed_rest, printed_section}
-use Rattle.frame_range.specs.Sections.{is_mark}
 use Rattle.frame_range.specs.Sets.{fault_from, fault_of, numbers_of, set_of}
 use Rattle.frame_range.specs.Steps.{halvings, numbers_by, one_toward, section_numbers, steps_from}
 use Rattle.frame_range.proofs.AddLemmas.{first_none}
-use Rattle.frame_range.proofs.AgainLemmas.{in_range, read_set, section_printed}
-use Rattle.frame_range.proofs.GrammarLemmas.{IsForeign, form_lacks, mark_is}
-use Rattle.frame_range.proofs.TextLemmas.{digit_high, neither_true, or_false}
-use Rattle.row_codec.specs.RowLaws.{IsSigned, IsText}
+use Rattle.frame_range.proofs.AgainLemmas.{in_range, read_set}
+use Rattle.frame_range.proofs.TextLemmas.{neither_true}
+use Rattle.row_codec.specs.RowLaws.{IsSigned}
 
 -- ---- sections within their range
 
-abbrev Within : Section → Type 0
-Within s = has_past s ≡ false
+abbrev AreWithin : List Section → Type 0
+AreWithin sections = AllByRecursion (λ s. has_past s ≡ false) sections
 
-none_past : (place : ℕ) (listed : List ℤ) (ss : List Section) → fault_from place listed ss ≡ None → AllByRecursion Within ss
-none_past place listed [] h = tt
-none_past place listed (s ∷ ss) h =
+faultless_within : (place : ℕ) (listed : List ℤ) (ss : List Section) → fault_from place listed ss ≡ None → AreWithin ss
+faultless_within place listed [] h = tt
+faultless_within place listed (s ∷ ss) h =
     let both = first_none (fault_of place listed s) (fault_from (place + 1) (with_all listed (section_numbers s)) ss) h in
-    (in_range place listed s both.0, none_past (place + 1) (with_all listed (section_numbers s)) ss both.1)
-
--- ---- texts
-
--- not a byte of ASCII
-abbrev is_other : ℕ → Bool
-is_other b = not (is_ascii b)
-
-no_other : (b : ℕ) → b < 128 → is_other b ≡ false
-no_other b h = ap not (lt-ltb b 128 h)
-
-mark_below : (m : ℕ) → is_mark m ≡ true → m < 128
-mark_below m h = elim (mark_is m h) [
-  | inl is ↦ omega (arith, is)
-  | inr more ↦ elim more [
-    | inl is ↦ omega (arith, is)
-    | inr is ↦ omega (arith, is)
-  ]
-]
-
-other_foreign : IsForeign is_other
-other_foreign = record { digit = λ b d. no_other b (omega (arith, digit_high b d)); dash = refl; mark = λ m h. no_other m (mark_below m h) }
-
-section_lacks : (s : Section) → Within s → list_any is_other (printed_section s) ≡ false
-section_lacks s h = form_lacks is_other other_foreign (printed_section s) s (section_printed s h)
-
-rest_lacks : (ss : List Section) → AllByRecursion Within ss → list_any is_other (printed_rest ss) ≡ false
-rest_lacks [] h = refl
-rest_lacks (s ∷ ss) h = list_any-append is_other (printed_section s) (printed_rest ss) ∙ or_false (list_any is_other (printed_section s)) (list_any is_other (printed_rest ss)) (section_lacks s h.0) (rest_lacks ss h.1)
-
-text_lacks : (ss : List Section) → AllByRecursion Within ss → list_any is_other (printed ss) ≡ false
-text_lacks [] h = refl
-text_lacks (s ∷ ss) h = list_any-append is_other (printed_section s) (printed_rest ss) ∙ or_false (list_any is_other (printed_section s)) (list_any is_other (printed_rest ss)) (section_lacks s h.0) (rest_lacks ss h.1)
-
-not_other : (b : Bool) → not b ≡ false → b ≡ true
-not_other true h = refl
-not_other false h = sym h
-
-all_ascii : (text : List ℕ) → list_any is_other text ≡ false → list_all is_ascii text ≡ true
-all_ascii [] h = refl
-all_ascii (b ∷ bs) h =
-    let both = neither_true (is_other b) (list_any is_other bs) h in
-    both_true (not_other (is_ascii b) both.0) (all_ascii bs both.1)
-
-text_by : (text : List ℕ) (r : Result (List Section) RangeFault) → set_of text ≡ r → prints_as text r ≡ true → IsText text
-text_by text (Ok sections) is prints =
-    let set = read_set text sections is in
-    subst IsText (sym ((bytes_eq-Decides text (printed sections)).0 prints)) (ascii_utf8 (printed sections) (all_ascii (printed sections) (text_lacks sections (none_past 1 [] sections set.faultless))))
-text_by text (Err fault) is prints = absurd (false≢true prints)
-
--- a range's text is UTF-8
-pub range_text : (text : List ℕ) → is_range_text text ≡ true → IsText text
-unfolding is_range_text
-range_text text h = text_by text (set_of text) refl (and_both (leb (length text) MOST_RANGE) (prints_as text (set_of text)) h).1
+    (in_range place listed s both.0, faultless_within (place + 1) (with_all listed (section_numbers s)) ss both.1)
 
 -- ---- numbers
 
@@ -159,7 +98,7 @@ kept_near : (test : ℤ → Bool) (xs : List ℤ) → AreNear xs → AreNear (fi
 kept_near test [] near = tt
 kept_near test (x ∷ xs) near = kept_step (test x) x (filter test xs) near.0 (kept_near test xs near.1)
 
-section_near : (s : Section) → Within s → AreNear (section_numbers s)
+section_near : (s : Section) → has_past s ≡ false → AreNear (section_numbers s)
 unfolding section_numbers
 section_near (Single number) h = (omega (arith, within_greatest number h), tt)
 section_near (Range first last) h =
@@ -179,16 +118,16 @@ section_near (Interleaved first last step) h =
     all_near [] (flat_map (numbers_by first last) (halvings (unsigned_abs step) step)) tt
     (flat_near (numbers_by first last) (halvings (unsigned_abs step) step) (λ by. numbers_near first last by both.0 both.1))
 
-sections_near : (ss : List Section) → AllByRecursion Within ss → AreNear (flat_map section_numbers ss)
+sections_near : (ss : List Section) → AreWithin ss → AreNear (flat_map section_numbers ss)
 sections_near [] h = tt
 sections_near (s ∷ ss) h = both_near (section_numbers s) (flat_map section_numbers ss) (section_near s h.0) (sections_near ss h.1)
 
-set_near : (ss : List Section) → AllByRecursion Within ss → AreNear (numbers_of ss)
+set_near : (ss : List Section) → AreWithin ss → AreNear (numbers_of ss)
 unfolding numbers_of
 set_near ss h = all_near [] (flat_map section_numbers ss) tt (sections_near ss h)
 
 range_by : (text : List ℕ) (r : Result (List Section) RangeFault) → set_of text ≡ r → AreNear (numbers_of (sections_in r))
-range_by text (Ok sections) is = set_near sections (none_past 1 [] sections (read_set text sections is).faultless)
+range_by text (Ok sections) is = set_near sections (faultless_within 1 [] sections (read_set text sections is).faultless)
 range_by text (Err fault) is = set_near [] tt
 
 range_near : (text : List ℕ) → AreNear (range_numbers text)

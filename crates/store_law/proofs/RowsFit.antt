@@ -27,6 +27,7 @@ use Rattle.farm_types.specs.Kept.{IsKeptFarm, for_any, has_its_counts, has_its_f
 use Rattle.farm_types.specs.Ranges.{range_numbers}
 use Rattle.farm_types.specs.Rising.{depend_key, job_key, layer_key, sub_key}
 use Rattle.farm_types.proofs.Lists.{and_both, for_some_true, found_is, list_all-at}
+use Rattle.farm_types.proofs.Ranges.{range_utf8}
 use Rattle.farm_types.proofs.Utf8.{name_utf8, tag_utf8}
 use Rattle.farm_law.proofs.KeptJobsLists.{rising_below}
 use Rattle.depend_law.proofs.Waiters.{depend_holds, group_key}
@@ -37,7 +38,7 @@ use Rattle.recovery_law.proofs.SaidEnd.{settled_at}
 use Rattle.recovery_law.proofs.SaidMet.{mark_of, rows_are}
 use Rattle.row_codec.specs.RowLaws.{DependFits, Fits, FrameFits, HeadFits, IsSigned, JobFits, LayerFits, SlotFits, StoredFits, SubFits}
 use Rattle.store_law.proofs.Members.{all_from_has, has_found, place_of}
-use Rattle.store_law.proofs.RangesFit.{range_signed, range_text}
+use Rattle.store_law.proofs.RangesFit.{range_signed}
 use Rattle.store_law.proofs.RowsThere.{EachKind, each_recorded, recorded_has}
 use Rattle.store_law.proofs.FieldsFit.{HostParts, LayerParts, ProcFits, are_texts, counts_fit, end_fits, finish_fits, host_parts, job_parts, layer_parts, name_or_empty, state_fits, tested}
 
@@ -131,7 +132,7 @@ module _ (f : Farm) (k : IsKeptFarm f) where
         job = layer_job n x at;
         place = omega (arith, parts.place);
         name = name_utf8 x.name parts.name;
-        range = range_text x.range parts.range;
+        range = range_utf8 x.range parts.range;
         command = (and_both _ (list_all is_command_byte x.command) parts.command).0;
         cores = omega (arith, parts.cores);
         memory = omega (arith, parts.memory);

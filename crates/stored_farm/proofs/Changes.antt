@@ -17,11 +17,12 @@ use Rattle.farm_rows.specs.declared.farm_row.FarmRow.TheVariants as row
 use Rattle.farm_rows.specs.declared.ids.TheConstants.{GROUP_IDS}
 use Rattle.farm_rows.specs.Recovery.{StoredKey, comes_after, key_of, row_fits, with_stored}
 use Rattle.farm_rows.specs.Rows.{row_kind}
+use Rattle.farm_rows.proofs.RowOrder.{none_earlier}
 use Rattle.stored_rows.specs.SoFar.{HasFewNumbers}
 use Rattle.stored_rows.specs.Told.{Accepts, Told, is_next}
+use Rattle.stored_rows.proofs.Until.{rises_kept, rises_more}
 use Rattle.stored_farm.specs.Kept.{KeepsDepends, groups_kept, has_own_id, met_id, with_depends}
 use Rattle.stored_farm.proofs.JudgedSame.{kept_beside, left_of, mark_below, room_for}
-use Rattle.stored_farm.proofs.InOrder.{grows_more, grows_same, late, past}
 
 module _ (rows : Told) (last : Option StoredKey) (ds : List DependRow) (gs : List (List Group)) (ms : List MetRow) (left : ℕ) (h : KeepsDepends rows last ds gs ms left) where
   -- how many groups there are
@@ -35,9 +36,9 @@ module _ (rows : Told) (last : Option StoredKey) (ds : List DependRow) (gs : Lis
       let own = groups_kept rows.farm r in
       let long : List Group → ℕ = λ (xs : List Group). length xs in
       record {
-        early = λ key low follows. absurd (late (9, r.depend) key (omega arith) low follows);
-        depends_grow = grows_more depend_key 9 last ds h.depends_grow r after;
-        met_grow = grows_same met_id 10 last ms h.met_grow (9, r.depend) after;
+        early = λ key low follows. absurd (none_earlier (9, r.depend) key (omega (arith, low)) follows);
+        depends_rise = rises_more depend_key ds r last 9 after h.depends_rise;
+        met_rise = rises_kept met_id ms last (9, r.depend) 10 after h.met_rise;
         met_own = h.met_own;
         groups_are = ap (λ (xs : List (List Group)). xs ++ own ∷ []) h.groups_are ∙ sym (map-append (groups_kept rows.farm) ds (r ∷ []));
         left_is = omega (arith, h.left_is, sum_by-append long gs (own ∷ []), sum_by-cons long own []);
@@ -49,9 +50,9 @@ module _ (rows : Told) (last : Option StoredKey) (ds : List DependRow) (gs : Lis
       → KeepsDepends rows (Some (10, met_id m)) ds gs (ms ++ m ∷ []) left
   mark_more m k after fits =
       record {
-        early = λ key low follows. absurd (late (10, met_id m) key (omega arith) low follows);
-        depends_grow = grows_same depend_key 9 last ds h.depends_grow (10, met_id m) after;
-        met_grow = grows_more met_id 10 last ms h.met_grow m after;
+        early = λ key low follows. absurd (none_earlier (10, met_id m) key (omega (arith, low)) follows);
+        depends_rise = rises_kept depend_key ds last (10, met_id m) 9 after h.depends_rise;
+        met_rise = rises_more met_id ms m last 10 after h.met_rise;
         met_own = list_all-more has_own_id ms m h.met_own (lt-ltb m.position GROUP_IDS (mark_below rows.farm k ds ms m fits));
         groups_are = h.groups_are;
         left_is = h.left_is;
@@ -68,8 +69,8 @@ module _ (rows : Told) (last : Option StoredKey) (ds : List DependRow) (gs : Lis
       let before = h.early key low after in
       record {
         early = λ next below follows. (subst (λ (o : Option StoredKey). comes_after o next ≡ true) (sym is) follows, before.1);
-        depends_grow = grows_same depend_key 9 last ds h.depends_grow key after;
-        met_grow = grows_same met_id 10 last ms h.met_grow key after;
+        depends_rise = rises_kept depend_key ds last key 9 after h.depends_rise;
+        met_rise = rises_kept met_id ms last key 10 after h.met_rise;
         met_own = h.met_own;
         groups_are = same_groups other.farm before.1;
         left_is = h.left_is;
@@ -81,9 +82,9 @@ module _ (rows : Told) (last : Option StoredKey) (ds : List DependRow) (gs : Lis
   early_lost other key low after =
       let before = h.early key low after in
       record {
-        early = λ next below follows. absurd (late (11, 0) next (omega arith) below follows);
-        depends_grow = record { next = λ id follows. absurd (past (11, 0) (9, id) (omega arith) follows); high = h.depends_grow.high; rise = h.depends_grow.rise };
-        met_grow = record { next = λ id follows. absurd (past (11, 0) (10, id) (omega arith) follows); high = h.met_grow.high; rise = h.met_grow.rise };
+        early = λ next below follows. absurd (none_earlier (11, 0) next (omega (arith, below)) follows);
+        depends_rise = record { high = h.depends_rise.high; rise = h.depends_rise.rise; until = λ id follows. absurd (none_earlier (11, 0) (9, id) (omega arith) follows) };
+        met_rise = record { high = h.met_rise.high; rise = h.met_rise.rise; until = λ id follows. absurd (none_earlier (11, 0) (10, id) (omega arith) follows) };
         met_own = h.met_own;
         groups_are = same_groups other.farm before.1;
         left_is = h.left_is;

@@ -1,27 +1,21 @@
 -- The faults of depends after the last row, over what is kept.
-use Rattle.std.proofs.Common.{◌≡◌, ◌∙◌, ◌<◌, ℕ, ℤ, suc, zero, ◌+◌, ◌*◌, Bool, true, false, cond, not, ◌&&◌, ◌||◌, eqb, List, [], ◌∷◌, map, length, Option, Some, None, refl, sym, ap, subst, arith}
+use Rattle.std.proofs.Common.{◌≡◌, ◌∙◌, ◌<◌, ℕ, ◌+◌, Bool, true, false, cond, not, ◌&&◌, ◌||◌, List, [], ◌∷◌, map, length, Option, Some, None, refl, sym, ap, arith}
 use Rattle.std.specs.Prelude.{is_some, option_map}
-use Rattle.std.specs.List.{find, list_all, list_any, slice_get}
+use Rattle.std.specs.List.{find, list_all, list_any}
 use Rattle.std.proofs.lemmas.Bool.{false≢true}
-use Rattle.std.proofs.lemmas.Option.{none-some, same_Some}
 use Rattle.farm_types.specs.declared.depend.DependRow.{DependRow}
 use Rattle.farm_types.specs.declared.depend.Group.{Group}
 use Rattle.farm_types.specs.declared.depend.MetRow.{MetRow}
-use Rattle.farm_types.specs.declared.limits.TheConstants.{SLOT_LIMIT}
-use Rattle.farm_types.specs.declared.rows.LayerRow.{LayerRow}
 use Rattle.farm_types.specs.declared.slot_row.SlotRow.{SlotRow}
 use Rattle.farm_types.specs.Booking.{is_waiting}
 use Rattle.farm_types.specs.DependActs.{is_running, or_else}
-use Rattle.farm_types.specs.Depends.{are_done, groups_of, is_done, is_marked, is_open, layer_shape, or_first, slots_placed, waits_in}
-use Rattle.farm_types.specs.Farm.{Farm, for_some, is_placed, layers_of, slot_from}
+use Rattle.farm_types.specs.Depends.{are_done, groups_of, is_done, is_marked, is_open, waits_in}
+use Rattle.farm_types.specs.Farm.{Farm, for_some}
 use Rattle.farm_types.specs.Finish.{finishes}
-use Rattle.farm_types.specs.Groups.{groups_by, part_at}
-use Rattle.farm_types.specs.Kept.{runs_unmet}
-use Rattle.farm_types.specs.Ranges.{range_numbers}
+use Rattle.farm_types.specs.Kept.{EachThere, runs_unmet}
 use Rattle.farm_types.specs.Settle.{is_blocked, opens}
-use Rattle.farm_law.proofs.Filtered.{at_kept}
-use Rattle.farm_rows.specs.declared.ids.TheConstants.{LAYER_IDS}
-use Rattle.farm_rows.specs.Recovery.{StoredKey, end_fault, first_depend, first_job, first_layer, first_slot, groups_so_far, head_ends, is_wrongly_marked, lacks_frames, lacks_number, lacks_slots, layer_so_far, slot_or, slots_so_far}
+use Rattle.farm_rows.specs.Recovery.{StoredKey, end_fault, first_depend, first_job, first_layer, first_slot, groups_so_far, head_ends, is_wrongly_marked, lacks_frames, lacks_slots}
+use Rattle.farm_rows.proofs.Faultless.{each_there, groups_alike, neither, none_told}
 use Rattle.stored_rows.specs.Told.{early_fault}
 use Rattle.stored_farm.specs.Ends.{first_flagged, first_stuck, first_wrong, goes_on, hangs, is_marked_in, is_marked_wrongly, is_set, lacks_mark, waits_unmarked, waits_unmet}
 use Rattle.stored_farm.specs.Kept.{groups_kept, with_depends}
@@ -41,10 +35,6 @@ none_is : {X : Type 0} (o : Option X) → is_some o ≡ false → o ≡ None
 none_is None h = refl
 none_is (Some x) h = absurd (false≢true (sym h))
 
-neither : {X : Type 0} (first second : Option X) → or_else first second ≡ None → (first ≡ None) × (second ≡ None)
-neither None second e = (refl, e)
-neither (Some x) second e = absurd (none-some x (sym e))
-
 or_assoc : {X : Type 0} (a b c : Option X) → or_else (or_else a b) c ≡ or_else a (or_else b c)
 or_assoc None b c = refl
 or_assoc (Some x) b c = refl
@@ -62,66 +52,13 @@ all_faults f =
     let e = late_fault f in
     sym (or_assoc a (or_else b (or_else c d)) e ∙ ap (or_else a) (or_assoc b (or_else c d) e ∙ ap (or_else b) (or_assoc c d e)))
 
--- ---- all frames are there
-
-first_fails : {X : Type 0} (b : Bool) (x : X) (o : Option X) → cond b (Some x) o ≡ None → (b ≡ false) × (o ≡ None)
-first_fails true x o e = absurd (none-some x (sym e))
-first_fails false x o e = (refl, e)
-
-none_found : {X : Type 0} (test : X → Bool) (xs : List X) → find test xs ≡ None → (n : ℕ) (x : X) → slice_get xs n ≡ Some x → test x ≡ false
-none_found test [] e n x at = absurd (none-some x at)
-none_found test (y ∷ ys) e zero x at = subst (λ z. test z ≡ false) (same_Some y x at) (first_fails (test y) y (find test ys) e).0
-none_found test (y ∷ ys) e (suc n) x at = none_found test ys (first_fails (test y) y (find test ys) e).1 n x at
-
-none_mapped : {X Y : Type 0} (change : X → Y) (o : Option X) → option_map change o ≡ None → o ≡ None
-none_mapped change None e = refl
-none_mapped change (Some x) e = absurd (none-some (change x) (sym e))
-
-or_parts : (a b : Bool) → (a || b) ≡ false → (a ≡ false) × (b ≡ false)
-or_parts false b h = (refl, h)
-or_parts true b h = absurd (false≢true (sym h))
-
-stands : (none : ℕ) (o : Option ℕ) → not (is_some o) ≡ false → slot_or none o ≡ or_first o
-stands none None h = absurd (false≢true (sym h))
-stands none (Some slot) h = refl
-
-slots_all : (f : Farm) (none : ℕ) (l : LayerRow) (position : ℕ) (ns : List ℤ) → lacks_number f l position ns ≡ false → slots_so_far none f.slots l position ns ≡ slots_placed f.slots l.job l.place position ns
-slots_all f none l position [] all = refl
-slots_all f none l position (n ∷ ns) all =
-    let o = slot_from 0 (is_placed l.job l.place position) f.slots in
-    let parts = or_parts (not (is_some o)) (lacks_number f l (position + 1) ns) all in
-    let here = stands none o parts.0 in
-    let rest = slots_all f none l (position + 1) ns parts.1 in
-    λ i. here i ∷ rest i
-
-map_alike : {X Y : Type 0} (g h : X → Y) (xs : List X) → ((n : ℕ) (x : X) → slice_get xs n ≡ Some x → g x ≡ h x) → map g xs ≡ map h xs
-map_alike g h [] alike = refl
-map_alike g h (x ∷ xs) alike =
-    let first = alike 0 x refl in
-    let rest = map_alike g h xs (λ n y at. alike (suc n) y at) in
-    λ i. first i ∷ rest i
-
-module _ (f : Farm) (all : (n : ℕ) (l : LayerRow) → slice_get f.layers n ≡ Some l → lacks_slots f l ≡ false) where
-  layers_all : (none job : ℕ) → map (layer_so_far none f.slots) (layers_of f.layers job) ≡ map (layer_shape f.slots) (layers_of f.layers job)
-  layers_all none job =
-      map_alike (layer_so_far none f.slots) (layer_shape f.slots) (layers_of f.layers job)
-      (λ n l at.
-      let own = at_kept (λ (m : LayerRow). eqb m.job job) f.layers n l at in
-      ap (λ (slots : List ℕ). record { name = l.name; numbers = range_numbers l.range; slots = slots }) (slots_all f none l 0 (range_numbers l.range) (all own.0 l own.1)))
-
-  groups_all : (d : DependRow) → groups_so_far f d ≡ groups_of f d
-  unfolding groups_so_far groups_of
-  groups_all d =
-      let waiters = layers_all SLOT_LIMIT d.waiter.job in
-      let targets = layers_all (SLOT_LIMIT + 1) d.target.job in
-      λ i. groups_by d.kind d.any (part_at d.waiter) (part_at d.target) (record { layers = waiters i }) (record { layers = targets i })
-
-all_there : (f : Farm) → early_fault f ≡ None → (n : ℕ) (l : LayerRow) → slice_get f.layers n ≡ Some l → lacks_slots f l ≡ false
+-- all frames are there
+all_there : (f : Farm) → early_fault f ≡ None → EachThere f.layers f.slots
 all_there f e =
     let head = neither (head_ends f) _ e in
     let frames = neither (first_job (lacks_frames f) f.jobs) _ head.1 in
     let slots = neither (first_layer (lacks_slots f) f.layers) _ frames.1 in
-    none_found (lacks_slots f) f.layers (none_mapped (λ (l : LayerRow). (7, LAYER_IDS * l.job + l.place)) (find (lacks_slots f) f.layers) slots.0)
+    each_there f (none_told _ (lacks_slots f) f.layers slots.0)
 
 -- ---- depends
 
@@ -152,7 +89,7 @@ not_not false = refl
 
 module _ (f : Farm) (ds : List DependRow) (ms : List MetRow) (fine : early_fault f ≡ None) where
   same_groups : (d : DependRow) → groups_of (with_depends f ds ms) d ≡ groups_so_far f d
-  same_groups d = of_beside f ds ms d ∙ sym (groups_all f (all_there f fine) d)
+  same_groups d = of_beside f ds ms d ∙ sym (groups_alike f (all_there f fine) d)
 
   wrong_by : (d : DependRow) (b : Bool)
       → (not b && (list_all (λ (g : Group). b || is_marked (with_depends f ds ms) d g) (groups_of (with_depends f ds ms) d)

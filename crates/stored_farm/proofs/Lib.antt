@@ -1,6 +1,5 @@
 pub mod Changes
 pub mod EndsSame
-pub mod InOrder
 pub mod JudgedSame
 pub mod Long
 pub mod Lookups

@@ -1,12 +1,13 @@
 -- What is found, and where.
-use Rattle.std.proofs.Common.{◌≡◌, ◌<◌, ◌≤◌, ℕ, suc, zero, ◌+◌, ◌*◌, Bool, true, false, cond, ◌||◌, ◌&&◌, eqb, ltb, List, [], ◌∷◌, map, length, Option, Some, refl, sym, ap, ◌∙◌, arith}
+use Rattle.std.proofs.Common.{◌≡◌, ◌<◌, ◌≤◌, ℕ, suc, zero, ◌+◌, ◌*◌, Bool, true, false, ◌||◌, ◌&&◌, eqb, ltb, List, [], ◌∷◌, map, length, refl, sym, ap, ◌∙◌, arith}
 use Rattle.std.specs.Prelude.{is_some}
-use Rattle.std.specs.List.{find, list_all, list_any, position_or_len, slice_get}
+use Rattle.std.specs.List.{list_all, list_any, position_or_len, slice_get}
 use Rattle.std.proofs.lemmas.Bool.{eqb-true, eq-eqb, false≢true, le-ltb, lt-ltb, ltb-true}
 use Rattle.std.proofs.lemmas.List.Folds.{find_at}
 use Rattle.farm_types.specs.declared.depend.MetRow.{MetRow}
 use Rattle.farm_types.proofs.Lists.{and_both}
 use Rattle.farm_rows.specs.declared.ids.TheConstants.{GROUP_IDS}
+use Rattle.stored_rows.proofs.Frames.{some_found}
 use Rattle.stored_farm.specs.Ends.{is_mark_of}
 use Rattle.stored_farm.specs.Kept.{has_own_id, met_id}
 
@@ -18,14 +19,6 @@ same_by false true there back = back refl
 same_by false false there back = refl
 
 -- ---- what is found
-
-found_step : {X : Type 0} (b : Bool) (x : X) (rest : Option X) (later : Bool) → is_some rest ≡ later → is_some (cond b (Some x) rest) ≡ (b || later)
-found_step true x rest later e = refl
-found_step false x rest later e = e
-
-pub some_found : {X : Type 0} (test : X → Bool) (xs : List X) → is_some (find test xs) ≡ list_any test xs
-some_found test [] = refl
-some_found test (x ∷ xs) = found_step (test x) x (find test xs) (list_any test xs) (some_found test xs)
 
 pub list_any-map : {X Y : Type 0} (test : Y → Bool) (change : X → Y) (xs : List X) → list_any test (map change xs) ≡ list_any (λ (x : X). test (change x)) xs
 list_any-map test change [] = refl

@@ -8,7 +8,7 @@ use Rattle.farm_types.specs.declared.depend.Group.{Group}
 use Rattle.farm_types.specs.DependActs.{or_else, waits_for_itself}
 use Rattle.stored_farm.specs.Ends.{is_set}
 use Rattle.stored_farm.specs.SelfWaits.{is_among}
-use Rattle.stored_farm.proofs.Lookups.{some_found}
+use Rattle.stored_rows.proofs.Frames.{some_found}
 
 either_some : {X : Type 0} (first second : Option X) → is_some (or_else first second) ≡ (is_some first || is_some second)
 either_some None second = refl

@@ -1,15 +1,16 @@
 -- What is kept beside the rows of depends.
-use Rattle.std.specs.Prelude.{ℕ, ◌≡◌, ◌≤◌, ◌==◌, ◌+◌, ◌*◌, Bool, true, List, [], map, length, sum_by, nat_lt, Option, if◌then◌else◌}
+use Rattle.std.specs.Prelude.{ℕ, ◌≡◌, ◌≤◌, ◌+◌, ◌*◌, Bool, true, List, [], map, length, sum_by, nat_lt, Option, if◌then◌else◌}
 use Rattle.std.specs.List.{list_all}
 use Rattle.farm_types.specs.declared.depend.DependRow.{DependRow}
 use Rattle.farm_types.specs.declared.depend.Group.{Group}
 use Rattle.farm_types.specs.declared.depend.MetRow.{MetRow}
 use Rattle.farm_types.specs.declared.limits.TheConstants.{MOST_GROUPS}
 use Rattle.farm_types.specs.Farm.{Farm}
-use Rattle.farm_types.specs.Rising.{IsRising, depend_key}
+use Rattle.farm_types.specs.Rising.{depend_key}
 use Rattle.farm_rows.specs.Recovery.{StoredKey, comes_after, groups_so_far}
 use Rattle.farm_rows.specs.declared.ids.TheConstants.{GROUP_IDS}
 use Rattle.farm_rows.specs.declared.book_lists.BookLists.{BookLists}
+use Rattle.stored_rows.specs.Known.{Rises}
 use Rattle.stored_rows.specs.Told.{Told, farm_of}
 
 -- ---- the groups of a depend
@@ -18,13 +19,7 @@ use Rattle.stored_rows.specs.Told.{Told, farm_of}
 abbrev pub groups_kept : Farm → DependRow → List Group
 groups_kept f d = if d.met_all then [] else groups_so_far f d
 
--- ---- rows that come in order
-
--- the rows of a kind rise, and so they do with any that may come
-pub record Grows {X : Type 0} (key : X → ℕ) (kind : ℕ) (last : Option StoredKey) (xs : List X) : Type 0 where
-  pub next : (id : ℕ) → comes_after last (kind, id) ≡ true → IsRising key 0 xs id
-  pub high : ℕ
-  pub rise : IsRising key 0 xs high
+-- ---- marks
 
 -- a mark's id
 abbrev pub met_id : MetRow → ℕ
@@ -43,8 +38,8 @@ with_depends f depends met = record f { depends = depends; met = met }
 -- satisfied are its groups, and how many there are together.
 pub record KeepsDepends (rows : Told) (last : Option StoredKey) (depends : List DependRow) (groups : List (List Group)) (met : List MetRow) (left : ℕ) : Type 0 where
   pub early : (key : StoredKey) → key.0 ≤ 8 → comes_after last key ≡ true → (comes_after rows.last key ≡ true) × (depends ≡ [])
-  pub depends_grow : Grows depend_key 9 last depends
-  pub met_grow : Grows met_id 10 last met
+  pub depends_rise : Rises depend_key depends last 9
+  pub met_rise : Rises met_id met last 10
   pub met_own : list_all has_own_id met ≡ true
   pub groups_are : groups ≡ map (groups_kept rows.farm) depends
   pub left_is : left ≡ sum_by (λ (gs : List Group). length gs) groups

@@ -1,88 +1,25 @@
 -- What a row of a frame says that fits the rows before it.
-use Rattle.std.proofs.Common.{◌≡◌, ◌<◌, ◌≤◌, ℕ, ◌+◌, true, false, not, ◌&&◌, eqb, leb, ltb, Option, Some, None, List, length, refl, sym, ap, subst, ◌∙◌}
+use Rattle.std.proofs.Common.{◌≡◌, ◌<◌, ℕ, true, false, not, Option, Some, None, List, length, refl, sym, ap, subst, ◌∙◌}
 use Rattle.std.specs.Prelude.{slice_get, is_some, option_and_then, option_map}
-use Rattle.std.specs.List.{list_any}
-use Rattle.std.specs.Ordering.{int_eq}
 use Rattle.std.specs.Cmp.Derive.{both_true}
-use Rattle.std.proofs.lemmas.Bool.{eq-eqb, false≢true, leb-true, ltb-true}
+use Rattle.std.proofs.lemmas.Bool.{eq-eqb, false≢true}
 use Rattle.std.proofs.lemmas.Option.{same_Some, slice_get_within}
 use Rattle.farm_types.specs.declared.attempt.ProcRow.{ProcRow}
-use Rattle.farm_types.specs.declared.limits.TheConstants.{LAST_VERSION, MOST_RETRIES, SLOT_LIMIT}
 use Rattle.farm_types.specs.declared.rows.HostRow.{HostRow}
 use Rattle.farm_types.specs.declared.rows.JobRow.{JobRow}
 use Rattle.farm_types.specs.declared.rows.LayerRow.{LayerRow}
 use Rattle.farm_types.specs.declared.slot_row.Frame.{Frame}
 use Rattle.farm_types.specs.declared.slot_row.SlotRow.{SlotRow}
-use Rattle.farm_types.specs.Booking.{is_up}
 use Rattle.farm_types.specs.Farm.{Farm, is_placed, job_at, layer_at, slot_from, sub_at, sub_of}
-use Rattle.farm_types.specs.Sums.{used_cores, used_memory}
-use Rattle.farm_types.proofs.Lists.{and_both, for_some_true}
-use Rattle.farm_rows.specs.declared.frame_row.FrameRow.{FrameRow}
 use Rattle.farm_rows.specs.declared.frame_row.StoredFrame.{StoredFrame}
 use Rattle.farm_rows.specs.declared.frame_row.StoredState.{StoredState}
 use Rattle.farm_rows.specs.declared.frame_row.StoredState.TheVariants as stored
-use Rattle.farm_rows.specs.Recovery.{attempt_at, attempt_fits, attempt_of, frame_fits, frame_of, host_takes, numbers_at, position_of, slot_fits, taken_fits}
+use Rattle.farm_rows.specs.Recovery.{attempt_at, attempt_fits, attempt_of, frame_of, position_of, taken_fits}
+use Rattle.farm_rows.proofs.FrameFits.{attempt_parts, frame_parts, takes_parts}
 use Rattle.stored_rows.specs.Known.{stands_in}
-
--- a running frame's job, layer and host are there, and the host takes it
-pub record AttemptFits (f : Farm) (x : StoredFrame) (boot host : ℕ) : Type 0 where
-  pub job : JobRow
-  pub has_job : job_at f x.job ≡ Some job
-  pub layer : LayerRow
-  pub has_layer : layer_at f x.job x.layer ≡ Some layer
-  pub on : HostRow
-  pub has_host : slice_get f.hosts host ≡ Some on
-  pub subscribed : is_some (sub_at f (sub_of job.show on.alloc)) ≡ true
-  pub cores : used_cores f host + layer.cores ≤ on.cores
-  pub memory : used_memory f host + layer.memory ≤ on.memory
-
-pub attempt_parts : (f : Farm) (version : ℕ) (x : StoredFrame) (boot host since : ℕ) → attempt_fits f version x (stored.Running boot host since) ≡ true → AttemptFits f x boot host
-attempt_parts f version x boot host since h =
-    let timed = and_both (ltb 0 version) _ h in
-    let placed = and_both (leb since f.moment) _ timed.1 in
-    let job = for_some_true (job_at f x.job) _ placed.1 in
-    let layer = for_some_true (layer_at f x.job x.layer) _ job.2 in
-    let on = for_some_true (slice_get f.hosts host) (host_takes f boot host job.0 layer.0) layer.2 in
-    let up = and_both (is_up (on.0).state && eqb (on.0).boot boot) _ on.2 in
-    let sub = and_both (is_some (sub_at f (sub_of (job.0).show (on.0).alloc))) _ up.1 in
-    let room = and_both (leb (used_cores f host + (layer.0).cores) (on.0).cores) _ sub.1 in
-    record {
-      job = job.0;
-      has_job = job.1;
-      layer = layer.0;
-      has_layer = layer.1;
-      on = on.0;
-      has_host = on.1;
-      subscribed = sub.0;
-      cores = leb-true _ (on.0).cores room.0;
-      memory = leb-true _ (on.0).memory room.1;
-    }
-
--- the layer has the number, which no slot has
-record FrameFits (f : Farm) (version : ℕ) (x : StoredFrame) : Type 0 where
-  numbered : list_any (λ number. int_eq number x.number) (numbers_at f x.job x.layer) ≡ true
-  apart : not (is_some (slot_from 0 (is_placed x.job x.layer (position_of f x)) f.slots)) ≡ true
-  attempt : attempt_fits f version x x.state ≡ true
-
-frame_parts : (f : Farm) (version : ℕ) (x : StoredFrame) → frame_fits f version x ≡ true → FrameFits f version x
-frame_parts f version x h =
-    let numbered = and_both (list_any (λ number. int_eq number x.number) (numbers_at f x.job x.layer)) _ h in
-    let apart = and_both (not (is_some (slot_from 0 (is_placed x.job x.layer (position_of f x)) f.slots))) _ numbered.1 in
-    let retries = and_both (leb x.retries MOST_RETRIES) _ apart.1 in
-    record { numbered = numbered.0; apart = apart.0; attempt = retries.1 }
 
 pub taken_attempt : (f : Farm) (version : ℕ) (x : StoredFrame) → taken_fits f version (Some x) ≡ true → attempt_fits f version x x.state ≡ true
 taken_attempt f version x h = (frame_parts f version x h).attempt
-
-pub record RowFits (f : Farm) (r : FrameRow) : Type 0 where
-  pub within : r.slot < SLOT_LIMIT
-  pub taken : taken_fits f r.version r.frame ≡ true
-
-pub row_parts : (f : Farm) (r : FrameRow) → slot_fits f r ≡ true → RowFits f r
-row_parts f r h =
-    let within = and_both (ltb r.slot SLOT_LIMIT) _ h in
-    let version = and_both (leb r.version LAST_VERSION) _ within.1 in
-    record { within = ltb-true r.slot SLOT_LIMIT within.0; taken = version.1 }
 
 -- the frame's place has no slot, and its number is its layer's
 abbrev pub FreeAt : List LayerRow → List SlotRow → Option Frame → Type 0
@@ -126,8 +63,9 @@ module _ (f : Farm) (x : StoredFrame) (state : StoredState) (boot host since : �
   running_sub version h =
       let k = attempt_parts f version x boot host since (subst (λ (s : StoredState). attempt_fits f version x s ≡ true) is h) in
       let jobs : k.job ≡ job = same_Some k.job job (sym k.has_job ∙ has_job) in
+      let takes = takes_parts f boot host k.job k.layer k.on k.takes in
       let hosts : k.on ≡ on = same_Some k.on on (sym k.has_host ∙ has_host) in
-      (λ i. is_some (sub_at f (sub_of (sym jobs i).show (sym hosts i).alloc))) ∙ k.subscribed
+      (λ i. is_some (sub_at f (sub_of (sym jobs i).show (sym hosts i).alloc))) ∙ takes.subscribed
 
   pub running_attempt : (slot version : ℕ) (layer : LayerRow) → layer_at f x.job x.layer ≡ Some layer → attempt_at f slot version x state ≡ Some (attempt_of slot version boot host since job layer on)
   running_attempt slot version layer has_layer = ap (attempt_at f slot version x) is ∙ rw (has_job, has_layer, has_host) refl

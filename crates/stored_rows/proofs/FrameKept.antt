@@ -5,9 +5,7 @@ use Rattle.std.specs.List.{list_all, list_any, position_or_len, sum_by}
 use Rattle.std.specs.Cmp.{nat_eq_equiv}
 use Rattle.std.specs.Cmp.Derive.{both_true}
 use Rattle.std.proofs.lemmas.Bool.{eq-eqb, eqb-true, ne_eqb}
-use Rattle.std.proofs.lemmas.List.{length-append}
-use Rattle.std.proofs.lemmas.List.Folds.{list_all-append, list_any-append, sum_by-replicate}
-use Rattle.std.proofs.lemmas.List.Sums.{sum_by-append, sum_by-cons}
+use Rattle.std.proofs.lemmas.List.Folds.{list_all-append, list_any-append}
 use Rattle.std.proofs.lemmas.Option.{none-some}
 use Rattle.farm_types.specs.declared.attempt.ProcRow.{ProcRow}
 use Rattle.farm_types.specs.declared.limits.TheConstants.{MOST_LAYERS, SLOT_LIMIT}
@@ -30,7 +28,9 @@ use Rattle.farm_rows.specs.declared.frame_row.FrameRow.{FrameRow}
 use Rattle.farm_rows.specs.Recovery.{comes_after, slot_fits, slot_row, unused_slot, with_slot}
 use Rattle.stored_rows.specs.Known.{HasRoom, HostsKnown, JobsKnown, KnowsHosts, KnowsJobs, KnowsLayers, KnowsSlots, KnowsTold, LayerKnown, Rises, found_from, found_with, has_left, layer_known, left_at, slot_stands, with_attempt, with_found, with_left}
 use Rattle.stored_rows.specs.Told.{Told, told_with}
-use Rattle.stored_rows.proofs.FrameFits.{FreeAt, OnHost, free_at, host_of, row_parts}
+use Rattle.farm_rows.proofs.FrameFits.{slot_parts}
+use Rattle.farm_rows.proofs.OneSlotMore.{slots_long, sum_with}
+use Rattle.stored_rows.proofs.FrameFits.{FreeAt, OnHost, free_at, host_of}
 use Rattle.stored_rows.proofs.Once.{changed_mapped, once_rising}
 use Rattle.stored_rows.proofs.Until.{rises_kept, until_id}
 
@@ -56,10 +56,6 @@ module _ (totals : List ℕ) (place amount : ℕ) (old new : ℕ → ℕ) (kept 
 
 -- ---- one slot more
 
-gap_length : (n : ℕ) → length (replicate n unused_slot) ≡ n
-gap_length zero = refl
-gap_length (suc n) = ap suc (gap_length n)
-
 any_gap : (test : SlotRow → Bool) (n : ℕ) (s : SlotRow) (b : Bool) → test unused_slot ≡ false → test s ≡ b → list_any test (replicate n unused_slot ++ s ∷ []) ≡ b
 any_gap test zero s true unused is = rw is refl
 any_gap test zero s false unused is = rw is refl
@@ -72,18 +68,6 @@ all_gap test (suc n) s unused is = both_true unused (all_gap test n s unused is)
 module _ (slots : List SlotRow) (slot : ℕ) (s : SlotRow) (past : length slots ≤ slot) where
   more : List SlotRow
   more = with_slot slots slot s
-
-  slots_long : length (with_slot slots slot s) ≡ slot + 1
-  slots_long =
-      let gap = replicate (slot - length slots) unused_slot in
-      omega (arith, length-append slots (gap ++ s ∷ []), length-append gap (s ∷ []), gap_length (slot - length slots), past)
-
-  sum_with : (weight : SlotRow → ℕ) → weight unused_slot ≡ 0 → sum_by weight (with_slot slots slot s) ≡ sum_by weight slots + weight s
-  sum_with weight none =
-      let n = slot - length slots in
-      let gap = replicate n unused_slot in
-      let zeros : sum_by weight gap ≡ 0 = sum_by-replicate weight n unused_slot ∙ ap (λ (w : ℕ). n * w) none ∙ omega arith in
-      omega (arith, sum_by-append weight slots (gap ++ s ∷ []), sum_by-append weight gap (s ∷ []), sum_by-cons weight s [], zeros)
 
   any_with : (test : SlotRow → Bool) → test unused_slot ≡ false → list_any test (with_slot slots slot s) ≡ (list_any test slots || test s)
   any_with test unused =
@@ -263,8 +247,8 @@ module _ (slots : List SlotRow) (slot : ℕ) (s : SlotRow) (past : length slots 
         names = h.names;
         cores_count = h.cores_count;
         memory_count = h.memory_count;
-        cores = λ host. let weighs = ap (cores_on host) is in omega (arith, h.cores host, sum_with slots slot s past (λ (t : SlotRow). cores_on host t.proc) refl, weighs);
-        memory = λ host. let weighs = ap (memory_on host) is in omega (arith, h.memory host, sum_with slots slot s past (λ (t : SlotRow). memory_on host t.proc) refl, weighs);
+        cores = λ host. let weighs = ap (cores_on host) is in omega (arith, h.cores host, sum_with (λ (t : SlotRow). cores_on host t.proc) slots slot s refl, weighs);
+        memory = λ host. let weighs = ap (memory_on host) is in omega (arith, h.memory host, sum_with (λ (t : SlotRow). memory_on host t.proc) slots slot s refl, weighs);
       }
   hosts_kept (Some p) k hosts is on h =
       record {
@@ -272,9 +256,9 @@ module _ (slots : List SlotRow) (slot : ℕ) (s : SlotRow) (past : length slots 
         cores_count = length-changed_at k.cores p.host (λ n. n + p.cores) ∙ h.cores_count;
         memory_count = length-changed_at k.memory p.host (λ n. n + p.memory) ∙ h.memory_count;
         cores = raised k.cores p.host p.cores (λ host. sum_by (λ (t : SlotRow). cores_on host t.proc) slots) (λ host. sum_by (λ (t : SlotRow). cores_on host t.proc) (with_slot slots slot s)) h.cores (omega (arith, on, h.cores_count))
-            (λ host. sum_with slots slot s past (λ (t : SlotRow). cores_on host t.proc) refl ∙ ap (λ (o : Option ProcRow). sum_by (λ (t : SlotRow). cores_on host t.proc) slots + cores_on host o) is);
+            (λ host. sum_with (λ (t : SlotRow). cores_on host t.proc) slots slot s refl ∙ ap (λ (o : Option ProcRow). sum_by (λ (t : SlotRow). cores_on host t.proc) slots + cores_on host o) is);
         memory = raised k.memory p.host p.memory (λ host. sum_by (λ (t : SlotRow). memory_on host t.proc) slots) (λ host. sum_by (λ (t : SlotRow). memory_on host t.proc) (with_slot slots slot s)) h.memory (omega (arith, on, h.memory_count))
-            (λ host. sum_with slots slot s past (λ (t : SlotRow). memory_on host t.proc) refl ∙ ap (λ (o : Option ProcRow). sum_by (λ (t : SlotRow). memory_on host t.proc) slots + memory_on host o) is);
+            (λ host. sum_with (λ (t : SlotRow). memory_on host t.proc) slots slot s refl ∙ ap (λ (o : Option ProcRow). sum_by (λ (t : SlotRow). memory_on host t.proc) slots + memory_on host o) is);
       }
 
   -- ---- slots
@@ -300,10 +284,11 @@ module _ (t : Told) (h : HostsKnown) (j : JobsKnown) (l : List LayerKnown) (k : 
       let s = slot_row t.farm r in
       let slots = t.farm.slots in
       let past : length slots ≤ r.slot = k.of_slots.until r.slot after in
-      let parts = row_parts t.farm r fits in
+      let parts = slot_parts t.farm r fits in
       let free = free_at t.farm r.slot r.version r.frame parts.taken in
       let on = host_of t.farm r.slot r.version r.frame parts.taken in
       record {
+        of_subs = k.of_subs;
         of_hosts = hosts_kept slots r.slot s past s.proc h t.farm.hosts refl on k.of_hosts;
         of_jobs = jobs_kept slots r.slot s past s.frame j t.farm.jobs t.last t.farm.next_finish refl k.jobs_rise k.of_jobs;
         jobs_rise = rises_kept job_key t.farm.jobs t.last (8, r.slot) 6 after k.jobs_rise;

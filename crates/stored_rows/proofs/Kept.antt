@@ -21,7 +21,7 @@ use Rattle.farm_types.specs.Rising.{job_key, layer_key}
 use Rattle.farm_rows.specs.declared.head_row.HeadRow.{HeadRow}
 use Rattle.farm_rows.specs.declared.farm_row.FarmRow.TheVariants as row
 use Rattle.farm_rows.specs.Recovery.{StoredKey, comes_after, end_fits, host_fits, is_new, job_fits}
-use Rattle.stored_rows.specs.Known.{HostsKnown, JobsKnown, KnowsHosts, KnowsSlots, KnowsTold, LayerKnown, has_left, known_with}
+use Rattle.stored_rows.specs.Known.{HostsKnown, JobsKnown, KnowsHosts, KnowsSlots, KnowsSubs, KnowsTold, LayerKnown, has_left, known_with}
 use Rattle.stored_rows.specs.Told.{Told, told_with}
 use Rattle.stored_rows.proofs.Until.{rises_kept, rises_more, rises_none, until_kept, until_none}
 
@@ -77,9 +77,10 @@ slots_kept slots layers last key after k = record { few = k.few; until = until_k
 module _ (t : Told) (h : HostsKnown) (j : JobsKnown) (l : List LayerKnown) (k : KnowsTold t h j l) where
   -- after a row that leaves hosts, jobs, layers and slots as they are
   pub told_kept : (key : StoredKey) (f : Farm) → comes_after t.last key ≡ true → f.hosts ≡ t.farm.hosts → f.jobs ≡ t.farm.jobs → f.layers ≡ t.farm.layers → f.slots ≡ t.farm.slots → f.next_finish ≡ t.farm.next_finish
-      → KnowsTold (record { last = Some key; farm = f }) h j l
-  told_kept key f after hosts jobs layers slots next =
+      → KnowsSubs f.shows f.subs → KnowsTold (record { last = Some key; farm = f }) h j l
+  told_kept key f after hosts jobs layers slots next subs =
       record {
+        of_subs = subs;
         of_hosts = subst (λ (xs : List HostRow). KnowsHosts h xs f.slots) (sym hosts) (subst (KnowsHosts h t.farm.hosts) (sym slots) k.of_hosts);
         of_jobs = rw (jobs, slots, next) k.of_jobs;
         jobs_rise = rw jobs (rises_kept job_key t.farm.jobs t.last key 6 after k.jobs_rise);
@@ -93,6 +94,7 @@ module _ (t : Told) (h : HostsKnown) (j : JobsKnown) (l : List LayerKnown) (k : 
   head_kept r after =
       let none : t.farm.jobs ≡ [] = rises_none job_key t.farm.jobs t.last (1, 0) 6 (omega arith) after k.jobs_rise in
       record {
+        of_subs = k.of_subs;
         of_hosts = k.of_hosts;
         of_jobs = record {
           names = k.of_jobs.names;
@@ -111,6 +113,7 @@ module _ (t : Told) (h : HostsKnown) (j : JobsKnown) (l : List LayerKnown) (k : 
       → KnowsTold (told_with t (row.Host n r)) (record { names = h.names ++ r.name ∷ []; cores = h.cores ++ 0 ∷ []; memory = h.memory ++ 0 ∷ [] }) j l
   host_kept n r after =
       record {
+        of_subs = k.of_subs;
         of_hosts = record {
           names = ap (λ ns. ns ++ r.name ∷ []) k.of_hosts.names ∙ sym (map_push host_label t.farm.hosts r);
           cores_count = omega (arith, k.of_hosts.cores_count, length-append h.cores (0 ∷ []), length-append t.farm.hosts (r ∷ []));
@@ -135,6 +138,7 @@ module _ (t : Told) (h : HostsKnown) (j : JobsKnown) (l : List LayerKnown) (k : 
       let none = slots_none (6, r.job) (omega arith) after in
       let unleft : has_left t.farm.slots r ≡ false = ap (λ (ss : List SlotRow). has_left ss r) none in
       record {
+        of_subs = k.of_subs;
         of_hosts = k.of_hosts;
         of_jobs = record {
           names = ap (λ ns. ns ++ r.name ∷ []) k.of_jobs.names ∙ sym (map_push job_label t.farm.jobs r);

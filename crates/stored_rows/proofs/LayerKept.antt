@@ -46,6 +46,7 @@ module _ (t : Told) (h : HostsKnown) (j : JobsKnown) (l : List LayerKnown) (k : 
       let none = slots_none t h j l k (7, layer_key r) (omega arith) after in
       let known : layer_known t.farm.slots r ≡ record { numbers = numbers_of set; slots = replicate (length (numbers_of set)) None } = ap (λ (ss : List SlotRow). layer_known ss r) none ∙ known_none r set is in
       record {
+        of_subs = k.of_subs;
         of_hosts = k.of_hosts;
         of_jobs = k.of_jobs;
         jobs_rise = rises_kept job_key t.farm.jobs t.last (7, layer_key r) 6 after k.jobs_rise;

@@ -12,4 +12,5 @@ pub mod Numbers
 pub mod Once
 pub mod RangeTexts
 pub mod Shapes
+pub mod SubNumbers
 pub mod Until

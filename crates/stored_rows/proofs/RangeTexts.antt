@@ -1,25 +1,22 @@
 -- When a text is that of a range.
-use Rattle.std.proofs.Common.{◌≡◌, ◌≤◌, ◌<◌, ℕ, Bool, true, false, ◌&&◌, leb, List, length, Result, Ok, Err, refl, ap, sym, ◌∙◌}
+use Rattle.std.proofs.Common.{◌≡◌, ◌≤◌, ◌<◌, ℕ, Bool, true, false, ◌&&◌, leb, List, length, Ok, Err, refl, ap, sym, ◌∙◌}
 use Rattle.std.specs.Str.{bytes_eq}
-use Rattle.std.proofs.lemmas.Bool.{false≢true, le-leb, lt-leb}
-use Rattle.std.specs.Cmp.Derive.{both_true}
-use Rattle.farm_types.specs.Ranges.{is_range_text, prints_as, range_numbers, sections_in}
+use Rattle.std.proofs.lemmas.Bool.{false≢true, lt-leb}
+use Rattle.std.proofs.lemmas.Slice.Eq.{bytes_eq-Decides}
+use Rattle.farm_types.specs.Ranges.{is_range_text, prints_as}
 use Rattle.farm_types.specs.declared.limits.TheConstants.{MOST_RANGE}
+use Rattle.farm_types.proofs.Ranges.{numbers_said, range_formed}
 use Rattle.frame_range.specs.declared.fault.RangeFault.{RangeFault}
 use Rattle.frame_range.specs.declared.fault.RangeFault.TheVariants.{Syntax, OutOfRange, ZeroStep, WrongWay, Empty, TooMany, NoMemory}
 use Rattle.frame_range.specs.ParseResults.{Fails}
 use Rattle.frame_range.specs.declared.section.Section.{Section}
 use Rattle.frame_range.specs.Printed.{printed}
-use Rattle.frame_range.specs.Sets.{numbers_of, set_of}
+use Rattle.frame_range.specs.Sets.{set_of}
 use Rattle.stored_rows.specs.Ranges.{IsRangeOf, is_no_memory}
 
-pub range_read : (text : List ℕ) (set : List Section) → set_of text ≡ Ok set → length text ≤ MOST_RANGE → bytes_eq text (printed set) ≡ true → IsRangeOf text set
-unfolding is_range_text range_numbers
-range_read text set is short same =
-    record {
-      formed = both_true (le-leb (length text) MOST_RANGE short) (ap (prints_as text) is ∙ same);
-      numbers = ap (λ (r : Result (List Section) RangeFault). numbers_of (sections_in r)) is;
-    }
+pub range_known : (text : List ℕ) (set : List Section) → set_of text ≡ Ok set → length text ≤ MOST_RANGE → bytes_eq text (printed set) ≡ true → IsRangeOf text set
+range_known text set is short same =
+    record { formed = range_formed text set is ((bytes_eq-Decides text (printed set)).0 same) short; numbers = numbers_said text set is }
 
 none_by : (b : Bool) (c : Bool) → c ≡ false → (b && c) ≡ false
 none_by true c h = h

@@ -1,38 +1,9 @@
 -- Rows that come one after the other: which may still come.
-use Rattle.std.proofs.Common.{◌≡◌, ◌≤◌, ◌<◌, ℕ, ◌+◌, Bool, true, false, ◌&&◌, ◌||◌, eqb, ltb, List, [], ◌∷◌, ◌++◌, Option, Some, None, refl, subst, arith, ◌⊎◌, inl, inr}
-use Rattle.std.proofs.lemmas.Bool.{eq-eqb, eqb-true, false≢true, lt-ltb, ltb-true, or_left, or_right}
-use Rattle.std.specs.Cmp.Derive.{both_true}
+use Rattle.std.proofs.Common.{◌≡◌, ◌≤◌, ◌<◌, ℕ, ◌+◌, true, List, [], ◌∷◌, ◌++◌, Option, Some, refl, subst, arith, ◌⊎◌, inl, inr}
 use Rattle.farm_types.specs.Rising.{IsRising}
-use Rattle.farm_rows.specs.Recovery.{StoredKey, comes_after, is_before}
+use Rattle.farm_rows.specs.Recovery.{StoredKey, comes_after}
+use Rattle.farm_rows.proofs.RowOrder.{after_then, before_kind, before_parts}
 use Rattle.stored_rows.specs.Known.{IsUntil, Rises}
-
-before_by : (a b c : Bool) (x y : StoredKey) → ltb x.0 y.0 ≡ a → eqb x.0 y.0 ≡ b → ltb x.1 y.1 ≡ c → (a || (b && c)) ≡ true → (x.0 < y.0) ⊎ ((x.0 ≡ y.0) × (x.1 < y.1))
-before_by true b c x y kind same id h = inl (ltb-true x.0 y.0 kind)
-before_by false true true x y kind same id h = inr (eqb-true x.0 y.0 same, ltb-true x.1 y.1 id)
-before_by false true false x y kind same id h = absurd (false≢true h)
-before_by false false c x y kind same id h = absurd (false≢true h)
-
-before_parts : (x y : StoredKey) → is_before x y ≡ true → (x.0 < y.0) ⊎ ((x.0 ≡ y.0) × (x.1 < y.1))
-before_parts x y h = before_by (ltb x.0 y.0) (eqb x.0 y.0) (ltb x.1 y.1) x y refl refl refl h
-
-before_kind : (x y : StoredKey) → x.0 < y.0 → is_before x y ≡ true
-before_kind x y h = or_left _ _ (lt-ltb x.0 y.0 h)
-
-before_id : (x y : StoredKey) → x.0 ≡ y.0 → x.1 < y.1 → is_before x y ≡ true
-before_id x y same h = or_right _ _ (both_true (eq-eqb x.0 y.0 same) (lt-ltb x.1 y.1 h))
-
-before_then : (x y z : StoredKey) → is_before x y ≡ true → is_before y z ≡ true → is_before x z ≡ true
-before_then x y z first second = step (before_parts x y first) (before_parts y z second)
-  where
-    step : (x.0 < y.0) ⊎ ((x.0 ≡ y.0) × (x.1 < y.1)) → (y.0 < z.0) ⊎ ((y.0 ≡ z.0) × (y.1 < z.1)) → is_before x z ≡ true
-    step (inl a) (inl b) = before_kind x z (omega (arith, a, b))
-    step (inl a) (inr b) = before_kind x z (omega (arith, a, b.0))
-    step (inr a) (inl b) = before_kind x z (omega (arith, a.0, b))
-    step (inr a) (inr b) = before_id x z (omega (arith, a.0, b.0)) (omega (arith, a.1, b.1))
-
-after_then : (last : Option StoredKey) (y z : StoredKey) → comes_after last y ≡ true → is_before y z ≡ true → comes_after last z ≡ true
-after_then None y z first second = refl
-after_then (Some x) y z first second = before_then x y z first second
 
 -- what may still come after a row of another kind, or of this one
 pub until_kept : (last : Option StoredKey) (key : StoredKey) (kind high : ℕ) → comes_after last key ≡ true → IsUntil last kind high → IsUntil (Some key) kind high

@@ -6,6 +6,8 @@ use Rattle.frame_range.specs.Places.{place_of}
 use Rattle.farm_types.specs.declared.rows.HostRow.{HostRow}
 use Rattle.farm_types.specs.declared.rows.JobRow.{JobRow}
 use Rattle.farm_types.specs.declared.rows.LayerRow.{LayerRow}
+use Rattle.farm_types.specs.declared.rows.ShowRow.{ShowRow}
+use Rattle.farm_types.specs.declared.rows.SubRow.{SubRow}
 use Rattle.farm_types.specs.declared.slot_row.Frame.{Frame}
 use Rattle.farm_types.specs.declared.slot_row.SlotRow.{SlotRow}
 use Rattle.farm_types.specs.Booking.{is_pending}
@@ -18,7 +20,7 @@ use Rattle.farm_types.specs.Operators.{is_left_of}
 use Rattle.farm_types.specs.Ranges.{range_numbers}
 use Rattle.farm_types.specs.Rising.{IsRising, job_key, layer_key}
 use Rattle.farm_types.specs.Sums.{cores_on, memory_on, total_at, used_cores, used_memory}
-use Rattle.farm_types.specs.declared.limits.TheConstants.{MOST_FRAMES, MOST_LAYERS, SLOT_LIMIT}
+use Rattle.farm_types.specs.declared.limits.TheConstants.{MOST_FRAMES, MOST_LAYERS, MOST_SHOWS, SLOT_LIMIT, SUB_NUMBERS}
 use Rattle.farm_rows.specs.Recovery.{StoredKey, comes_after, numbers_in}
 use Rattle.stored_rows.specs.Told.{Told}
 
@@ -176,7 +178,16 @@ pub record KnowsSlots (slots : List SlotRow) (layers : List LayerRow) (last : Op
   pub until : IsUntil last 8 (length slots)
   pub stand : list_all (slot_stands layers) slots ≡ true
 
+-- the subscription's number is one of a show and an allocation
+abbrev pub is_numbered_sub : SubRow → Bool
+is_numbered_sub s = nat_lt s.sub SUB_NUMBERS
+
+pub record KnowsSubs (shows : List ShowRow) (subs : List SubRow) : Type 0 where
+  pub few : length shows ≤ MOST_SHOWS
+  pub numbered : list_all is_numbered_sub subs ≡ true
+
 pub record KnowsTold (t : Told) (hosts : HostsKnown) (jobs : JobsKnown) (layers : List LayerKnown) : Type 0 where
+  pub of_subs : KnowsSubs t.farm.shows t.farm.subs
   pub of_hosts : KnowsHosts hosts t.farm.hosts t.farm.slots
   pub of_jobs : KnowsJobs jobs t.farm.jobs t.farm.slots t.farm.next_finish
   pub jobs_rise : Rises job_key t.farm.jobs t.last 6

@@ -20,7 +20,7 @@ use crate::known_jobs::KnownJobs;
 use crate::known_layer::KnownLayer;
 use crate::lookups::{job_in, layer_at, layer_in, place_of_job, row_at};
 use crate::stored_rows::StoredRows;
-use crate::subs::{has_sub, sub_between, sub_of};
+use crate::subs::{has_sub, sub_between};
 use farm_rows::{FrameRow, StoredFrame, StoredState};
 use farm_types::{
     Frame, FrameState, HostNo, HostRow, JobNo, JobRow, LAST_VERSION, LayerRow, MOST_RETRIES,
@@ -125,7 +125,7 @@ impl StoredRows {
         ensures { result ≡ host_takes self.now.farm boot host job.now layer.now on.now }
     {
         is_up_in(boot, on)
-            && (has_sub(self.lists.subs.as_slice(), sub_of(job.show, on.alloc))
+            && (has_sub(self.lists.subs.as_slice(), job.show, on.alloc)
                 && self.has_room(host, layer, on))
     }
 
@@ -237,7 +237,7 @@ impl StoredRows {
                     boot,
                     cores: layer.cores,
                     memory: layer.memory,
-                    sub: sub_between(self.lists.subs.as_slice(), job, on),
+                    sub: sub_between(job, on),
                     since,
                 })
             }

@@ -44,7 +44,7 @@ impl StoredRows {
     {
         has_its_finish(self.lists.next_finish, row)
             && (has_its_counts(row)
-                && (row.state == JobState::Pending
+                && (row.state.is_pending()
                     || (!self.has_finish(row) && self.finished_jobs() < MOST_FINISHED as usize)))
     }
 

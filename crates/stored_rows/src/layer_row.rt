@@ -15,7 +15,7 @@ use crate::known_layer::KnownLayer;
 use crate::lookups::{job_in, layer_bounds, layer_key};
 use crate::ranges::range_of;
 use crate::stored_rows::StoredRows;
-use farm_types::{JobNo, JobState, LayerRow, MOST_LAYERS, Text, is_name};
+use farm_types::{JobNo, LayerRow, MOST_LAYERS, Text, is_name};
 use frame_range::FrameSet;
 use std::alloc::{AllocError, Global};
 
@@ -69,7 +69,7 @@ impl StoredRows {
     {
         match job_in(self.lists.jobs.as_slice(), job) {
             None => false,
-            Some(row) => row.state == JobState::Pending,
+            Some(row) => row.state.is_pending(),
         }
     }
 

@@ -4,7 +4,7 @@ ghost use Rattle.std.specs.Prelude.{◌≡◌, true, IfOk, OnOk, bytes_eq};
 ghost use Rattle.std.specs.List.{list_any};
 ghost use Rattle.farm_types.specs.Kept.{show_label};
 ghost use Rattle.farm_rows.specs.declared.farm_row.FarmRow.TheVariants as kind;
-ghost use Rattle.farm_rows.specs.Recovery.{comes_after, key_of, row_fits, show_fits};
+ghost use Rattle.farm_rows.specs.Recovery.{comes_after, key_of, show_fits};
 ghost use Rattle.stored_rows.specs.Told.{Accepts, told_with};
 
 use crate::forms::is_formed_show;
@@ -37,6 +37,7 @@ impl StoredRows {
     // It is the last of the shows.
     fn push_show(&mut self, show: ShowNo, row: ShowRow) -> Result<(), AllocError>
         requires after { comes_after self.old.last (key_of (kind.Show show row)) ≡ true }
+        requires fits { show_fits self.old.farm show row ≡ true }
         ensures { OnOk result (self.new ≡ told_with self.old (kind.Show show row)) }
     {
         self.lists.shows.push(row)?;

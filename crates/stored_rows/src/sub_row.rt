@@ -1,9 +1,9 @@
 //! Rows of subscriptions.
 
-ghost use Rattle.std.specs.Prelude.{◌≡◌, true, IfOk, OnOk, length};
+ghost use Rattle.std.specs.Prelude.{◌≡◌, true, IfOk, OnOk};
 ghost use Rattle.farm_types.specs.Kept.{is_kept_sub};
 ghost use Rattle.farm_rows.specs.declared.farm_row.FarmRow.TheVariants as kind;
-ghost use Rattle.farm_rows.specs.Recovery.{comes_after, key_of};
+ghost use Rattle.farm_rows.specs.Recovery.{comes_after, key_of, sub_fits};
 ghost use Rattle.stored_rows.specs.Told.{Accepts, told_with};
 
 use crate::stored_rows::StoredRows;
@@ -16,16 +16,24 @@ impl StoredRows {
         requires after { comes_after self.old.last (key_of (kind.Sub row.now)) ≡ true }
         ensures { IfOk result (λ taken. Accepts taken self.old (kind.Sub row.now) self.new) }
     {
-        if !(self.lists.recorded && is_sub(self.lists.shows.len(), self.lists.allocs.len(), row)) {
+        if !(self.lists.recorded && self.sub_fits(row)) {
             return Ok(false);
         }
         self.push_sub(row)?;
         Ok(true)
     }
 
+    // Whether it fits.
+    fn sub_fits(&self, row: &SubRow) -> bool
+        ensures { result ≡ sub_fits self.now.farm row.now }
+    {
+        is_sub(self.lists.shows.len(), self.lists.allocs.len(), row)
+    }
+
     // It is the last of the subscriptions.
     fn push_sub(&mut self, row: &SubRow) -> Result<(), AllocError>
         requires after { comes_after self.old.last (key_of (kind.Sub row.now)) ≡ true }
+        requires fits { sub_fits self.old.farm row.now ≡ true }
         ensures { OnOk result (self.new ≡ told_with self.old (kind.Sub row.now)) }
     {
         let id = id_of(row);

@@ -1,5 +1,5 @@
 use Rattle.std.proofs.Common.{sym, ◌∙◌}
-use Rattle.recorder.proofs.Stays.{empty_list, filled_list, none_named, told_stays, untold_stays}
+use Rattle.recorder.proofs.Stays.{empty_list, filled_list, none_named, told_entry, told_stays, untold, untold_stays}
 use Rattle.recorder.proofs.keeping.keep.Goals as goal
 
 pub returns-then-is_empty-clause-kept : goal.returns-then-is_empty-clause-kept
@@ -20,3 +20,15 @@ returns-clause-same g c =
     λ f e kept legal names.
     none_named c.batches_make_the_rows.ensures.rows c.farms_differ_in_their_stores.ensures c.legal_runs_keep_farms.ensures.runs f e kept legal c.args.changes.now names
     (filled_list c.args.changes.now (sym c.is_empty.ensures ∙ c.if-is_empty.false))
+
+pub returns-then-is_empty-clause-told : goal.returns-then-is_empty-clause-told
+returns-then-is_empty-clause-told g c =
+    λ f e kept legal names.
+    untold c.batches_make_the_rows.ensures.rows c.farms_differ_in_their_stores.ensures c.legal_runs_keep_farms.ensures.runs f e kept legal c.args.changes.now names
+    (empty_list c.args.changes.now (sym c.is_empty.ensures ∙ c.if-is_empty.true)) g.K.Keeper.commits c.args.keeper.now
+
+pub returns-clause-told : goal.returns-clause-told
+returns-clause-told g c =
+    λ f e kept legal names.
+    told_entry c.batches_make_the_rows.ensures.rows c.farms_differ_in_their_stores.ensures c.legal_runs_keep_farms.ensures.runs f e kept legal c.args.changes.now names
+    (filled_list c.args.changes.now (sym c.is_empty.ensures ∙ c.if-is_empty.false)) g.K.Keeper.commits c.commit.result c.args.keeper.now c.commit.new.keeper c.commit.ensures.told

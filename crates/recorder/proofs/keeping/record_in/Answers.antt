@@ -1,4 +1,4 @@
-use Rattle.std.proofs.Common.{ap, sym, subst, ◌∙◌}
+use Rattle.std.proofs.Common.{Result, [], ap, subst, sym, ◌∙◌, ◌∷◌}
 use Rattle.farm_keeper.proofs.KeepingLaws.{Continues-as}
 use Rattle.recorder.specs.Faults.{is_store_fault}
 use Rattle.farm_types.specs.Farm.{Farm}
@@ -6,6 +6,8 @@ use Rattle.farm_core.specs.Change.{IsReady, IsReserved}
 use Rattle.farm_core.proofs.Applying.{ready_reserved}
 use Rattle.recorder.proofs.Recorded.{after_reserved, is_reserved, recorded_then, records_at_fault, stays_at_fault}
 use Rattle.recorder.proofs.Stays.{recorded_at}
+use Rattle.recorder.specs.declared.refusal.RecordFault.{RecordFault}
+use Rattle.recorder.specs.Telling.{TellsOf}
 use Rattle.recorder.proofs.keeping.record_in.Goals as goal
 
 pub make_ready-requires : goal.make_ready-requires
@@ -49,3 +51,8 @@ pub returns-in-Err-clause-keeper : goal.returns-in-Err-clause-keeper
 returns-in-Err-clause-keeper g c =
     Continues-as g.K.Keeper.tells g.K.Keeper.faults c.args.keeper.now c.make_ready.new.keeper _ (is_store_fault c.refused.result)
     (sym (ap is_store_fault c.refused.ensures)) c.in-Err.ensures.keeper
+
+pub returns-in-Err-clause-told : goal.returns-in-Err-clause-told
+returns-in-Err-clause-told g c =
+    subst (λ (r : Result (Unit {0}) RecordFault). TellsOf g.K.Keeper.commits c.args.farm.now (c.args.entry.now ∷ []) r c.args.keeper.now c.make_ready.new.keeper) (sym c.refused.ensures)
+    c.in-Err.ensures.told

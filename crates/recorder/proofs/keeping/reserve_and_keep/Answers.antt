@@ -1,4 +1,5 @@
 use Rattle.recorder.proofs.Recorded.{on_ok, ran_out, unchanged}
+use Rattle.recorder.proofs.Told.{not_told}
 use Rattle.recorder.proofs.keeping.reserve_and_keep.Goals as goal
 
 pub returns-in_err-reserve-clause-kept : goal.returns-in_err-reserve-clause-kept
@@ -17,3 +18,10 @@ returns-in_err-reserve-clause-keeper g c = ran_out g.K.Keeper.tells g.K.Keeper.f
 
 pub returns-clause-same : goal.returns-clause-same
 returns-clause-same g c = c.keep.ensures.same
+
+pub returns-in_err-reserve-clause-told : goal.returns-in_err-reserve-clause-told
+returns-in_err-reserve-clause-told g c =
+    λ f e kept legal names. not_told g.K.Keeper.commits f e c.args.keeper.now c.from_residual.result c.from_residual.ensures.1
+
+pub returns-clause-told : goal.returns-clause-told
+returns-clause-told g c = c.keep.ensures.told

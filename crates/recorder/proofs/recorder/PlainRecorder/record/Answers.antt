@@ -1,9 +1,10 @@
-use Rattle.std.proofs.Common.{sym, subst}
+use Rattle.std.proofs.Common.{[], subst, sym, ◌∷◌}
 use Rattle.farm_types.specs.Farm.{Farm}
 use Rattle.farm_core.specs.Change.{after_change}
 use Rattle.recorder.specs.Faults.{is_store_fault}
 use Rattle.recorder.specs.Recording.{IsOfEntry, Records}
 use Rattle.recorder.proofs.Recorded.{farm_is, goes_of, same_entry}
+use Rattle.recorder.proofs.Told.{told_of}
 use Rattle.recorder.proofs.recorder.PlainRecorder.record.Goals as goal
 
 pub record_in-requires : goal.record_in-requires
@@ -22,3 +23,7 @@ returns-clause-keeper g c =
 
 pub returns-clause-same : goal.returns-clause-same
 returns-clause-same g c = same_entry c.args.entry.now c.record_in.new.keeper c.self.view_is c.record_in.ensures.same
+
+pub returns-clause-told : goal.returns-clause-told
+returns-clause-told g c =
+    told_of g.K.Keeper.commits (λ (f : Farm). c.args.entry.now ∷ []) c.record_in.new.keeper c.record_in.result c.self.view_is c.record_in.ensures.told

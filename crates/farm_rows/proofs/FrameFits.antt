@@ -1,5 +1,5 @@
--- What a row keeps that fits the rows before it: the parts of each test.
-use Rattle.std.proofs.Common.{◌≡◌, ◌<◌, ◌≤◌, ℕ, true, not, leb, ltb, Some}
+-- The parts of the tests of a frame's row that fits the rows before it.
+use Rattle.std.proofs.Common.{◌≡◌, ◌<◌, ◌≤◌, ◌+◌, ◌&&◌, ℕ, true, not, eqb, leb, ltb, Some}
 use Rattle.std.specs.Prelude.{slice_get, is_some}
 use Rattle.std.specs.List.{list_any}
 use Rattle.std.specs.Ordering.{int_eq}
@@ -8,14 +8,28 @@ use Rattle.farm_types.specs.declared.limits.TheConstants.{LAST_VERSION, MOST_RET
 use Rattle.farm_types.specs.declared.rows.HostRow.{HostRow}
 use Rattle.farm_types.specs.declared.rows.JobRow.{JobRow}
 use Rattle.farm_types.specs.declared.rows.LayerRow.{LayerRow}
-use Rattle.farm_types.specs.Farm.{Farm, is_placed, job_at, layer_at, slot_from}
+use Rattle.farm_types.specs.Booking.{is_up}
+use Rattle.farm_types.specs.Farm.{Farm, is_placed, job_at, layer_at, slot_from, sub_at, sub_of}
+use Rattle.farm_types.specs.Sums.{used_cores, used_memory}
 use Rattle.farm_types.proofs.Lists.{and_both, for_some_true}
 use Rattle.farm_rows.specs.declared.frame_row.FrameRow.{FrameRow}
 use Rattle.farm_rows.specs.declared.frame_row.StoredFrame.{StoredFrame}
 use Rattle.farm_rows.specs.declared.frame_row.StoredState.TheVariants as stored
 use Rattle.farm_rows.specs.Recovery.{attempt_fits, frame_fits, host_takes, numbers_at, position_of, slot_fits, taken_fits}
 
--- ---- frames
+-- the host is up in that boot, the subscription is there, and the layer's amounts have room
+pub record HostTakes (f : Farm) (boot host : ℕ) (job : JobRow) (layer : LayerRow) (on : HostRow) : Type 0 where
+  pub up : (is_up on.state && eqb on.boot boot) ≡ true
+  pub subscribed : is_some (sub_at f (sub_of job.show on.alloc)) ≡ true
+  pub cores : used_cores f host + layer.cores ≤ on.cores
+  pub memory : used_memory f host + layer.memory ≤ on.memory
+
+pub takes_parts : (f : Farm) (boot host : ℕ) (job : JobRow) (layer : LayerRow) (on : HostRow) → host_takes f boot host job layer on ≡ true → HostTakes f boot host job layer on
+takes_parts f boot host job layer on takes =
+    let up = and_both (is_up on.state && eqb on.boot boot) _ takes in
+    let sub = and_both (is_some (sub_at f (sub_of job.show on.alloc))) _ up.1 in
+    let room = and_both (leb (used_cores f host + layer.cores) on.cores) _ sub.1 in
+    record { up = up.0; subscribed = sub.0; cores = leb-true _ on.cores room.0; memory = leb-true _ on.memory room.1 }
 
 -- a running frame's job, layer and host are there
 pub record AttemptFits (f : Farm) (version : ℕ) (x : StoredFrame) (boot host since : ℕ) : Type 0 where
