@@ -3,7 +3,7 @@
 ghost use Rattle.std.specs.Prelude.{◌≡◌, ◌<◌, ◌≤◌, None, IfSome, vec_len};
 ghost use Rattle.std.specs.List.{position};
 ghost use Rattle.child_spawner.specs.Children.{is_child_of};
-ghost use Rattle.cue_io.specs.Faults.{HasRisen};
+ghost use Rattle.fault_counts.specs.Counts.{HasRisen};
 ghost use Rattle.rqd_launcher.specs.declared.spawner.SpawnFault.TheVariants.{Failed};
 
 use crate::child::Child;

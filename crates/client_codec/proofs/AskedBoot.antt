@@ -14,7 +14,7 @@ use Rattle.farm_lines.specs.declared.request.Request.TheVariants as request
 use Rattle.farm_lines.specs.FormedLines.{IsText}
 use Rattle.farm_lines.specs.Request.{boot_form_at, boot_keys, boot_line_of, judged}
 use Rattle.farm_lines.specs.RequestText.{boot_line, texts_data}
-use Rattle.farm_lines.specs.Spec.{formed}
+use Rattle.farm_lines.specs.Spec.{form_first}
 use Rattle.farm_lines.specs.Words.{whole}
 use Rattle.client_codec.proofs.AskedFields.{IsReadAs, number_back, tags_back, texts_fit, within_back}
 use Rattle.object_writer.proofs.DataBack.{Fits}
@@ -51,7 +51,7 @@ module _ (b : BootLine) (h : IsFormedBoot b) where
 
   pub boot_read : IsReadAs (boot_line b) (request.Boot b)
   unfolding boot_line
-  boot_read = ap (judged request.Boot) (ap (λ r. formed r >>= boot_line_of) (form_read _ refl refl refl refl refl refl refl) ∙ amounts_within)
+  boot_read = ap (judged request.Boot) (ap (λ r. form_first r >>= boot_line_of) (form_read _ refl refl refl refl refl refl refl) ∙ amounts_within)
 
   pub boot_fits : IsText b.alloc → Fits 2 (boot_line b)
   unfolding boot_line

@@ -1,6 +1,6 @@
 -- The layers of a job's spec are read as those layers.
-use Rattle.std.proofs.Common.{◌≡◌, ℕ, ◌≤◌, true, List, [], ◌∷◌, length, Some, Ok, IsUtf8, refl, sym, ap, ◌∙◌, arith, leb-true}
-use Rattle.std.specs.Prelude.{codes, map, nat_le}
+use Rattle.std.proofs.Common.{◌≡◌, ℕ, List, [], ◌∷◌, length, Some, Ok, IsUtf8, refl, sym, ap, ◌∙◌, arith}
+use Rattle.std.specs.Prelude.{codes, map}
 use Rattle.std.specs.List.{All, list_all}
 use Rattle.std.specs.Str.{is_utf8}
 use Rattle.std.proofs.lemmas.List.Elements.{All-head, All-tail}
@@ -13,9 +13,8 @@ use Rattle.farm_types.specs.declared.job.LayerSpec.{LayerSpec}
 use Rattle.farm_types.specs.declared.limits.TheConstants.{LEAST_CORES, LEAST_MEMORY, MOST_COMMAND, MOST_CORES, MOST_MEMORY, MOST_RANGE, MOST_TAGS}
 use Rattle.farm_types.specs.Formed.{IsFormedLayer}
 use Rattle.farm_types.specs.Forms.{is_command_byte, is_command_text}
-use Rattle.farm_types.specs.Ranges.{is_range_text, prints_as, range_numbers, sections_in}
 use Rattle.farm_types.proofs.Lists.{and_both}
-use Rattle.frame_range.specs.Sets.{numbers_of, set_of}
+use Rattle.farm_types.proofs.Ranges.{IsRange, numbers_said, range_read}
 use Rattle.farm_lines.specs.declared.job_form.LayerForm.{LayerForm}
 use Rattle.farm_lines.specs.Points.{cores_of}
 use Rattle.farm_lines.specs.RequestText.{cores_text, layer_data, texts_data}
@@ -23,22 +22,13 @@ use Rattle.farm_lines.specs.Spec.{layer_cores, layer_form_at, layer_keys, layer_
 use Rattle.farm_lines.specs.Words.{whole}
 use Rattle.client_codec.proofs.AskedFields.{number_back, tags_back, texts_fit, there, within_back}
 use Rattle.client_codec.proofs.AskedPoints.{cores_back, cores_fit}
-use Rattle.client_codec.proofs.AskedRange.{IsRange, range_back}
 use Rattle.object_writer.proofs.DataBack.{Fits}
 use Rattle.client_codec.proofs.FieldsBack.{form_back, name_back, text_back}
-use Rattle.client_codec.proofs.TextsFit.{name_fits}
+use Rattle.client_codec.proofs.TextsFit.{name_fits, range_fits}
 
 -- the fields of a layer, before its amounts are tried
 abbrev pub form_of : LayerSpec → LayerForm
 form_of l = record { name = l.name; range = l.range; command = l.command; cores = cores_text l.cores; memory = l.memory; tags = l.tags }
-
-short : (text : List ℕ) → is_range_text text ≡ true → length text ≤ MOST_RANGE
-unfolding is_range_text
-short text h = leb-true (length text) MOST_RANGE (and_both (nat_le (length text) MOST_RANGE) (prints_as text (set_of text)) h).0
-
-numbers_are : (text : List ℕ) (range : IsRange text) → numbers_of range.sections ≡ range_numbers text
-unfolding range_numbers
-numbers_are text range = ap (λ r. numbers_of (sections_in r)) (sym range.read)
 
 module _ (l : LayerSpec) (h : IsFormedLayer l) where
   form_read : (ms : Members) → get_member (codes "name") ms ≡ Some (string l.name) → get_member (codes "range") ms ≡ Some (string l.range) → get_member (codes "command") ms ≡ Some (string l.command)
@@ -61,7 +51,7 @@ module _ (l : LayerSpec) (h : IsFormedLayer l) where
   layer_read field = form_read _ refl refl refl refl refl refl refl
 
   range : IsRange l.range
-  range = range_back l.range h.range
+  range = range_read l.range h.range
 
   cores_within : layer_cores (codes "cores") (cores_of (cores_text l.cores)) ≡ Ok l.cores
   cores_within =
@@ -70,14 +60,14 @@ module _ (l : LayerSpec) (h : IsFormedLayer l) where
 
   same_layer : layer_with (form_of l) range.sections l.cores ≡ l
   same_layer =
-      let numbers = numbers_are l.range range ∙ sym h.numbers_are in
+      let numbers = sym (numbers_said l.range range.sections range.read) ∙ sym h.numbers_are in
       λ i. record { name = l.name; range = range.prints i; numbers = numbers i; command = l.command; cores = l.cores; memory = l.memory; tags = l.tags }
 
   amounts_within : layer_of (form_of l) ≡ Ok l
   unfolding layer_of
   amounts_within =
       rw (
-        within_back (codes "range") 0 MOST_RANGE (length l.range) (omega arith, short l.range h.range),
+        within_back (codes "range") 0 MOST_RANGE (length l.range) (omega arith, range.short),
         range.read,
         within_back (codes "command") 1 MOST_COMMAND (length l.command) h.limits.command_within,
         cores_within,
@@ -89,7 +79,7 @@ module _ (l : LayerSpec) (h : IsFormedLayer l) where
   unfolding layer_data
   layer_fits =
       let command : IsUtf8 l.command = IsUtf8-from_is_utf8 l.command (and_both (is_utf8 l.command) (list_all is_command_byte l.command) h.command).0 in
-      (refl, command, (refl, cores_fit l.cores h.limits.cores_within.1, (refl, omega (arith, h.limits.memory_within.1), (refl, name_fits l.name h.name, (refl, range.fits, (refl, texts_fit 0 l.tags h.tags, tt))))))
+      (refl, command, (refl, cores_fit l.cores h.limits.cores_within.1, (refl, omega (arith, h.limits.memory_within.1), (refl, name_fits l.name h.name, (refl, range_fits l.range h.range, (refl, texts_fit 0 l.tags h.tags, tt))))))
 
 pub layers_back : (layers : List LayerSpec) → All IsFormedLayer layers → layers_of (map form_of layers) ≡ Ok layers
 layers_back [] h = refl

@@ -14,7 +14,7 @@ use Rattle.farm_lines.specs.declared.sub_form.SubForm.{SubForm}
 use Rattle.farm_lines.specs.FormedLines.{IsText}
 use Rattle.farm_lines.specs.Request.{judged, sub_form_at, sub_keys, sub_line_of}
 use Rattle.farm_lines.specs.RequestText.{sub_line}
-use Rattle.farm_lines.specs.Spec.{formed}
+use Rattle.farm_lines.specs.Spec.{form_first}
 use Rattle.farm_lines.specs.Words.{whole}
 use Rattle.client_codec.proofs.AskedFields.{IsReadAs, number_back, within_back}
 use Rattle.object_writer.proofs.DataBack.{Fits}
@@ -44,7 +44,7 @@ module _ (s : SubLine) (h : IsFormedSub s) where
 
   pub sub_read : IsReadAs (sub_line s) (request.Sub s)
   unfolding sub_line
-  sub_read = ap (judged request.Sub) (ap (λ r. formed r >>= sub_line_of) (form_read _ refl refl refl refl refl) ∙ amounts_within)
+  sub_read = ap (judged request.Sub) (ap (λ r. form_first r >>= sub_line_of) (form_read _ refl refl refl refl refl) ∙ amounts_within)
 
   pub sub_fits : IsText s.alloc → Fits 1 (sub_line s)
   unfolding sub_line

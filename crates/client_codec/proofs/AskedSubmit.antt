@@ -19,7 +19,7 @@ use Rattle.farm_lines.specs.DependLines.{own_depend_at, own_depends}
 use Rattle.farm_lines.specs.Fields.{or_default}
 use Rattle.farm_lines.specs.Request.{after_others, judged, submit_at}
 use Rattle.farm_lines.specs.RequestText.{layer_data, own_depend_data, spec_data, submit_line}
-use Rattle.farm_lines.specs.Spec.{formed, job_form_at, job_keys, job_of, layer_form_at, number_at, spec_at, text_of}
+use Rattle.farm_lines.specs.Spec.{form_first, job_form_at, job_keys, job_of, layer_form_at, number_at, spec_at, text_of}
 use Rattle.farm_lines.specs.Words.{whole}
 use Rattle.client_codec.proofs.AskedFields.{IsReadAs, list_back, list_seen, number_back, there, within_back}
 use Rattle.client_codec.proofs.AskedLayers.{form_of, layer_fits, layer_read, layers_back}
@@ -93,7 +93,7 @@ module _ (s : JobSpec) (h : IsFormedJob s) where
 
   spec_read : spec_at (fields_in (spec_data s)) ≡ Ok s
   unfolding spec_at spec_data
-  spec_read = ap (λ r. formed r >>= job_of) (form_read _ refl refl refl refl refl refl refl refl refl refl refl refl) ∙ amounts_within
+  spec_read = ap (λ r. form_first r >>= job_of) (form_read _ refl refl refl refl refl refl refl refl refl refl refl refl) ∙ amounts_within
 
   pub submit_read : IsReadAs (submit_line s) (request.Submit s)
   unfolding submit_line submit_at spec_data

@@ -10,7 +10,6 @@ mod AskedNames
 mod AskedOptions
 mod AskedOwn
 mod AskedPoints
-mod AskedRange
 mod AskedReport
 mod AskedSub
 mod AskedSubmit

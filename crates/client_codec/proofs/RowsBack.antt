@@ -17,7 +17,7 @@ use Rattle.farm_lines.specs.declared.list_row.ShownProc.{ShownProc}
 use Rattle.farm_lines.specs.declared.list_row.ShownSub.{ShownSub}
 use Rattle.farm_lines.specs.FormedLines.{IsFormedHostRow, IsFormedJobRow, IsFormedLayerRow, IsFormedProcRow, IsFormedRow, IsFormedSubRow, IsName}
 use Rattle.farm_lines.specs.ListReplies.{depend_row_data, frame_row_data, host_row_data, job_row_data, layer_row_data, list_row_data, name_data, proc_row_data, sub_row_data}
-use Rattle.farm_lines.specs.ReplyRows.{depend_row, frame_row, host_row, job_row, kind_of_row_at, layer_row, name_row, proc_row, row_at, sub_row}
+use Rattle.farm_lines.specs.ReplyRows.{depend_row_at, frame_row_at, host_row_at, job_row_at, kind_of_row_at, layer_row_at, name_row_at, proc_row_at, row_at, sub_row_at}
 use Rattle.farm_lines.specs.RowKinds.{kind_of_row}
 use Rattle.object_writer.proofs.DataBack.{Fits}
 use Rattle.client_codec.proofs.FieldsBack.{fields_in, name_back, whole_back, word_back}
@@ -30,8 +30,8 @@ name_row_fits : (name : List ℕ) → IsName name → Fits 1 (name_data name)
 unfolding name_data
 name_row_fits name h = (refl, name_fits name h, tt)
 
-name_row_read : (name : List ℕ) → IsName name → name_row (fields_in (name_data name)) ≡ Ok (row.Name name)
-unfolding name_data name_row
+name_row_read : (name : List ℕ) → IsName name → name_row_at (fields_in (name_data name)) ≡ Ok (row.Name name)
+unfolding name_data name_row_at
 name_row_read name h = rw (name_back (codes "name") (fields_in (name_data name)) name refl h) refl
 
 -- ---- sub
@@ -40,8 +40,8 @@ sub_fits : (s : ShownSub) → IsFormedSubRow s → Fits 1 (sub_row_data s)
 unfolding sub_row_data
 sub_fits s h = (refl, name_fits s.alloc h.alloc_name, (refl, omega (arith, h.booked_within), (refl, omega (arith, h.burst_within), (refl, name_fits s.show h.show_name, (refl, omega (arith, h.size_within), tt)))))
 
-sub_read : (s : ShownSub) → IsFormedSubRow s → sub_row (fields_in (sub_row_data s)) ≡ Ok (row.Sub s)
-unfolding sub_row_data sub_row
+sub_read : (s : ShownSub) → IsFormedSubRow s → sub_row_at (fields_in (sub_row_data s)) ≡ Ok (row.Sub s)
+unfolding sub_row_data sub_row_at
 sub_read s h =
     let ms = fields_in (sub_row_data s) in
     rw (name_back (codes "alloc") ms s.alloc refl h.alloc_name, whole_back (codes "booked") ms 0 MOST_BOOKED s.booked refl (omega arith, h.booked_within), whole_back (codes "burst") ms 0 MOST_BURST s.burst refl (omega arith, h.burst_within), name_back (codes "show") ms s.show refl h.show_name, whole_back (codes "size") ms 0 MOST_BURST s.size refl (omega arith, h.size_within)) refl
@@ -52,8 +52,8 @@ host_fits : (x : ShownHost) → IsFormedHostRow x → Fits 1 (host_row_data x)
 unfolding host_row_data
 host_fits x h = (refl, name_fits x.alloc h.alloc_name, (refl, omega (arith, h.boot_within.1), (refl, omega (arith, h.cores_within.1), (refl, h.heard_within, (refl, lock_utf8 x.lock, (refl, omega (arith, h.memory_within.1), (refl, name_fits x.name h.host_name, (refl, host_utf8 x.state, (refl, omega (arith, h.used_cores_within), (refl, omega (arith, h.used_memory_within), tt))))))))))
 
-host_read : (x : ShownHost) → IsFormedHostRow x → host_row (fields_in (host_row_data x)) ≡ Ok (row.Host x)
-unfolding host_row_data host_row
+host_read : (x : ShownHost) → IsFormedHostRow x → host_row_at (fields_in (host_row_data x)) ≡ Ok (row.Host x)
+unfolding host_row_data host_row_at
 host_read x h =
     let ms = fields_in (host_row_data x) in
     rw (name_back (codes "alloc") ms x.alloc refl h.alloc_name, whole_back (codes "boot") ms 1 LAST_BOOT x.boot refl h.boot_within, whole_back (codes "cores") ms LEAST_CORES MOST_CORES x.cores refl h.cores_within, whole_back (codes "heard") ms 0 18446744073709551615 x.heard refl (omega arith, omega (arith, h.heard_within)), word_back (codes "lock") ms lock_of (lock_word x.lock) x.lock refl (lock_back x.lock), whole_back (codes "memory") ms LEAST_MEMORY MOST_MEMORY x.memory refl h.memory_within, name_back (codes "name") ms x.name refl h.host_name, word_back (codes "state") ms host_state_of (host_word x.state) x.state refl (host_back x.state), whole_back (codes "used_cores") ms 0 MOST_CORES x.used_cores refl (omega arith, h.used_cores_within), whole_back (codes "used_memory") ms 0 MOST_MEMORY x.used_memory refl (omega arith, h.used_memory_within)) refl
@@ -64,8 +64,8 @@ job_fits : (j : ShownJob) → IsFormedJobRow j → Fits 1 (job_row_data j)
 unfolding job_row_data
 job_fits j h = (refl, omega (arith, h.counts.dead_within), (refl, omega (arith, h.counts.depend_within), (refl, omega (arith, h.counts.eaten_within), (refl, name_fits j.name h.job_name, (refl, tt, (refl, omega (arith, h.priority_within.1), (refl, omega (arith, h.counts.running_within), (refl, name_fits j.show h.show_name, (refl, job_utf8 j.state, (refl, omega (arith, h.counts.succeeded_within), (refl, omega (arith, h.counts.waiting_within), tt)))))))))))
 
-job_read : (j : ShownJob) → IsFormedJobRow j → job_row (fields_in (job_row_data j)) ≡ Ok (row.Job j)
-unfolding job_row_data job_row
+job_read : (j : ShownJob) → IsFormedJobRow j → job_row_at (fields_in (job_row_data j)) ≡ Ok (row.Job j)
+unfolding job_row_data job_row_at
 job_read j h =
     let ms = fields_in (job_row_data j) in
     rw (whole_back (codes "dead") ms 0 MOST_FRAMES j.dead refl (omega arith, h.counts.dead_within), whole_back (codes "depend") ms 0 MOST_FRAMES j.depend refl (omega arith, h.counts.depend_within), whole_back (codes "eaten") ms 0 MOST_FRAMES j.eaten refl (omega arith, h.counts.eaten_within), name_back (codes "name") ms j.name refl h.job_name, whole_back (codes "priority") ms 1 MOST_PRIORITY j.priority refl h.priority_within, whole_back (codes "running") ms 0 MOST_FRAMES j.running refl (omega arith, h.counts.running_within), name_back (codes "show") ms j.show refl h.show_name, word_back (codes "state") ms job_state_of (job_word j.state) j.state refl (job_back j.state), whole_back (codes "succeeded") ms 0 MOST_FRAMES j.succeeded refl (omega arith, h.counts.succeeded_within), whole_back (codes "waiting") ms 0 MOST_FRAMES j.waiting refl (omega arith, h.counts.waiting_within)) refl
@@ -76,8 +76,8 @@ layer_fits : (l : ShownLayer) → IsFormedLayerRow l → Fits 1 (layer_row_data 
 unfolding layer_row_data
 layer_fits l h = (refl, omega (arith, h.cores_within.1), (refl, omega (arith, h.counts.dead_within), (refl, omega (arith, h.counts.depend_within), (refl, omega (arith, h.counts.eaten_within), (refl, omega (arith, h.memory_within.1), (refl, name_fits l.name h.layer_name, (refl, text_fits l.range h.range_text, (refl, omega (arith, h.counts.running_within), (refl, omega (arith, h.counts.succeeded_within), (refl, omega (arith, h.counts.waiting_within), tt))))))))))
 
-layer_read : (l : ShownLayer) → IsFormedLayerRow l → layer_row (fields_in (layer_row_data l)) ≡ Ok (row.Layer l)
-unfolding layer_row_data layer_row
+layer_read : (l : ShownLayer) → IsFormedLayerRow l → layer_row_at (fields_in (layer_row_data l)) ≡ Ok (row.Layer l)
+unfolding layer_row_data layer_row_at
 layer_read l h =
     let ms = fields_in (layer_row_data l) in
     rw (whole_back (codes "cores") ms LEAST_CORES MOST_CORES l.cores refl h.cores_within, whole_back (codes "dead") ms 0 MOST_FRAMES l.dead refl (omega arith, h.counts.dead_within), whole_back (codes "depend") ms 0 MOST_FRAMES l.depend refl (omega arith, h.counts.depend_within), whole_back (codes "eaten") ms 0 MOST_FRAMES l.eaten refl (omega arith, h.counts.eaten_within), whole_back (codes "memory") ms LEAST_MEMORY MOST_MEMORY l.memory refl h.memory_within, name_back (codes "name") ms l.name refl h.layer_name, whole_back (codes "running") ms 0 MOST_FRAMES l.running refl (omega arith, h.counts.running_within), whole_back (codes "succeeded") ms 0 MOST_FRAMES l.succeeded refl (omega arith, h.counts.succeeded_within), whole_back (codes "waiting") ms 0 MOST_FRAMES l.waiting refl (omega arith, h.counts.waiting_within)) refl
@@ -88,8 +88,8 @@ frame_fits : (x : ShownFrame) → IsFormedRow (row.Frame x) → Fits 1 (frame_ro
 unfolding frame_row_data
 frame_fits x h = (refl, text_fits x.frame h.0, (refl, omega (arith, h.1), (refl, state_utf8 x.state, (refl, omega (arith, h.2), tt))))
 
-frame_read : (x : ShownFrame) → IsFormedRow (row.Frame x) → frame_row (fields_in (frame_row_data x)) ≡ Ok (row.Frame x)
-unfolding frame_row_data frame_row
+frame_read : (x : ShownFrame) → IsFormedRow (row.Frame x) → frame_row_at (fields_in (frame_row_data x)) ≡ Ok (row.Frame x)
+unfolding frame_row_data frame_row_at
 frame_read x h =
     let ms = fields_in (frame_row_data x) in
     rw (whole_back (codes "retries") ms 0 MOST_RETRIES x.retries refl (omega arith, h.1), word_back (codes "state") ms state_of (state_word x.state) x.state refl (state_back x.state), whole_back (codes "version") ms 0 LAST_VERSION x.version refl (omega arith, h.2)) refl
@@ -100,8 +100,8 @@ depend_fits : (d : ShownDepend) → IsFormedRow (row.Depend d) → Fits 1 (depen
 unfolding depend_row_data
 depend_fits d h = (refl, omega (arith, h.1), (refl, kind_utf8 d.kind, (refl, tt, tt)))
 
-depend_read : (d : ShownDepend) → IsFormedRow (row.Depend d) → depend_row (fields_in (depend_row_data d)) ≡ Ok (row.Depend d)
-unfolding depend_row_data depend_row
+depend_read : (d : ShownDepend) → IsFormedRow (row.Depend d) → depend_row_at (fields_in (depend_row_data d)) ≡ Ok (row.Depend d)
+unfolding depend_row_data depend_row_at
 depend_read d h =
     let ms = fields_in (depend_row_data d) in
     rw (whole_back (codes "depend") ms 1 LAST_DEPEND d.depend refl h, word_back (codes "kind") ms kind_of (kind_word d.kind) d.kind refl (kind_back d.kind)) refl
@@ -112,8 +112,8 @@ proc_fits : (p : ShownProc) → IsFormedProcRow p → Fits 1 (proc_row_data p)
 unfolding proc_row_data
 proc_fits p h = (refl, omega (arith, h.cores_within.1), (refl, text_fits p.frame h.frame_text, (refl, name_fits p.host h.host_name, (refl, name_fits p.job h.job_name, (refl, omega (arith, h.memory_within.1), (refl, omega (arith, h.slot_within), (refl, omega (arith, h.version_within), tt)))))))
 
-proc_read : (p : ShownProc) → IsFormedProcRow p → proc_row (fields_in (proc_row_data p)) ≡ Ok (row.Proc p)
-unfolding proc_row_data proc_row
+proc_read : (p : ShownProc) → IsFormedProcRow p → proc_row_at (fields_in (proc_row_data p)) ≡ Ok (row.Proc p)
+unfolding proc_row_data proc_row_at
 proc_read p h =
     let ms = fields_in (proc_row_data p) in
     rw (whole_back (codes "cores") ms LEAST_CORES MOST_CORES p.cores refl h.cores_within, name_back (codes "host") ms p.host refl h.host_name, name_back (codes "job") ms p.job refl h.job_name, whole_back (codes "memory") ms LEAST_MEMORY MOST_MEMORY p.memory refl h.memory_within, whole_back (codes "slot") ms 0 LAST_SLOT p.slot refl (omega arith, h.slot_within), whole_back (codes "version") ms 0 LAST_VERSION p.version refl (omega arith, h.version_within)) refl

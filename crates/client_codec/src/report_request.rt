@@ -4,13 +4,12 @@ ghost use Rattle.std.specs.Prelude.{◌≡◌, ◌∷◌, OnOk, map};
 ghost use Rattle.json.specs.Token.{key};
 ghost use Rattle.serde_json.specs.Data.{array};
 ghost use Rattle.serde_json.specs.View.{items_of};
-ghost use Rattle.farm_lines.specs.Reply.{attempt_data, attempts_data};
 ghost use Rattle.farm_lines.specs.RequestText.{done_item_data, report_line};
 ghost use Rattle.object_writer.specs.Tokens.{added, tokens_of};
 
 use crate::members::write_cores_if;
-use farm_lines::Report;
-use farm_types::{Attempt, DoneItem};
+use farm_lines::{Report, write_attempts};
+use farm_types::DoneItem;
 use object_writer::ObjectWriter;
 use std::alloc::AllocError;
 
@@ -26,30 +25,6 @@ pub fn write_report(out: &mut ObjectWriter, report: &Report) -> Result<(), Alloc
     out.text("op", "report")?;
     write_attempts(out, "running", report.running.as_slice())?;
     out.whole("seq", report.seq)?;
-    out.end_object()
-}
-
-fn write_attempts(
-    out: &mut ObjectWriter,
-    name: &str,
-    attempts: &[Attempt],
-) -> Result<(), AllocError>
-    ensures { OnOk result (out.new ≡ added out.old (key name.now ∷ tokens_of (attempts_data attempts.now))) }
-{
-    out.begin_list(name)?;
-    for attempt in attempts {
-        write_attempt(out, *attempt)?;
-    }
-    out.end_list()
-}
-
-#[tactic(auto, unfolding(farm_lines::specs::Reply::attempt_data))]
-fn write_attempt(out: &mut ObjectWriter, attempt: Attempt) -> Result<(), AllocError>
-    ensures { OnOk result (out.new ≡ added out.old (tokens_of (attempt_data attempt))) }
-{
-    out.begin_object()?;
-    out.slot("slot", attempt.slot)?;
-    out.version("version", attempt.version)?;
     out.end_object()
 }
 

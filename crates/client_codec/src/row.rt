@@ -1,8 +1,9 @@
 //! The rows of lists: their fields in order, and no others.
 
 ghost use Rattle.serde_json.specs.View.{members_view};
-ghost use Rattle.cue_json.specs.Fields.{Gives};
-ghost use Rattle.farm_lines.specs.ReplyRows.{count_at, depend_row, frame_row, host_row, job_row, layer_row, name_row, proc_row, row_at, sub_row};
+ghost use Rattle.cue_json.specs.Fields.{Gives, others_at};
+ghost use Rattle.farm_lines.specs.ReplyRows.{count_at, depend_row_at, frame_row_at, host_row_at, job_row_at, layer_row_at, name_row_at, proc_row_at, row_at, sub_row_at};
+ghost use Rattle.farm_lines.specs.RowKinds.{row_keys};
 
 use cue_json::{FieldFault, ItemReader, Map};
 use farm_lines::{
@@ -42,25 +43,32 @@ impl ItemReader for RowReader {
     }
 }
 
-#[tactic(auto, unfolding(farm_lines::specs::ReplyRows::name_row))]
+// Nothing where the object has no keys but those of that kind.
+fn no_others(alloc: Global, object: &Map, kind: RowKind) -> Result<(), FieldFault>
+    ensures { Gives (λ none. none) result (others_at (row_keys kind) (members_view object.now.entries)) }
+{
+    cue_json::no_others(alloc, object, kind.keys())
+}
+
+#[tactic(auto, unfolding(farm_lines::specs::ReplyRows::name_row_at))]
 fn read_name_row(alloc: Global, object: &Map) -> Result<ListRow, FieldFault>
-    ensures { Gives (λ row. row) result (name_row (members_view object.now.entries)) }
+    ensures { Gives (λ row. row) result (name_row_at (members_view object.now.entries)) }
 {
     let name = read_name(alloc, object, "name")?;
-    cue_json::no_others(alloc, object, &["name"])?;
+    no_others(alloc, object, RowKind::Name)?;
     Ok(ListRow::Name { name })
 }
 
-#[tactic(auto, unfolding(farm_lines::specs::ReplyRows::sub_row))]
+#[tactic(auto, unfolding(farm_lines::specs::ReplyRows::sub_row_at))]
 fn read_sub(alloc: Global, object: &Map) -> Result<ListRow, FieldFault>
-    ensures { Gives (λ row. row) result (sub_row (members_view object.now.entries)) }
+    ensures { Gives (λ row. row) result (sub_row_at (members_view object.now.entries)) }
 {
     let allocation = read_name(alloc, object, "alloc")?;
     let booked = read_whole(alloc, object, "booked", 0, MOST_BOOKED)?;
     let burst = read_whole(alloc, object, "burst", 0, MOST_BURST)?;
     let show = read_name(alloc, object, "show")?;
     let size = read_whole(alloc, object, "size", 0, MOST_BURST)?;
-    cue_json::no_others(alloc, object, &["alloc", "booked", "burst", "show", "size"])?;
+    no_others(alloc, object, RowKind::Sub)?;
     Ok(ListRow::Sub(ShownSub {
         alloc: allocation,
         booked: Cores(booked),
@@ -70,9 +78,9 @@ fn read_sub(alloc: Global, object: &Map) -> Result<ListRow, FieldFault>
     }))
 }
 
-#[tactic(auto, unfolding(farm_lines::specs::ReplyRows::host_row))]
+#[tactic(auto, unfolding(farm_lines::specs::ReplyRows::host_row_at))]
 fn read_host(alloc: Global, object: &Map) -> Result<ListRow, FieldFault>
-    ensures { Gives (λ row. row) result (host_row (members_view object.now.entries)) }
+    ensures { Gives (λ row. row) result (host_row_at (members_view object.now.entries)) }
 {
     let allocation = read_name(alloc, object, "alloc")?;
     let boot = read_whole(alloc, object, "boot", 1, LAST_BOOT)?;
@@ -84,22 +92,7 @@ fn read_host(alloc: Global, object: &Map) -> Result<ListRow, FieldFault>
     let state = read_word(alloc, object, "state")?;
     let used_cores = read_whole(alloc, object, "used_cores", 0, MOST_CORES)?;
     let used_memory = cue_json::whole(alloc, object, "used_memory", 0, MOST_MEMORY)?;
-    cue_json::no_others(
-        alloc,
-        object,
-        &[
-            "alloc",
-            "boot",
-            "cores",
-            "heard",
-            "lock",
-            "memory",
-            "name",
-            "state",
-            "used_cores",
-            "used_memory",
-        ],
-    )?;
+    no_others(alloc, object, RowKind::Host)?;
     Ok(ListRow::Host(ShownHost {
         alloc: allocation,
         boot,
@@ -121,9 +114,9 @@ fn read_count(alloc: Global, object: &Map, field: &str) -> Result<u32, FieldFaul
     read_whole(alloc, object, field, 0, MOST_FRAMES)
 }
 
-#[tactic(auto, unfolding(farm_lines::specs::ReplyRows::job_row))]
+#[tactic(auto, unfolding(farm_lines::specs::ReplyRows::job_row_at))]
 fn read_job(alloc: Global, object: &Map) -> Result<ListRow, FieldFault>
-    ensures { Gives (λ row. row) result (job_row (members_view object.now.entries)) }
+    ensures { Gives (λ row. row) result (job_row_at (members_view object.now.entries)) }
 {
     let dead = read_count(alloc, object, "dead")?;
     let depend = read_count(alloc, object, "depend")?;
@@ -136,23 +129,7 @@ fn read_job(alloc: Global, object: &Map) -> Result<ListRow, FieldFault>
     let state = read_word(alloc, object, "state")?;
     let succeeded = read_count(alloc, object, "succeeded")?;
     let waiting = read_count(alloc, object, "waiting")?;
-    cue_json::no_others(
-        alloc,
-        object,
-        &[
-            "dead",
-            "depend",
-            "eaten",
-            "name",
-            "paused",
-            "priority",
-            "running",
-            "show",
-            "state",
-            "succeeded",
-            "waiting",
-        ],
-    )?;
+    no_others(alloc, object, RowKind::Job)?;
     Ok(ListRow::Job(ShownJob {
         dead,
         depend,
@@ -168,9 +145,9 @@ fn read_job(alloc: Global, object: &Map) -> Result<ListRow, FieldFault>
     }))
 }
 
-#[tactic(auto, unfolding(farm_lines::specs::ReplyRows::layer_row))]
+#[tactic(auto, unfolding(farm_lines::specs::ReplyRows::layer_row_at))]
 fn read_layer(alloc: Global, object: &Map) -> Result<ListRow, FieldFault>
-    ensures { Gives (λ row. row) result (layer_row (members_view object.now.entries)) }
+    ensures { Gives (λ row. row) result (layer_row_at (members_view object.now.entries)) }
 {
     let cores = read_whole(alloc, object, "cores", LEAST_CORES, MOST_CORES)?;
     let dead = read_count(alloc, object, "dead")?;
@@ -182,22 +159,7 @@ fn read_layer(alloc: Global, object: &Map) -> Result<ListRow, FieldFault>
     let running = read_count(alloc, object, "running")?;
     let succeeded = read_count(alloc, object, "succeeded")?;
     let waiting = read_count(alloc, object, "waiting")?;
-    cue_json::no_others(
-        alloc,
-        object,
-        &[
-            "cores",
-            "dead",
-            "depend",
-            "eaten",
-            "memory",
-            "name",
-            "range",
-            "running",
-            "succeeded",
-            "waiting",
-        ],
-    )?;
+    no_others(alloc, object, RowKind::Layer)?;
     Ok(ListRow::Layer(ShownLayer {
         cores: Cores(cores),
         dead,
@@ -212,15 +174,15 @@ fn read_layer(alloc: Global, object: &Map) -> Result<ListRow, FieldFault>
     }))
 }
 
-#[tactic(auto, unfolding(farm_lines::specs::ReplyRows::frame_row))]
+#[tactic(auto, unfolding(farm_lines::specs::ReplyRows::frame_row_at))]
 fn read_frame(alloc: Global, object: &Map) -> Result<ListRow, FieldFault>
-    ensures { Gives (λ row. row) result (frame_row (members_view object.now.entries)) }
+    ensures { Gives (λ row. row) result (frame_row_at (members_view object.now.entries)) }
 {
     let frame = read_text(alloc, object, "frame")?;
     let retries = read_whole(alloc, object, "retries", 0, MOST_RETRIES)?;
     let state = read_word(alloc, object, "state")?;
     let version = read_whole(alloc, object, "version", 0, LAST_VERSION)?;
-    cue_json::no_others(alloc, object, &["frame", "retries", "state", "version"])?;
+    no_others(alloc, object, RowKind::Frame)?;
     Ok(ListRow::Frame(ShownFrame {
         frame,
         retries,
@@ -229,14 +191,14 @@ fn read_frame(alloc: Global, object: &Map) -> Result<ListRow, FieldFault>
     }))
 }
 
-#[tactic(auto, unfolding(farm_lines::specs::ReplyRows::depend_row))]
+#[tactic(auto, unfolding(farm_lines::specs::ReplyRows::depend_row_at))]
 fn read_depend(alloc: Global, object: &Map) -> Result<ListRow, FieldFault>
-    ensures { Gives (λ row. row) result (depend_row (members_view object.now.entries)) }
+    ensures { Gives (λ row. row) result (depend_row_at (members_view object.now.entries)) }
 {
     let depend = read_whole(alloc, object, "depend", 1, LAST_DEPEND)?;
     let kind = read_word(alloc, object, "kind")?;
     let satisfied = cue_json::flag(alloc, object, "satisfied")?;
-    cue_json::no_others(alloc, object, &["depend", "kind", "satisfied"])?;
+    no_others(alloc, object, RowKind::Depend)?;
     Ok(ListRow::Depend(ShownDepend {
         depend: DependNo(depend),
         kind,
@@ -244,9 +206,9 @@ fn read_depend(alloc: Global, object: &Map) -> Result<ListRow, FieldFault>
     }))
 }
 
-#[tactic(auto, unfolding(farm_lines::specs::ReplyRows::proc_row))]
+#[tactic(auto, unfolding(farm_lines::specs::ReplyRows::proc_row_at))]
 fn read_proc(alloc: Global, object: &Map) -> Result<ListRow, FieldFault>
-    ensures { Gives (λ row. row) result (proc_row (members_view object.now.entries)) }
+    ensures { Gives (λ row. row) result (proc_row_at (members_view object.now.entries)) }
 {
     let cores = read_whole(alloc, object, "cores", LEAST_CORES, MOST_CORES)?;
     let frame = read_text(alloc, object, "frame")?;
@@ -255,11 +217,7 @@ fn read_proc(alloc: Global, object: &Map) -> Result<ListRow, FieldFault>
     let memory = cue_json::whole(alloc, object, "memory", LEAST_MEMORY, MOST_MEMORY)?;
     let slot = read_whole(alloc, object, "slot", 0, LAST_SLOT)?;
     let version = read_whole(alloc, object, "version", 0, LAST_VERSION)?;
-    cue_json::no_others(
-        alloc,
-        object,
-        &["cores", "frame", "host", "job", "memory", "slot", "version"],
-    )?;
+    no_others(alloc, object, RowKind::Proc)?;
     Ok(ListRow::Proc(ShownProc {
         cores: Cores(cores),
         frame,

@@ -2,12 +2,9 @@
 //! for the commands.
 #![tactic(auto)]
 
-mod files;
-
-use crate::files::DiskFiles;
 use command_line::{Status, exit_code, words_of};
 use cue_io::OutputSink;
-use cue_tool::run_program;
+use cue_tool::{DiskFiles, run_program};
 use dialer::NetDialer;
 use std::io;
 use std::net::Net;

@@ -22,7 +22,7 @@ use Rattle.job_book.specs.declared.counts.Counts.{Counts}
 use Rattle.job_book.specs.Book.{counts_of, number_of, state_in}
 use Rattle.job_book.specs.Counting.{one, part, counted_in}
 use Rattle.cue_query.specs.Counts.{counts_among, job_counts}
-use Rattle.cue_query.proofs.Told.{kept_within}
+use Rattle.cue_query.proofs.InTurn.{kept_within}
 
 -- ---- states by their numbers
 

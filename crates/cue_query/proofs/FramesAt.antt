@@ -37,17 +37,17 @@ module _ (f : Farm) (kept : IsKeptFarm f) (l : LayerRow) (its : IsLayerOf f l) (
   shown : (s : SlotRow) (x : Frame) → s.frame ≡ Some x → (r : ListRow) × (frame_row l.name s ≡ Some r)
   shown s x has = (row.Frame (record { frame = frame_name x.number l.name; retries = x.retries; state = x.state; version = s.version }), rw has refl)
 
-  each_tells : (n slot : ℕ) → slice_get slots n ≡ Some slot → (s : SlotRow) × (r : ListRow) × (slice_get f.slots slot ≡ Some s) × (frame_row l.name s ≡ Some r)
-  each_tells n slot at =
+  each_shown : (n slot : ℕ) → slice_get slots n ≡ Some slot → (s : SlotRow) × (r : ListRow) × (slice_get f.slots slot ≡ Some s) × (frame_row l.name s ≡ Some r)
+  each_shown n slot at =
       let found = sym (ap (λ (c : JobLists). slot_from 0 (is_placed l.job l.place n) c.slots) is) ∙ (stand n ∙ at) in
       let there = from_slot (is_placed l.job l.place n) f.slots slot found in
-      let tells = shown there.row there.frame there.is in
-      (there.row, tells.0, there.at, tells.1)
+      let shows = shown there.row there.frame there.is in
+      (there.row, shows.0, there.at, shows.1)
 
   all_there : map (λ (r : ListRow). Some r) (frames_in f l) ≡ map (frame_at f l.name) slots
   all_there =
       ap (λ (ns : List ℕ). map (λ (r : ListRow). Some r) (filter_map (frame_row l.name) (filter_map (slice_get f.slots) ns))) (sym (own_slots f kept l its b slots is stand))
-      ∙ all_kept (slice_get f.slots) (frame_row l.name) slots each_tells
+      ∙ all_kept (slice_get f.slots) (frame_row l.name) slots each_shown
 
   pub count_is : length (frames_in f l) ≡ length slots
   count_is = sym (length-map (frames_in f l) (λ (r : ListRow). Some r)) ∙ (ap (λ (rs : List (Option ListRow)). length rs) all_there ∙ length-map slots (frame_at f l.name))

@@ -2,9 +2,10 @@ pub mod Counted
 pub mod DependsAt
 pub mod FramesAt
 pub mod HostsAt
+pub mod InTurn
 pub mod JobsAt
-pub mod LayersTold
+pub mod LayersListed
 pub mod Listed
+pub mod NoJob
 pub mod OwnSlots
 pub mod Paged
-pub mod Told

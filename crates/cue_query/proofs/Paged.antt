@@ -10,9 +10,9 @@ use Rattle.farm_lines.specs.declared.reply.ListReply.{ListReply}
 use Rattle.farm_lines.specs.Lists.{page_of, paged}
 use Rattle.cue_query.specs.declared.page.Page.{Page}
 use Rattle.cue_query.specs.Pages.{new_page, offered_all, passed_by, reply_of}
-use Rattle.cue_query.specs.Queries.{HasTold, Shows, Tells}
-use Rattle.cue_query.specs.declared.fault.QueryFault.{QueryFault}
-use Rattle.cue_query.specs.declared.fault.QueryFault.TheVariants as fault
+use Rattle.cue_query.specs.Queries.{HasListed, IsListed, Shows}
+use Rattle.farm_types.specs.declared.fault.FarmFault.{FarmFault}
+use Rattle.farm_types.specs.declared.fault.FarmFault.TheVariants as fault
 
 -- the rows with those of the others that stand on the page
 abbrev filled : ℕ → ℕ → List ListRow → List ListRow → List ListRow
@@ -103,7 +103,7 @@ all_passed page left n rows passed count = by (nat_lt (length page.rows) ROWS_EA
 abbrev reply_with : List ListRow → ℕ → ListReply
 reply_with rows total = record { rows = rows; total = total }
 
--- a new page to which all rows were told is the page of the list
+-- a new page on which all rows were listed is the page of the list
 pub all_paged : (from : ℕ) (rows : List ListRow) → reply_of (offered_all (new_page from) rows) ≡ page_of from rows
 all_paged from rows =
     let same : from - 0 ≡ from = omega arith in
@@ -112,17 +112,17 @@ all_paged from rows =
     ∙ ap (λ k. reply_with (take ROWS_EACH (drop k rows)) (0 + length rows)) same
     ∙ ap (reply_with (take ROWS_EACH (drop from rows))) count
 
--- a list that was told to a new page is shown as that page
-pub listed_paged : (from : ℕ) (listed : Result (List ListRow) Refusal) (first page : Page) → first ≡ new_page from → HasTold listed first page → paged from listed ≡ Ok (reply_of page)
-listed_paged from (Ok rows) first page new told =
-    ap (λ (r : ListReply). Ok r) (sym (ap reply_of told ∙ ap (λ (p : Page). reply_of (offered_all p rows)) new ∙ all_paged from rows))
-listed_paged from (Err why) first page new told = absurd told
+-- a list that was listed on a new page is shown as that page
+pub listed_paged : (from : ℕ) (listed : Result (List ListRow) Refusal) (first page : Page) → first ≡ new_page from → HasListed listed first page → paged from listed ≡ Ok (reply_of page)
+listed_paged from (Ok rows) first page new has =
+    ap (λ (r : ListReply). Ok r) (sym (ap reply_of has ∙ ap (λ (p : Page). reply_of (offered_all p rows)) new ∙ all_paged from rows))
+listed_paged from (Err why) first page new has = absurd has
 
--- a list that was refused as it was told is shown as refused
-pub refusal_paged : (from : ℕ) (listed : Result (List ListRow) Refusal) (old new : Page) (shown : Result ListReply QueryFault) (e : QueryFault)
-    → Tells listed old (Err e) new → shown ≡ Err e → Shows (paged from listed) shown
-refusal_paged from listed old new shown e tells same = subst (Shows (paged from listed)) (sym same) (shown_by e tells)
+-- a list that was refused as it was listed is shown as refused
+pub refusal_paged : (from : ℕ) (listed : Result (List ListRow) Refusal) (old new : Page) (shown : Result ListReply FarmFault) (e : FarmFault)
+    → IsListed listed old (Err e) new → shown ≡ Err e → Shows (paged from listed) shown
+refusal_paged from listed old new shown e refused same = subst (Shows (paged from listed)) (sym same) (shown_by e refused)
   where
-    shown_by : (e : QueryFault) → Tells listed old (Err e) new → Shows (paged from listed) (Err e)
+    shown_by : (e : FarmFault) → IsListed listed old (Err e) new → Shows (paged from listed) (Err e)
     shown_by (fault.Refused why) is = ap (paged from) is
     shown_by fault.NoMemory is = is

@@ -8,20 +8,20 @@ use Rattle.farm_types.specs.Farm.{Farm}
 use Rattle.farm_types.specs.Finish.{has_succeeded, was_eaten}
 use Rattle.farm_types.specs.Kept.{is_setup}
 use Rattle.farm_types.specs.Settle.{is_blocked}
-use Rattle.farm_lines.specs.Lists.{count_among, counted, is_dead}
+use Rattle.farm_lines.specs.Lists.{count_among, is_dead, shown_count}
 use Rattle.job_book.specs.declared.counts.Counts.{Counts}
 
 -- a job's frames; of a finished one the numbers that are kept
 abbrev pub job_counts : Farm → JobRow → Counts
 job_counts f j =
     record {
-      waiting = counted f j is_waiting 0;
-      setup = counted f j is_setup 0;
-      running = counted f j is_running 0;
-      succeeded = counted f j has_succeeded j.succeeded;
-      depend = counted f j is_blocked 0;
-      dead = counted f j is_dead 0;
-      eaten = counted f j was_eaten j.eaten;
+      waiting = shown_count f j is_waiting 0;
+      setup = shown_count f j is_setup 0;
+      running = shown_count f j is_running 0;
+      succeeded = shown_count f j has_succeeded j.succeeded;
+      depend = shown_count f j is_blocked 0;
+      dead = shown_count f j is_dead 0;
+      eaten = shown_count f j was_eaten j.eaten;
     }
 
 -- the frames in these slots

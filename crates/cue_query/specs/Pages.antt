@@ -1,11 +1,11 @@
--- A page of a list, as its rows are told one by one.
+-- A page of a list, as its rows are listed one by one.
 use Rattle.std.specs.Prelude.{ℕ, ◌&&◌, ◌+◌, ◌-◌, ◌++◌, ◌∷◌, [], Bool, List, fold, length, min, nat_le, nat_lt, if◌then◌else◌}
 use Rattle.farm_lines.specs.declared.list_row.ListRow.{ListRow}
 use Rattle.farm_lines.specs.declared.reply.ListReply.{ListReply}
 use Rattle.cue_query.specs.declared.page.Page.{Page}
 use Rattle.farm_lines.specs.declared.limits.TheConstants.{ROWS_EACH}
 
--- the page from that place on, before any row is told
+-- the page from that place on, before any row is listed
 abbrev pub new_page : ℕ → Page
 new_page from = record { from = from; seen = 0; rows = [] }
 
@@ -25,6 +25,6 @@ offered page row = record { from = page.from; seen = page.seen + 1; rows = if ta
 abbrev pub offered_all : Page → List ListRow → Page
 offered_all page rows = fold offered page rows
 
--- the rows on the page, and how many were told
+-- the rows on the page, and how many were listed
 abbrev pub reply_of : Page → ListReply
 reply_of page = record { rows = page.rows; total = page.seen }

@@ -9,30 +9,30 @@ use Rattle.farm_types.specs.Farm.{Farm}
 use Rattle.farm_lines.specs.declared.list_row.ListRow.{ListRow}
 use Rattle.farm_lines.specs.declared.reply.ListReply.{ListReply}
 use Rattle.farm_lines.specs.Lists.{frame_row, proc_in}
-use Rattle.cue_query.specs.declared.fault.QueryFault.{QueryFault}
-use Rattle.cue_query.specs.declared.fault.QueryFault.TheVariants as fault
+use Rattle.farm_types.specs.declared.fault.FarmFault.{FarmFault}
+use Rattle.farm_types.specs.declared.fault.FarmFault.TheVariants as fault
 use Rattle.cue_query.specs.declared.page.Page.{Page}
 use Rattle.cue_query.specs.Pages.{offered_all}
 
 -- the page that was to be shown, or exactly its refusal; out of memory needs no cause
-abbrev pub Shows : Result ListReply Refusal → Result ListReply QueryFault → Type 0
+abbrev pub Shows : Result ListReply Refusal → Result ListReply FarmFault → Type 0
 Shows shown (Ok page) = shown ≡ Ok page
 Shows shown (Err (fault.Refused why)) = shown ≡ Err why
 Shows shown (Err fault.NoMemory) = Unit {0}
 
--- the page has been told these rows
-abbrev pub HasTold : Result (List ListRow) Refusal → Page → Page → Type 0
-HasTold (Ok rows) old new = new ≡ offered_all old rows
-HasTold (Err why) old new = ⊥
+-- these rows were listed on the page
+abbrev pub HasListed : Result (List ListRow) Refusal → Page → Page → Type 0
+HasListed (Ok rows) old new = new ≡ offered_all old rows
+HasListed (Err why) old new = ⊥
 
--- these rows were told to the page, or they are refused
-abbrev pub Tells : Result (List ListRow) Refusal → Page → Result ⊤ QueryFault → Page → Type 0
-Tells listed old (Ok none) new = HasTold listed old new
-Tells listed old (Err (fault.Refused why)) new = listed ≡ Err why
-Tells listed old (Err fault.NoMemory) new = Unit {0}
+-- these rows were listed on the page, or they are refused
+abbrev pub IsListed : Result (List ListRow) Refusal → Page → Result ⊤ FarmFault → Page → Type 0
+IsListed listed old (Ok none) new = HasListed listed old new
+IsListed listed old (Err (fault.Refused why)) new = listed ≡ Err why
+IsListed listed old (Err fault.NoMemory) new = Unit {0}
 
 -- the number of the pending job of that name, or why there is none
-abbrev pub FindsJob : Farm → List ℕ → Result ℕ QueryFault → Type 0
+abbrev pub FindsJob : Farm → List ℕ → Result ℕ FarmFault → Type 0
 FindsJob f name (Ok job) = option_map (λ (j : JobRow). j.job) (pending_named f name) ≡ Some job
 FindsJob f name (Err (fault.Refused why)) = (pending_named f name ≡ None) × (why ≡ job_missing f name)
 FindsJob f name (Err fault.NoMemory) = Unit {0}

@@ -12,8 +12,8 @@ use farm_lines::{ListRow, ShownDepend};
 use farm_types::{DependNo, JobNo};
 use std::alloc::{AllocError, Global};
 
-/// Tells the depends in which a job waits to the page, in the order of their numbers.
-pub(crate) fn tell_depends(
+/// Lists the depends in which a job waits on the page, in the order of their numbers.
+pub(crate) fn list_depends(
     alloc: Global,
     farm: &Farm,
     job: JobNo,
@@ -28,14 +28,14 @@ pub(crate) fn tell_depends(
     let count = numbers.len();
     let mut place = page.next_row(0, count);
     while place < count {
-        tell_depend(farm, &numbers[place], page)?;
+        list_depend(farm, &numbers[place], page)?;
         place = page.next_row(place + 1, count);
     }
     Ok(())
 }
 
-// Tells the depend of that number, if there is one.
-fn tell_depend(farm: &Farm, number: &DependNo, page: &mut Page) -> Result<(), AllocError>
+// Lists the depend of that number, if there is one.
+fn list_depend(farm: &Farm, number: &DependNo, page: &mut Page) -> Result<(), AllocError>
     requires { page.old.seen < 2 ^ 63 }
     ensures { OnOk result (page.new ≡ offered_all page.old (rows_if (option_map depend_row (depend_at farm.now number.now)))) }
 {

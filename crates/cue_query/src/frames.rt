@@ -12,8 +12,8 @@ use farm_lines::{ListRow, ShownFrame};
 use farm_types::{Frame, JobNo, LayerRow, Slot, SlotRow, Version};
 use std::alloc::{AllocError, Global};
 
-/// Tells the frames of a pending job to the page, layer by layer, each in range order.
-pub(crate) fn tell_frames(
+/// Lists the frames of a pending job on the page, layer by layer, each in range order.
+pub(crate) fn list_frames(
     alloc: Global,
     farm: &Farm,
     job: JobNo,
@@ -24,13 +24,13 @@ pub(crate) fn tell_frames(
 {
     farm.kept();
     for layer in farm.jobs().layers_of(job) {
-        tell_layer(alloc, farm, layer, page)?;
+        list_frames_in(alloc, farm, layer, page)?;
     }
     Ok(())
 }
 
-// Tells the frames of a layer of the farm, in range order.
-fn tell_layer(
+// Lists the frames of a layer of the farm, in range order.
+fn list_frames_in(
     alloc: Global,
     farm: &Farm,
     layer: &LayerRow,
@@ -45,14 +45,14 @@ fn tell_layer(
     let count = slots.len();
     let mut place = page.next_row(0, count);
     while place < count {
-        tell_slot(alloc, farm, &slots[place], layer.name.as_str(), page)?;
+        list_frame_at(alloc, farm, &slots[place], layer.name.as_str(), page)?;
         place = page.next_row(place + 1, count);
     }
     Ok(())
 }
 
-// Tells the frame in the slot of that number, if there is one, of the layer of that name.
-fn tell_slot(
+// Lists the frame in the slot of that number, if there is one, of the layer of that name.
+fn list_frame_at(
     alloc: Global,
     farm: &Farm,
     slot: &Slot,
@@ -65,11 +65,11 @@ fn tell_slot(
     let Some(row) = farm.slot(*slot) else {
         return Ok(());
     };
-    tell_frame(alloc, &row, layer, page)
+    list_frame(alloc, &row, layer, page)
 }
 
-// Tells the frame in a slot, if there is one, of the layer of that name.
-fn tell_frame(alloc: Global, slot: &SlotRow, layer: &str, page: &mut Page) -> Result<(), AllocError>
+// Lists the frame in a slot, if there is one, of the layer of that name.
+fn list_frame(alloc: Global, slot: &SlotRow, layer: &str, page: &mut Page) -> Result<(), AllocError>
     requires { page.old.seen < 2 ^ 63 }
     ensures { OnOk result (page.new ≡ offered_all page.old (rows_of_slot layer.now slot.now)) }
 {

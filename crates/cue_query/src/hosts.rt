@@ -12,22 +12,22 @@ use farm_lines::{ListRow, ShownHost};
 use farm_types::{HostNo, HostRow};
 use std::alloc::{AllocError, Global};
 
-/// Tells the hosts to the page, in the order of their numbers.
-pub(crate) fn tell_hosts(alloc: Global, farm: &Farm, page: &mut Page) -> Result<(), AllocError>
+/// Lists the hosts on the page, in the order of their numbers.
+pub(crate) fn list_hosts(alloc: Global, farm: &Farm, page: &mut Page) -> Result<(), AllocError>
     requires { page.old.seen ≡ 0 }
     ensures { OnOk result (page.new ≡ offered_all page.old (host_rows farm.now 0 farm.now.hosts)) }
 {
     let count = farm.count_hosts();
     let mut place = page.next_row(0, count);
     while place < count {
-        tell_host(alloc, farm, HostNo(place as u16), page)?;
+        list_host(alloc, farm, HostNo(place as u16), page)?;
         place = page.next_row(place + 1, count);
     }
     Ok(())
 }
 
-// Tells the host of that number, if there is one.
-fn tell_host(alloc: Global, farm: &Farm, number: HostNo, page: &mut Page) -> Result<(), AllocError>
+// Lists the host of that number, if there is one.
+fn list_host(alloc: Global, farm: &Farm, number: HostNo, page: &mut Page) -> Result<(), AllocError>
     requires { page.old.seen < 2 ^ 63 }
     ensures { OnOk result (page.new ≡ offered_all page.old (rows_if (option_map (host_row farm.now number) (slice_get farm.now.hosts number)))) }
 {

@@ -16,8 +16,8 @@ use farm_types::{JobNo, JobRow, JobState};
 use job_book::Counts;
 use std::alloc::{AllocError, Global};
 
-/// Tells the jobs to the page, in the order of their numbers. A job is looked up only where it stands on the page.
-pub(crate) fn tell_jobs(alloc: Global, farm: &Farm, page: &mut Page) -> Result<(), AllocError>
+/// Lists the jobs on the page, in the order of their numbers. A job is looked up only where it stands on the page.
+pub(crate) fn list_jobs(alloc: Global, farm: &Farm, page: &mut Page) -> Result<(), AllocError>
     requires { page.old.seen ≡ 0 }
     ensures { OnOk result (page.new ≡ offered_all page.old (map (job_row farm.now) farm.now.jobs)) }
 {
@@ -27,7 +27,7 @@ pub(crate) fn tell_jobs(alloc: Global, farm: &Farm, page: &mut Page) -> Result<(
     let count = numbers.len();
     let mut place = page.next_row(0, count);
     while place < count {
-        tell_job(alloc, farm, &numbers[place], page)?;
+        list_job(alloc, farm, &numbers[place], page)?;
         place = page.next_row(place + 1, count);
     }
     Ok(())
@@ -40,8 +40,8 @@ fn numbers_of(alloc: Global, farm: &Farm) -> Result<Vec<JobNo>, AllocError>
     farm.jobs().numbers(alloc)
 }
 
-// Tells the job of that number, if there is one.
-fn tell_job(alloc: Global, farm: &Farm, number: &JobNo, page: &mut Page) -> Result<(), AllocError>
+// Lists the job of that number, if there is one.
+fn list_job(alloc: Global, farm: &Farm, number: &JobNo, page: &mut Page) -> Result<(), AllocError>
     requires { page.old.seen < 2 ^ 63 }
     ensures { OnOk result (page.new ≡ offered_all page.old (rows_if (option_map (job_row farm.now) (job_at farm.now number.now)))) }
 {

@@ -14,8 +14,8 @@ use farm_types::{FrameState, JobNo, LayerRow};
 use job_book::Counts;
 use std::alloc::{AllocError, Global};
 
-/// Tells the layers of a pending job to the page, in order.
-pub(crate) fn tell_layers(
+/// Lists the layers of a pending job on the page, in order.
+pub(crate) fn list_layers(
     alloc: Global,
     farm: &Farm,
     job: JobNo,
@@ -28,14 +28,14 @@ pub(crate) fn tell_layers(
     let count = layers.len();
     let mut place = page.next_row(0, count);
     while place < count {
-        tell_layer(alloc, farm, &layers[place], page)?;
+        list_layer(alloc, farm, &layers[place], page)?;
         place = page.next_row(place + 1, count);
     }
     Ok(())
 }
 
-// Tells a layer of the farm.
-fn tell_layer(
+// Lists a layer of the farm.
+fn list_layer(
     alloc: Global,
     farm: &Farm,
     layer: &LayerRow,

@@ -2,7 +2,6 @@
 #![tactic(auto)]
 
 mod depends;
-mod fault;
 mod frames;
 mod hosts;
 mod jobs;
@@ -14,5 +13,4 @@ mod query;
 mod shows;
 mod subs;
 
-pub use fault::QueryFault;
 pub use query::list;

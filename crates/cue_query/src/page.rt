@@ -8,7 +8,7 @@ use farm_lines::{ListReply, ListRow, ROWS_EACH};
 use farm_types::Items;
 use std::alloc::{AllocError, Global};
 
-/// The rows of a list from a place on, at most 1,000, and how many rows were told so far, those before the place and past the
+/// The rows of a list from a place on, at most 1,000, and how many rows were listed so far, those before the place and past the
 /// page too.
 #[derive(Debug, Drop)]
 pub(crate) struct Page {
@@ -18,7 +18,7 @@ pub(crate) struct Page {
 }
 
 impl Page {
-    /// The page from a place on, before any row is told. It takes no memory until a row stands on it.
+    /// The page from a place on, before any row is listed. It takes no memory until a row stands on it.
     pub(crate) fn new(alloc: Global, from: u64) -> Page
         ensures { result ≡ new_page from }
     {
@@ -51,12 +51,12 @@ impl Page {
     pub(crate) fn pass(&mut self)
         requires takes { takes_next self.old ≡ false }
         requires room { self.old.seen < 2 ^ 63 }
-        ensures { (told : row.ListRow) → self.new ≡ offered self.old told }
+        ensures { (listed : row.ListRow) → self.new ≡ offered self.old listed }
     {
         self.seen += 1;
     }
 
-    /// Passes the rows of a list of so many from a place on, up to one that stands on the page. They need not be made. It tells the place
+    /// Passes the rows of a list of so many from a place on, up to one that stands on the page. They need not be made. It gives the place
     /// of that one, and how many rows there are where none does.
     pub(crate) fn next_row(&mut self, place: usize, count: usize) -> usize
         requires within { place ≤ count }
@@ -70,13 +70,13 @@ impl Page {
         place + self.skip(count - place)
     }
 
-    // Passes the next rows, of which so many are left, up to one that stands on the page, and tells how many.
+    // Passes the next rows, of which so many are left, up to one that stands on the page, and gives how many.
     fn skip(&mut self, left: usize) -> usize
         requires { self.old.seen + left < 2 ^ 63 }
         ensures value { result ≡ passed_by self.old left }
         ensures within { result ≤ left }
         ensures seen { self.new.seen ≡ self.old.seen + result }
-        ensures rows { (told : List row.ListRow) → length told ≡ result → self.new ≡ offered_all self.old told }
+        ensures rows { (listed : List row.ListRow) → length listed ≡ result → self.new ≡ offered_all self.old listed }
     {
         let passed = self.passed_by(left);
         self.seen += passed as u64;
@@ -94,7 +94,7 @@ impl Page {
         self.from.saturating_sub(self.seen).min(left as u64) as usize
     }
 
-    /// The reply: the rows on the page, and how many were told.
+    /// The reply: the rows on the page, and how many were listed.
     pub(crate) fn into_reply(self) -> ListReply
         ensures { result ≡ reply_of self }
     {

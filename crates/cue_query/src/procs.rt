@@ -12,19 +12,19 @@ use farm_lines::{ListRow, ShownProc};
 use farm_types::{Frame, ProcRow, SlotRow};
 use std::alloc::{AllocError, Global};
 
-/// Tells the live attempts to the page, by slot.
-pub(crate) fn tell_procs(alloc: Global, farm: &Farm, page: &mut Page) -> Result<(), AllocError>
+/// Lists the live attempts on the page, by slot.
+pub(crate) fn list_procs(alloc: Global, farm: &Farm, page: &mut Page) -> Result<(), AllocError>
     requires { page.old.seen ≡ 0 }
     ensures { OnOk result (page.new ≡ offered_all page.old (proc_rows farm.now)) }
 {
     for slot in farm.slots() {
-        tell_slot(alloc, farm, slot, page)?;
+        list_proc(alloc, farm, slot, page)?;
     }
     Ok(())
 }
 
-// Tells the live attempt of a slot, if it has one.
-fn tell_slot(alloc: Global, farm: &Farm, slot: &SlotRow, page: &mut Page) -> Result<(), AllocError>
+// Lists the live attempt of a slot, if it has one.
+fn list_proc(alloc: Global, farm: &Farm, slot: &SlotRow, page: &mut Page) -> Result<(), AllocError>
     requires { page.old.seen < 2 ^ 63 }
     ensures { OnOk result (page.new ≡ offered_all page.old (rows_of_proc farm.now slot.now)) }
 {

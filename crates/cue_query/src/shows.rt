@@ -12,36 +12,36 @@ use farm_lines::ListRow;
 use farm_types::{AllocNo, AllocRow, ShowNo, ShowRow};
 use std::alloc::{AllocError, Global};
 
-/// Tells the shows to the page, in the order of their numbers.
-pub(crate) fn tell_shows(alloc: Global, farm: &Farm, page: &mut Page) -> Result<(), AllocError>
+/// Lists the shows on the page, in the order of their numbers.
+pub(crate) fn list_shows(alloc: Global, farm: &Farm, page: &mut Page) -> Result<(), AllocError>
     requires { page.old.seen ≡ 0 }
     ensures { OnOk result (page.new ≡ offered_all page.old (map show_row farm.now.shows)) }
 {
     farm.kept();
     let mut number = 0;
     while let Some(show) = farm.show(ShowNo(number)) {
-        tell_show(alloc, show, page)?;
+        list_show(alloc, show, page)?;
         number += 1;
     }
     Ok(())
 }
 
-/// Tells the allocations to the page, in the order of their numbers.
-pub(crate) fn tell_allocs(alloc: Global, farm: &Farm, page: &mut Page) -> Result<(), AllocError>
+/// Lists the allocations on the page, in the order of their numbers.
+pub(crate) fn list_allocs(alloc: Global, farm: &Farm, page: &mut Page) -> Result<(), AllocError>
     requires { page.old.seen ≡ 0 }
     ensures { OnOk result (page.new ≡ offered_all page.old (map alloc_row farm.now.allocs)) }
 {
     farm.kept();
     let mut number = 0;
     while let Some(row) = farm.allocation(AllocNo(number)) {
-        tell_alloc(alloc, row, page)?;
+        list_alloc(alloc, row, page)?;
         number += 1;
     }
     Ok(())
 }
 
-// Tells a show.
-fn tell_show(alloc: Global, show: &ShowRow, page: &mut Page) -> Result<(), AllocError>
+// Lists a show.
+fn list_show(alloc: Global, show: &ShowRow, page: &mut Page) -> Result<(), AllocError>
     requires { page.old.seen < 2 ^ 63 }
     ensures { OnOk result (page.new ≡ offered page.old (show_row show.now)) }
 {
@@ -53,8 +53,8 @@ fn tell_show(alloc: Global, show: &ShowRow, page: &mut Page) -> Result<(), Alloc
     page.push(ListRow::Name { name })
 }
 
-// Tells an allocation.
-fn tell_alloc(alloc: Global, row: &AllocRow, page: &mut Page) -> Result<(), AllocError>
+// Lists an allocation.
+fn list_alloc(alloc: Global, row: &AllocRow, page: &mut Page) -> Result<(), AllocError>
     requires { page.old.seen < 2 ^ 63 }
     ensures { OnOk result (page.new ≡ offered page.old (alloc_row row.now)) }
 {

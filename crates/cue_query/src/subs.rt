@@ -12,8 +12,8 @@ use farm_lines::{ListRow, ShownSub};
 use farm_types::{AllocNo, MOST_ALLOCS, ShowNo, SubNo, SubRow};
 use std::alloc::{AllocError, Global};
 
-/// Tells the subscriptions to the page, in the order of their numbers.
-pub(crate) fn tell_subs(alloc: Global, farm: &Farm, page: &mut Page) -> Result<(), AllocError>
+/// Lists the subscriptions on the page, in the order of their numbers.
+pub(crate) fn list_subs(alloc: Global, farm: &Farm, page: &mut Page) -> Result<(), AllocError>
     requires { page.old.seen ≡ 0 }
     ensures { OnOk result (page.new ≡ offered_all page.old (map (sub_row farm.now) farm.now.subs)) }
 {
@@ -22,14 +22,14 @@ pub(crate) fn tell_subs(alloc: Global, farm: &Farm, page: &mut Page) -> Result<(
     let count = subs.len();
     let mut place = page.next_row(0, count);
     while place < count {
-        tell_sub(alloc, farm, &subs[place], page)?;
+        list_sub(alloc, farm, &subs[place], page)?;
         place = page.next_row(place + 1, count);
     }
     Ok(())
 }
 
-// Tells a subscription.
-fn tell_sub(alloc: Global, farm: &Farm, sub: &SubRow, page: &mut Page) -> Result<(), AllocError>
+// Lists a subscription.
+fn list_sub(alloc: Global, farm: &Farm, sub: &SubRow, page: &mut Page) -> Result<(), AllocError>
     requires { page.old.seen < 2 ^ 63 }
     ensures { OnOk result (page.new ≡ offered page.old (sub_row farm.now sub.now)) }
 {

@@ -2,7 +2,7 @@
 use Rattle.std.proofs.Common.{◌≡◌, ℕ, List, [], ◌∷◌, ◌++◌, length, take, inl, inr, refl, sym, ap, subst, Option, Result, Ok, Err, ◌⊎◌, arith, length-append}
 use Rattle.command_line.specs.declared.status.Status.{Status}
 use Rattle.command_line.specs.declared.status.Status.TheVariants as exit
-use Rattle.cue_io.specs.Faults.{HasRisen}
+use Rattle.fault_counts.specs.Counts.{HasRisen}
 use Rattle.cue_io.specs.Input.{Takes, Takes-none}
 use Rattle.cue_io.specs.Output.{Adds, AddsPart, Adds-none}
 use Rattle.cue_words.specs.declared.asked.ToolWords.{ToolWords}

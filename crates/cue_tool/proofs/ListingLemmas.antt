@@ -5,9 +5,9 @@ use Rattle.farm_lines.specs.declared.list_row.ListRow.{ListRow}
 use Rattle.farm_lines.specs.declared.list_row.ListRow.TheVariants as row
 use Rattle.farm_lines.specs.declared.list_row.RowKind.{RowKind}
 use Rattle.farm_lines.specs.declared.list_row.RowKind.TheVariants as kind
-use Rattle.farm_lines.specs.RowKinds.{kind_of_row}
+use Rattle.farm_lines.specs.RowKinds.{kind_of_row, row_keys}
 use Rattle.cue_tables.specs.Tables.{FitsHead}
-use Rattle.cue_tool.specs.Listings.{cells_of, have_keys, head_of, is_kind}
+use Rattle.cue_tool.specs.Listings.{cells_of, have_keys, is_kind}
 
 pub same_kind : (keys other : RowKind) → is_kind keys other ≡ true → other ≡ keys
 same_kind kind.Name kind.Name is = refl
@@ -21,7 +21,7 @@ same_kind kind.Proc kind.Proc is = refl
 same_kind keys other is = absurd (true≢false (sym is))
 
 -- a cell for each key
-cells_fit : (r : ListRow) → length (cells_of r) ≡ length (head_of (kind_of_row r))
+cells_fit : (r : ListRow) → length (cells_of r) ≡ length (row_keys (kind_of_row r))
 cells_fit (row.Name name) = refl
 cells_fit (row.Sub s) = refl
 cells_fit (row.Host h) = refl
@@ -40,10 +40,10 @@ and_right true b is = is
 and_right false b is = absurd (true≢false (sym is))
 
 -- rows with these keys fit under them
-pub rows_fit : (keys : RowKind) (rows : List ListRow) → have_keys keys rows ≡ true → FitsHead (head_of keys) (map cells_of rows)
-rows_fit keys [] are = All-nil (λ (cells : List (List ℕ)). length cells ≡ length (head_of keys))
+pub rows_fit : (keys : RowKind) (rows : List ListRow) → have_keys keys rows ≡ true → FitsHead (row_keys keys) (map cells_of rows)
+rows_fit keys [] are = All-nil (λ (cells : List (List ℕ)). length cells ≡ length (row_keys keys))
 rows_fit keys (r ∷ rows) are =
     let same = same_kind keys (kind_of_row r) (and_left (is_kind keys (kind_of_row r)) (have_keys keys rows) are) in
-    All-cons (λ (cells : List (List ℕ)). length cells ≡ length (head_of keys)) (cells_of r) (map cells_of rows)
-    (cells_fit r ∙ ap (λ (other : RowKind). length (head_of other)) same)
+    All-cons (λ (cells : List (List ℕ)). length cells ≡ length (row_keys keys)) (cells_of r) (map cells_of rows)
+    (cells_fit r ∙ ap (λ (other : RowKind). length (row_keys other)) same)
     (rows_fit keys rows (and_right (is_kind keys (kind_of_row r)) (have_keys keys rows) are))

@@ -2,7 +2,7 @@
 use Rattle.std.specs.Prelude.{ℕ, ◌≡◌, ◌<◌, ◌≤◌, List, [], ◌∷◌, ◌++◌, length, false, Option, None, Some, Result, Ok, Err, ◌⊎◌}
 use Rattle.command_line.specs.declared.status.Status.{Status}
 use Rattle.command_line.specs.declared.status.Status.TheVariants as exit
-use Rattle.cue_io.specs.Faults.{HasRisen}
+use Rattle.fault_counts.specs.Counts.{HasRisen}
 use Rattle.cue_io.specs.Input.{Takes, IsAtEnd}
 use Rattle.cue_io.specs.Lines.{has_newline}
 use Rattle.cue_io.specs.Output.{Adds}
@@ -95,7 +95,8 @@ pub record IsUnanswered (status : Status) (taken printed : List ℕ) (left : Opt
 
 -- what came of waiting for a reply
 abbrev pub Comes : List (List ℕ) → Status → List ℕ → List ℕ → Option (List ℕ) → Type 0
-Comes words status taken printed left = IsAnswered words status taken printed left ⊎ (IsTooLong status taken printed left ⊎ IsUnanswered status taken printed left)
+Comes words status taken printed left =
+    IsAnswered words status taken printed left ⊎ (IsTooLong status taken printed left ⊎ IsUnanswered status taken printed left)
 
 -- it is so, or memory ran out and nothing was printed
 abbrev pub OrRanOut : Type 0 → Status → List ℕ → Type 0
@@ -144,8 +145,8 @@ pub record RanOut (asked : Result ToolWords WordsError) (status : Status) (call 
 abbrev pub WriteFailed : Streams → Streams → Type 0
 WriteFailed before after = HasRisen before.write_faults after.write_faults ⊎ HasRisen before.print_faults after.print_faults
 
--- The status where nothing failed: of a request it says that the reply was an ok one, that it was a refusal, that what came is no reply, or that the input ended
--- before a byte.
+-- The status where nothing failed: of a request it says that the reply was an ok one, that it was a refusal, that what
+-- came is no reply, or that the input ended before a byte.
 abbrev pub EndsWell : Result ToolWords WordsError → Status → Call → Option (List ℕ) → Type 0
 EndsWell (Ok (Ask line)) status call left =
     (status ≡ exit.Done) ⊎ ((status ≡ exit.Refused) ⊎ ((status ≡ exit.NoReply) ⊎ ((status ≡ exit.InputEnded) × (call.taken ≡ []) × IsAtEnd left)))

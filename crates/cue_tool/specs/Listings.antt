@@ -9,23 +9,8 @@ use Rattle.farm_lines.specs.declared.list_row.RowKind.{RowKind}
 use Rattle.farm_lines.specs.declared.list_row.RowKind.TheVariants as kind
 use Rattle.farm_lines.specs.declared.reply.ListReply.{ListReply}
 use Rattle.farm_lines.specs.declared.what.What.{What}
-use Rattle.farm_lines.specs.RowKinds.{kind_of_row, kind_of_what}
+use Rattle.farm_lines.specs.RowKinds.{kind_of_row, kind_of_what, row_keys}
 use Rattle.farm_lines.specs.Words.{what_of}
-
--- the keys of a row
-abbrev pub head_of : RowKind → List (List ℕ)
-head_of kind.Name = codes "name" ∷ []
-head_of kind.Sub = codes "alloc" ∷ codes "booked" ∷ codes "burst" ∷ codes "show" ∷ codes "size" ∷ []
-head_of kind.Host =
-    codes "alloc" ∷ codes "boot" ∷ codes "cores" ∷ codes "heard" ∷ codes "lock" ∷ codes "memory" ∷ codes "name" ∷ codes "state" ∷ codes "used_cores" ∷ codes "used_memory" ∷ []
-head_of kind.Job =
-    codes "dead" ∷ codes "depend" ∷ codes "eaten" ∷ codes "name" ∷ codes "paused" ∷ codes "priority" ∷ codes "running" ∷ codes "show" ∷ codes "state" ∷ codes "succeeded"
-    ∷ codes "waiting" ∷ []
-head_of kind.Layer =
-    codes "cores" ∷ codes "dead" ∷ codes "depend" ∷ codes "eaten" ∷ codes "memory" ∷ codes "name" ∷ codes "range" ∷ codes "running" ∷ codes "succeeded" ∷ codes "waiting" ∷ []
-head_of kind.Frame = codes "frame" ∷ codes "retries" ∷ codes "state" ∷ codes "version" ∷ []
-head_of kind.Depend = codes "depend" ∷ codes "kind" ∷ codes "satisfied" ∷ []
-head_of kind.Proc = codes "cores" ∷ codes "frame" ∷ codes "host" ∷ codes "job" ∷ codes "memory" ∷ codes "slot" ∷ codes "version" ∷ []
 
 abbrev pub flag_text : Bool → List ℕ
 flag_text true = codes "true"
@@ -67,7 +52,7 @@ have_keys keys rows = list_all (λ r. is_kind keys (kind_of_row r)) rows
 
 -- the rows as a table, where each has these keys
 abbrev pub table_of : RowKind → List ListRow → Option (List ℕ)
-table_of keys rows = if have_keys keys rows then Some (table_text (head_of keys) (map cells_of rows)) else None
+table_of keys rows = if have_keys keys rows then Some (table_text (row_keys keys) (map cells_of rows)) else None
 
 abbrev pub listed_as : Option What → ListReply → Option (List ℕ)
 listed_as None list = None

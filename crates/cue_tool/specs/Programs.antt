@@ -2,7 +2,7 @@
 use Rattle.std.specs.Prelude.{ℕ, ◌≡◌, List, [], ◌∷◌, codes, bytes_eq, Option, None, Some, Result, Ok, Err, ◌⊎◌, if◌then◌else◌}
 use Rattle.command_line.specs.declared.status.Status.{Status}
 use Rattle.command_line.specs.declared.status.Status.TheVariants as exit
-use Rattle.cue_io.specs.Faults.{HasRisen}
+use Rattle.fault_counts.specs.Counts.{HasRisen}
 use Rattle.cue_words.specs.declared.asked.ToolWords.{ToolWords}
 use Rattle.cue_words.specs.declared.asked.ToolWords.TheVariants.{Ask, Help}
 use Rattle.cue_words.specs.declared.asked.WordsFault.{WordsFault}

@@ -2,9 +2,9 @@
 
 ghost use Rattle.std.specs.Prelude.{◌≡◌, IfOk};
 ghost use Rattle.cue_tables.specs.Tables.{FitsHead, table_text};
-ghost use Rattle.farm_lines.specs.RowKinds.{kind_of_row, kind_of_what};
+ghost use Rattle.farm_lines.specs.RowKinds.{kind_of_row, kind_of_what, row_keys};
 ghost use Rattle.farm_lines.specs.Words.{what_of};
-ghost use Rattle.cue_tool.specs.Listings.{have_keys, head_of, is_kind, listing_of, table_of};
+ghost use Rattle.cue_tool.specs.Listings.{have_keys, is_kind, listing_of, table_of};
 
 use crate::cells::cells_of_rows;
 use cue_tables::table;
@@ -39,69 +39,10 @@ fn table_of(alloc: Global, keys: RowKind, rows: &[ListRow]) -> Result<Option<Tex
 
 // The cells under the keys.
 fn table_under(alloc: Global, keys: RowKind, cells: &Items<Items<Text>>) -> Result<Text, AllocError>
-    requires { FitsHead (head_of keys) cells.now }
-    ensures { IfOk result (λ text. text ≡ table_text (head_of keys) cells.now) }
+    requires { FitsHead (row_keys keys) cells.now }
+    ensures { IfOk result (λ text. text ≡ table_text (row_keys keys) cells.now) }
 {
-    match keys {
-        RowKind::Name => table(alloc, &["name"], cells),
-        RowKind::Sub => table(alloc, &["alloc", "booked", "burst", "show", "size"], cells),
-        RowKind::Host => table(
-            alloc,
-            &[
-                "alloc",
-                "boot",
-                "cores",
-                "heard",
-                "lock",
-                "memory",
-                "name",
-                "state",
-                "used_cores",
-                "used_memory",
-            ],
-            cells,
-        ),
-        RowKind::Job => table(
-            alloc,
-            &[
-                "dead",
-                "depend",
-                "eaten",
-                "name",
-                "paused",
-                "priority",
-                "running",
-                "show",
-                "state",
-                "succeeded",
-                "waiting",
-            ],
-            cells,
-        ),
-        RowKind::Layer => table(
-            alloc,
-            &[
-                "cores",
-                "dead",
-                "depend",
-                "eaten",
-                "memory",
-                "name",
-                "range",
-                "running",
-                "succeeded",
-                "waiting",
-            ],
-            cells,
-        ),
-        RowKind::Frame => table(alloc, &["frame", "retries", "state", "version"], cells),
-        RowKind::Depend => table(alloc, &["depend", "kind", "satisfied"], cells),
-        RowKind::Proc => table(
-            alloc,
-            &["cores", "frame", "host", "job", "memory", "slot", "version"],
-            cells,
-        ),
-    }
+    table(alloc, keys.keys(), cells)
 }
 
 // Whether each row has these keys.

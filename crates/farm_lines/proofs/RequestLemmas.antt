@@ -27,11 +27,11 @@ use Rattle.farm_lines.specs.ListLines.{query_at}
 use Rattle.farm_lines.specs.OperatorLines.{asks_pause, frame_at, frame_keys, frame_of_job_at, job_at, job_keys, kill_at, killed_at, names_frame}
 use Rattle.farm_lines.specs.Points.{before_point, after_point}
 use Rattle.farm_lines.specs.Request.{LockLine, attempt_at, done_at, done_keys, report_at, report_keys, show_at, name_keys, alloc_parts, alloc_of_name, alloc_name_at, alloc_at, sub_form_at, sub_keys, boot_keys, lock_keys, sub_line_of, sub_line_at, boot_form_at, boot_line_of, boot_line_at, lock_line_at, tick_keys, drop_at, drop_keys, submit_keys, after_others, submit_at, asked, judged, asks_alloc, asks_kill, asks_lock, asks_tick, by_op, after_op, request_in, request_of}
-use Rattle.farm_lines.specs.Spec.{SpecError, Field, Range, Amount, formed, number_at, tags_at, within, spec_at}
+use Rattle.farm_lines.specs.Spec.{SpecError, Field, Range, Amount, form_first, number_at, tags_at, within, spec_at}
 use Rattle.farm_lines.specs.Asked.{IsFormedAsked, IsFormedAt, asked_of, heard_of}
 use Rattle.farm_lines.proofs.DependLemmas.{depend_formed}
 use Rattle.farm_lines.proofs.FieldLemmas.{step, step_any, ok_at, either, kind_formed, name_formed, whole_formed, tags_formed, list_formed}
-use Rattle.farm_lines.proofs.SpecLemmas.{form_first, spec_formed, within_formed}
+use Rattle.farm_lines.proofs.SpecLemmas.{first_formed, spec_formed, within_formed}
 use Rattle.farm_types.specs.declared.limits.TheConstants.{LAST_BOOT, LAST_DEPEND, LAST_SLOT, LAST_VERSION, LEAST_CORES, LEAST_MEMORY, MOST_BURST, MOST_CORES, MOST_EXIT, MOST_MEMORY, MOST_TAGS}
 use Rattle.farm_lines.specs.declared.limits.TheConstants.{LEAST_FRAME, MOST_FRAME}
 
@@ -122,8 +122,8 @@ sub_amounts_formed form shown =
 
 sub_formed : (ms : Members) → IfOk (sub_line_at ms) IsFormedSub
 sub_formed ms =
-    step (λ (form : SubForm). is_name_text form.show ≡ true) IsFormedSub (formed (sub_form_at ms)) sub_line_of
-    (form_first (λ (form : SubForm). is_name_text form.show ≡ true) (sub_form_at ms) (sub_form_formed ms)) sub_amounts_formed
+    step (λ (form : SubForm). is_name_text form.show ≡ true) IsFormedSub (form_first (sub_form_at ms)) sub_line_of
+    (first_formed (λ (form : SubForm). is_name_text form.show ≡ true) (sub_form_at ms) (sub_form_formed ms)) sub_amounts_formed
 
 -- ---- boots
 
@@ -155,7 +155,7 @@ boot_amounts_formed form ok =
 
 boot_formed : (ms : Members) → IfOk (boot_line_at ms) IsFormedBoot
 boot_formed ms =
-    step IsBootForm IsFormedBoot (formed (boot_form_at ms)) boot_line_of (form_first IsBootForm (boot_form_at ms) (boot_form_formed ms)) boot_amounts_formed
+    step IsBootForm IsFormedBoot (form_first (boot_form_at ms)) boot_line_of (first_formed IsBootForm (boot_form_at ms) (boot_form_formed ms)) boot_amounts_formed
 
 -- ---- locks
 
@@ -181,7 +181,7 @@ others_formed (Err (Amount field)) (Err other) h = tt
 submit_formed : (ms : Members) → IfOk (submit_at ms) IsFormedJob
 unfolding submit_at
 submit_formed ms =
-    others_formed (formed (object_at (codes "job") ms) >>= spec_at) (others_at submit_keys ms) (step_any IsFormedJob (formed (object_at (codes "job") ms)) spec_at spec_formed)
+    others_formed (form_first (object_at (codes "job") ms) >>= spec_at) (others_at submit_keys ms) (step_any IsFormedJob (form_first (object_at (codes "job") ms)) spec_at spec_formed)
 
 -- ---- the drop of a depend
 

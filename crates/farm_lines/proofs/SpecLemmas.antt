@@ -1,17 +1,16 @@
 -- What is read of a job spec is within its forms and limits.
-use Rattle.std.proofs.Common.{◌≡◌, ℕ, suc, ◌≤◌, List, [], ◌∷◌, length, Bool, true, false, cond, refl, sym, ap, ◌∙◌, arith, Option, None, Some, Result, Ok, Err}
-use Rattle.std.specs.Prelude.{IfOk, ◌&&◌, codes, nat_le, ⊤}
+use Rattle.std.proofs.Common.{◌≡◌, ℕ, suc, ◌≤◌, List, [], ◌∷◌, length, Bool, true, false, cond, refl, sym, ap, arith, Option, None, Some, Result, Ok, Err}
+use Rattle.std.specs.Prelude.{IfOk, codes, nat_le, ⊤}
 use Rattle.std.specs.List.{All, list_all}
-use Rattle.std.proofs.lemmas.Bool.{and_parts, leb-true, le-leb}
+use Rattle.std.proofs.lemmas.Bool.{and_parts, leb-true}
 use Rattle.std.proofs.lemmas.List.Elements.{All-cons, All-head, All-nil, All-tail, All-weaker}
-use Rattle.std.proofs.lemmas.Slice.Eq.{bytes_eq-Decides}
 use Rattle.serde_json.specs.Data.{Members}
 use Rattle.cue_json.specs.Fields.{Fault, flag_at, others_at, text_at}
 use Rattle.cue_json.specs.Items.{list_of}
 use Rattle.frame_range.specs.declared.fault.RangeFault.{RangeFault}
 use Rattle.frame_range.specs.declared.section.Section.{Section}
 use Rattle.frame_range.specs.Printed.{printed}
-use Rattle.frame_range.specs.Sets.{set_of, numbers_of}
+use Rattle.frame_range.specs.Sets.{set_of}
 use Rattle.frame_range.proofs.AgainLemmas.{read_again, read_set}
 use Rattle.frame_range.proofs.DistinctLemmas.{numbers_distinct, numbers_some}
 use Rattle.frame_range.proofs.LengthLemmas.{printed_short}
@@ -20,16 +19,17 @@ use Rattle.farm_types.specs.Formed.{IsFormedJob, IsFormedLayer, IsFormedOwn}
 use Rattle.farm_types.specs.Forms.{is_between, is_command_text, is_name_or_empty, is_name_text, is_tag_text}
 use Rattle.farm_types.specs.Jobs.{frames_in}
 use Rattle.farm_types.specs.Limits.{IsBetween}
-use Rattle.farm_types.specs.Ranges.{is_range_text, prints_as, range_numbers, sections_in}
+use Rattle.farm_types.specs.Ranges.{is_range_text}
 use Rattle.farm_types.specs.SpecLimits.{LayerKeepsLimits}
 use Rattle.farm_lines.specs.declared.job_form.JobForm.{JobForm}
 use Rattle.farm_lines.specs.declared.job_form.LayerForm.{LayerForm}
 use Rattle.farm_lines.specs.DependLines.{own_depend_at, own_depends}
 use Rattle.farm_lines.specs.Fields.{name_at, or_default}
 use Rattle.farm_lines.specs.Points.{cores_of}
-use Rattle.farm_lines.specs.Spec.{SpecError, Amount, text_of, number_at, tags_at, layer_keys, job_keys, layer_form_at, job_form_at, within, range_of, layer_cores, layer_with, layer_of, layers_of, job_of, formed, spec_at}
+use Rattle.farm_lines.specs.Spec.{SpecError, Amount, text_of, number_at, tags_at, layer_keys, job_keys, layer_form_at, job_form_at, within, range_of, layer_cores, layer_with, layer_of, layers_of, job_of, form_first, spec_at}
 use Rattle.farm_lines.proofs.DependLemmas.{own_formed}
 use Rattle.farm_lines.proofs.FieldLemmas.{step, step_any, name_formed, text_formed, tags_formed, list_formed, default_formed}
+use Rattle.farm_types.proofs.Ranges.{numbers_said, range_formed}
 use Rattle.farm_types.specs.declared.limits.TheConstants.{LEAST_CORES, LEAST_MEMORY, MOST_COMMAND, MOST_CORES, MOST_FRAMES, MOST_LAYERS, MOST_MEMORY, MOST_PRIORITY, MOST_RANGE, MOST_RETRIES, MOST_TAGS}
 
 -- ---- forms
@@ -98,9 +98,9 @@ within_if field least most amount false h = tt
 pub within_formed : (field : List ℕ) (least most amount : ℕ) → IfOk (within field least most amount) (λ none. IsBetween least most amount)
 within_formed field least most amount = within_if field least most amount (is_between least most amount) refl
 
-range_formed : (layer : List ℕ) (read : Result (List Section) RangeFault) → IfOk (range_of layer read) (λ sections. read ≡ Ok sections)
-range_formed layer (Ok sections) = refl
-range_formed layer (Err fault) = tt
+sections_formed : (layer : List ℕ) (read : Result (List Section) RangeFault) → IfOk (range_of layer read) (λ sections. read ≡ Ok sections)
+sections_formed layer (Ok sections) = refl
+sections_formed layer (Err fault) = tt
 
 cores_formed : (field : List ℕ) (read : Option ℕ) → IfOk (layer_cores field read) (λ cores. IsBetween LEAST_CORES MOST_CORES cores)
 cores_formed field None = tt
@@ -111,20 +111,9 @@ cores_formed field (Some cores) =
 
 -- the text that a set prints as is a range's
 printed_range : (text : List ℕ) (sections : List Section) → set_of text ≡ Ok sections → length text ≤ MOST_RANGE → is_range_text (printed sections) ≡ true
-unfolding is_range_text
 printed_range text sections read short =
-    both (nat_le (length (printed sections)) MOST_RANGE) (prints_as (printed sections) (set_of (printed sections)))
-    (le-leb (length (printed sections)) MOST_RANGE (omega (arith, printed_short text sections read)))
-    (ap (prints_as (printed sections)) (read_again text sections read) ∙ (bytes_eq-Decides (printed sections) (printed sections)).1 refl)
-  where
-    both : (a b : Bool) → a ≡ true → b ≡ true → (a && b) ≡ true
-    both true b h k = k
-    both false b h k = h
-
--- its numbers are the set's
-printed_numbers : (text : List ℕ) (sections : List Section) → set_of text ≡ Ok sections → numbers_of sections ≡ range_numbers (printed sections)
-unfolding range_numbers
-printed_numbers text sections read = ap (λ r. numbers_of (sections_in r)) (sym (read_again text sections read))
+    let shorter : length (printed sections) ≤ MOST_RANGE = omega (arith, printed_short text sections read) in
+    range_formed (printed sections) sections (read_again text sections read) refl shorter
 
 -- ---- layers and jobs
 
@@ -134,7 +123,7 @@ layer_made : (form : LayerForm) (sections : List Section) (cores : ℕ) → IsLa
 layer_made form sections cores ok short read commanded some enough tagged = record {
   name = ok.name;
   range = printed_range form.range sections read short;
-  numbers_are = printed_numbers form.range sections read;
+  numbers_are = sym (numbers_said (printed sections) sections (read_again form.range sections read));
   command = ok.command;
   tags = ok.tags;
   limits = record {
@@ -151,7 +140,7 @@ layer_formed : (form : LayerForm) → IsLayerForm form → IfOk (layer_of form) 
 unfolding layer_of
 layer_formed form ok =
     step (λ none. IsBetween 0 MOST_RANGE (length form.range)) IsFormedLayer (within (codes "range") 0 MOST_RANGE (length form.range)) _ (within_formed (codes "range") 0 MOST_RANGE (length form.range)) (λ none short.
-    step (λ sections. set_of form.range ≡ Ok sections) IsFormedLayer (range_of form.name (set_of form.range)) _ (range_formed form.name (set_of form.range)) (λ sections read.
+    step (λ sections. set_of form.range ≡ Ok sections) IsFormedLayer (range_of form.name (set_of form.range)) _ (sections_formed form.name (set_of form.range)) (λ sections read.
     step (λ none. IsBetween 1 MOST_COMMAND (length form.command)) IsFormedLayer (within (codes "command") 1 MOST_COMMAND (length form.command)) _ (within_formed (codes "command") 1 MOST_COMMAND (length form.command)) (λ none commanded.
     step (λ cores. IsBetween LEAST_CORES MOST_CORES cores) IsFormedLayer (layer_cores (codes "cores") (cores_of form.cores)) _ (cores_formed (codes "cores") (cores_of form.cores)) (λ cores some.
     step (λ none. IsBetween LEAST_MEMORY MOST_MEMORY form.memory) IsFormedLayer (within (codes "memory") LEAST_MEMORY MOST_MEMORY form.memory) _ (within_formed (codes "memory") LEAST_MEMORY MOST_MEMORY form.memory) (λ none enough.
@@ -196,10 +185,10 @@ job_formed form ok =
 
 -- ---- a spec
 
-pub form_first : {X : Type 0} (P : X → Type 0) (read : Result X Fault) → IfOk read P → IfOk (formed read) P
-form_first P (Ok form) h = h
-form_first P (Err fault) h = tt
+pub first_formed : {X : Type 0} (P : X → Type 0) (read : Result X Fault) → IfOk read P → IfOk (form_first read) P
+first_formed P (Ok form) h = h
+first_formed P (Err fault) h = tt
 
 pub spec_formed : (ms : Members) → IfOk (spec_at ms) IsFormedJob
 unfolding spec_at
-spec_formed ms = step IsJobForm IsFormedJob (formed (job_form_at ms)) job_of (form_first IsJobForm (job_form_at ms) (job_form_formed ms)) job_formed
+spec_formed ms = step IsJobForm IsFormedJob (form_first (job_form_at ms)) job_of (first_formed IsJobForm (job_form_at ms) (job_form_formed ms)) job_formed

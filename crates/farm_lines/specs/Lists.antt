@@ -101,24 +101,25 @@ abbrev pub is_dead : FrameState → Bool
 is_dead frame_state.Dead = true
 is_dead other = false
 
--- how many of a pending job's frames are in a state of these; a finished job has no frames left, and this number is kept of it
-abbrev pub counted : Farm → JobRow → (FrameState → Bool) → ℕ → ℕ
-counted f j test kept = if is_pending j.state then count_where j.job test f.slots else kept
+-- the number that a job shows: how many of a pending one's frames are in a state of these; a finished one has no frames left, and this
+-- number is kept of it
+abbrev pub shown_count : Farm → JobRow → (FrameState → Bool) → ℕ → ℕ
+shown_count f j test kept = if is_pending j.state then count_where j.job test f.slots else kept
 
 abbrev pub job_row : Farm → JobRow → ListRow
 job_row f j =
     row.Job (record {
-      dead = counted f j is_dead 0;
-      depend = counted f j is_blocked 0;
-      eaten = counted f j was_eaten j.eaten;
+      dead = shown_count f j is_dead 0;
+      depend = shown_count f j is_blocked 0;
+      eaten = shown_count f j was_eaten j.eaten;
       name = j.name;
       paused = j.paused;
       priority = j.priority;
-      running = counted f j is_running 0;
+      running = shown_count f j is_running 0;
       show = show_name f j.show;
       state = j.state;
-      succeeded = counted f j has_succeeded j.succeeded;
-      waiting = counted f j is_waiting 0;
+      succeeded = shown_count f j has_succeeded j.succeeded;
+      waiting = shown_count f j is_waiting 0;
     })
 
 -- ---- the layers and the frames of a job
@@ -221,6 +222,6 @@ abbrev pub paged : ℕ → Result (List ListRow) Refusal → Result ListReply Re
 paged from (Ok rows) = Ok (page_of from rows)
 paged from (Err why) = Err why
 
--- what is shown, or why not
-unfoldable pub list_of : Farm → Query → Result ListReply Refusal
-list_of f query = paged query.from (rows_listed f query.what)
+-- the page that a query asks for, or why there is none
+unfoldable pub page_listed : Farm → Query → Result ListReply Refusal
+page_listed f query = paged query.from (rows_listed f query.what)

@@ -1,5 +1,5 @@
 -- What a row of a list says, or its first fault: its fields in order, and no others.
-use Rattle.std.specs.Prelude.{ℕ, List, [], ◌∷◌, codes, Option, None, Some, Result, Ok, if◌then◌else◌}
+use Rattle.std.specs.Prelude.{ℕ, List, codes, Option, None, Some, Result, Ok, if◌then◌else◌}
 use Rattle.serde_json.specs.Data.{Items, no_items, item, Members}
 use Rattle.serde_json.specs.Find.{as_object}
 use Rattle.cue_json.specs.Fields.{Fault, ◌>>=◌, flag_at, has_key, list_at, others_at, text_at, whole_at}
@@ -12,99 +12,73 @@ use Rattle.farm_lines.specs.declared.list_row.ListRow.TheVariants as row
 use Rattle.farm_lines.specs.declared.list_row.RowKind.{RowKind}
 use Rattle.farm_lines.specs.declared.list_row.RowKind.TheVariants as kind
 use Rattle.farm_lines.specs.Fields.{name_at}
-
--- ---- words
+use Rattle.farm_lines.specs.RowKinds.{row_keys}
 
 -- ---- rows
 
-unfoldable pub name_row : Members → Result ListRow Fault
-name_row ms = name_at (codes "name") ms >>= λ name. others_at (codes "name" ∷ []) ms >>= λ none. Ok (row.Name name)
+unfoldable pub name_row_at : Members → Result ListRow Fault
+name_row_at ms = name_at (codes "name") ms >>= λ name. others_at (row_keys kind.Name) ms >>= λ none. Ok (row.Name name)
 
-abbrev pub sub_row_keys : List (List ℕ)
-sub_row_keys = codes "alloc" ∷ codes "booked" ∷ codes "burst" ∷ codes "show" ∷ codes "size" ∷ []
-
-unfoldable pub sub_row : Members → Result ListRow Fault
-sub_row ms =
+unfoldable pub sub_row_at : Members → Result ListRow Fault
+sub_row_at ms =
     name_at (codes "alloc") ms >>= λ alloc. whole_at (codes "booked") 0 MOST_BOOKED ms >>= λ booked. whole_at (codes "burst") 0 MOST_BURST ms >>= λ burst.
-    name_at (codes "show") ms >>= λ show. whole_at (codes "size") 0 MOST_BURST ms >>= λ size. others_at sub_row_keys ms >>= λ none.
+    name_at (codes "show") ms >>= λ show. whole_at (codes "size") 0 MOST_BURST ms >>= λ size. others_at (row_keys kind.Sub) ms >>= λ none.
     Ok (row.Sub (record { alloc = alloc; booked = booked; burst = burst; show = show; size = size }))
 
-abbrev pub host_row_keys : List (List ℕ)
-host_row_keys =
-    codes "alloc" ∷ codes "boot" ∷ codes "cores" ∷ codes "heard" ∷ codes "lock" ∷ codes "memory" ∷ codes "name" ∷ codes "state" ∷ codes "used_cores" ∷ codes "used_memory" ∷ []
-
-unfoldable pub host_row : Members → Result ListRow Fault
-host_row ms =
+unfoldable pub host_row_at : Members → Result ListRow Fault
+host_row_at ms =
     name_at (codes "alloc") ms >>= λ alloc. whole_at (codes "boot") 1 LAST_BOOT ms >>= λ boot. whole_at (codes "cores") LEAST_CORES MOST_CORES ms >>= λ cores.
     whole_at (codes "heard") 0 18446744073709551615 ms >>= λ heard. word_at lock_of (codes "lock") ms >>= λ lock. whole_at (codes "memory") LEAST_MEMORY MOST_MEMORY ms >>= λ memory.
     name_at (codes "name") ms >>= λ name. word_at host_state_of (codes "state") ms >>= λ state. whole_at (codes "used_cores") 0 MOST_CORES ms >>= λ used_cores.
-    whole_at (codes "used_memory") 0 MOST_MEMORY ms >>= λ used_memory. others_at host_row_keys ms >>= λ none.
+    whole_at (codes "used_memory") 0 MOST_MEMORY ms >>= λ used_memory. others_at (row_keys kind.Host) ms >>= λ none.
     Ok (row.Host (record { alloc = alloc; boot = boot; cores = cores; heard = heard; lock = lock; memory = memory; name = name; state = state; used_cores = used_cores; used_memory = used_memory }))
 
 abbrev pub count_at : List ℕ → Members → Result ℕ Fault
 count_at field ms = whole_at field 0 MOST_FRAMES ms
 
-abbrev pub job_row_keys : List (List ℕ)
-job_row_keys =
-    codes "dead" ∷ codes "depend" ∷ codes "eaten" ∷ codes "name" ∷ codes "paused" ∷ codes "priority" ∷ codes "running" ∷ codes "show" ∷ codes "state" ∷ codes "succeeded"
-    ∷ codes "waiting" ∷ []
-
-unfoldable pub job_row : Members → Result ListRow Fault
-job_row ms =
+unfoldable pub job_row_at : Members → Result ListRow Fault
+job_row_at ms =
     count_at (codes "dead") ms >>= λ dead. count_at (codes "depend") ms >>= λ depend. count_at (codes "eaten") ms >>= λ eaten. name_at (codes "name") ms >>= λ name.
     flag_at (codes "paused") ms >>= λ paused. whole_at (codes "priority") 1 MOST_PRIORITY ms >>= λ priority. count_at (codes "running") ms >>= λ running.
     name_at (codes "show") ms >>= λ show. word_at job_state_of (codes "state") ms >>= λ state. count_at (codes "succeeded") ms >>= λ succeeded.
-    count_at (codes "waiting") ms >>= λ waiting. others_at job_row_keys ms >>= λ none.
+    count_at (codes "waiting") ms >>= λ waiting. others_at (row_keys kind.Job) ms >>= λ none.
     Ok (row.Job (record { dead = dead; depend = depend; eaten = eaten; name = name; paused = paused; priority = priority; running = running; show = show; state = state; succeeded = succeeded; waiting = waiting }))
 
-abbrev pub layer_row_keys : List (List ℕ)
-layer_row_keys =
-    codes "cores" ∷ codes "dead" ∷ codes "depend" ∷ codes "eaten" ∷ codes "memory" ∷ codes "name" ∷ codes "range" ∷ codes "running" ∷ codes "succeeded" ∷ codes "waiting" ∷ []
-
-unfoldable pub layer_row : Members → Result ListRow Fault
-layer_row ms =
+unfoldable pub layer_row_at : Members → Result ListRow Fault
+layer_row_at ms =
     whole_at (codes "cores") LEAST_CORES MOST_CORES ms >>= λ cores. count_at (codes "dead") ms >>= λ dead. count_at (codes "depend") ms >>= λ depend.
     count_at (codes "eaten") ms >>= λ eaten. whole_at (codes "memory") LEAST_MEMORY MOST_MEMORY ms >>= λ memory. name_at (codes "name") ms >>= λ name.
     text_at (codes "range") ms >>= λ range. count_at (codes "running") ms >>= λ running. count_at (codes "succeeded") ms >>= λ succeeded.
-    count_at (codes "waiting") ms >>= λ waiting. others_at layer_row_keys ms >>= λ none.
+    count_at (codes "waiting") ms >>= λ waiting. others_at (row_keys kind.Layer) ms >>= λ none.
     Ok (row.Layer (record { cores = cores; dead = dead; depend = depend; eaten = eaten; memory = memory; name = name; range = range; running = running; succeeded = succeeded; waiting = waiting }))
 
-abbrev pub frame_row_keys : List (List ℕ)
-frame_row_keys = codes "frame" ∷ codes "retries" ∷ codes "state" ∷ codes "version" ∷ []
-
-unfoldable pub frame_row : Members → Result ListRow Fault
-frame_row ms =
+unfoldable pub frame_row_at : Members → Result ListRow Fault
+frame_row_at ms =
     text_at (codes "frame") ms >>= λ frame. whole_at (codes "retries") 0 MOST_RETRIES ms >>= λ retries. word_at state_of (codes "state") ms >>= λ state.
-    whole_at (codes "version") 0 LAST_VERSION ms >>= λ version. others_at frame_row_keys ms >>= λ none. Ok (row.Frame (record { frame = frame; retries = retries; state = state; version = version }))
+    whole_at (codes "version") 0 LAST_VERSION ms >>= λ version. others_at (row_keys kind.Frame) ms >>= λ none. Ok (row.Frame (record { frame = frame; retries = retries; state = state; version = version }))
 
-abbrev pub depend_row_keys : List (List ℕ)
-depend_row_keys = codes "depend" ∷ codes "kind" ∷ codes "satisfied" ∷ []
-
-unfoldable pub depend_row : Members → Result ListRow Fault
-depend_row ms =
+unfoldable pub depend_row_at : Members → Result ListRow Fault
+depend_row_at ms =
     whole_at (codes "depend") 1 LAST_DEPEND ms >>= λ depend. word_at kind_of (codes "kind") ms >>= λ named. flag_at (codes "satisfied") ms >>= λ satisfied.
-    others_at depend_row_keys ms >>= λ none. Ok (row.Depend (record { depend = depend; kind = named; satisfied = satisfied }))
+    others_at (row_keys kind.Depend) ms >>= λ none. Ok (row.Depend (record { depend = depend; kind = named; satisfied = satisfied }))
 
-abbrev pub proc_row_keys : List (List ℕ)
-proc_row_keys = codes "cores" ∷ codes "frame" ∷ codes "host" ∷ codes "job" ∷ codes "memory" ∷ codes "slot" ∷ codes "version" ∷ []
-
-unfoldable pub proc_row : Members → Result ListRow Fault
-proc_row ms =
+unfoldable pub proc_row_at : Members → Result ListRow Fault
+proc_row_at ms =
     whole_at (codes "cores") LEAST_CORES MOST_CORES ms >>= λ cores. text_at (codes "frame") ms >>= λ frame. name_at (codes "host") ms >>= λ host.
     name_at (codes "job") ms >>= λ job. whole_at (codes "memory") LEAST_MEMORY MOST_MEMORY ms >>= λ memory. whole_at (codes "slot") 0 LAST_SLOT ms >>= λ slot.
-    whole_at (codes "version") 0 LAST_VERSION ms >>= λ version. others_at proc_row_keys ms >>= λ none. Ok (row.Proc (record { cores = cores; frame = frame; host = host; job = job; memory = memory; slot = slot; version = version }))
+    whole_at (codes "version") 0 LAST_VERSION ms >>= λ version. others_at (row_keys kind.Proc) ms >>= λ none. Ok (row.Proc (record { cores = cores; frame = frame; host = host; job = job; memory = memory; slot = slot; version = version }))
 
 -- ---- rows of one list
 
 abbrev pub row_at : RowKind → Members → Result ListRow Fault
-row_at kind.Name ms = name_row ms
-row_at kind.Sub ms = sub_row ms
-row_at kind.Host ms = host_row ms
-row_at kind.Job ms = job_row ms
-row_at kind.Layer ms = layer_row ms
-row_at kind.Frame ms = frame_row ms
-row_at kind.Depend ms = depend_row ms
-row_at kind.Proc ms = proc_row ms
+row_at kind.Name ms = name_row_at ms
+row_at kind.Sub ms = sub_row_at ms
+row_at kind.Host ms = host_row_at ms
+row_at kind.Job ms = job_row_at ms
+row_at kind.Layer ms = layer_row_at ms
+row_at kind.Frame ms = frame_row_at ms
+row_at kind.Depend ms = depend_row_at ms
+row_at kind.Proc ms = proc_row_at ms
 
 -- the kind of a row that has a key which no other kind has
 abbrev pub kind_of_keys : Members → RowKind

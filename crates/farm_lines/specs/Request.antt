@@ -24,7 +24,7 @@ use Rattle.farm_types.specs.Forms.{is_tag_text}
 use Rattle.farm_lines.specs.ListLines.{query_at}
 use Rattle.farm_lines.specs.OperatorLines.{asks_pause, frame_at, job_at, kill_at}
 use Rattle.farm_lines.specs.Points.{before_point, after_point}
-use Rattle.farm_lines.specs.Spec.{SpecError, Field, Range, Amount, formed, number_at, tags_at, within, spec_at}
+use Rattle.farm_lines.specs.Spec.{SpecError, Field, Range, Amount, form_first, number_at, tags_at, within, spec_at}
 use Rattle.farm_types.specs.declared.limits.TheConstants.{LAST_BOOT, LAST_DEPEND, LAST_SLOT, LAST_VERSION, LEAST_CORES, LEAST_MEMORY, MOST_BURST, MOST_CORES, MOST_EXIT, MOST_MEMORY, MOST_TAGS}
 
 -- the first fault of a malformed line: the field at fault, empty where the line is no JSON object; a layer's range has a fault; or the amount of a field
@@ -107,7 +107,7 @@ sub_line_of form =
     Ok (record { show = form.show; alloc = form.alloc; size = form.size; burst = form.burst })
 
 abbrev pub sub_line_at : Members → Result SubLine SpecError
-sub_line_at ms = formed (sub_form_at ms) >>= sub_line_of
+sub_line_at ms = form_first (sub_form_at ms) >>= sub_line_of
 
 -- ---- boots
 
@@ -129,7 +129,7 @@ boot_line_of form =
     Ok (record { host = form.host; nonce = form.nonce; alloc = form.alloc; tags = form.tags; cores = form.cores; memory = form.memory })
 
 abbrev pub boot_line_at : Members → Result BootLine SpecError
-boot_line_at ms = formed (boot_form_at ms) >>= boot_line_of
+boot_line_at ms = form_first (boot_form_at ms) >>= boot_line_of
 
 -- ---- locks
 
@@ -163,7 +163,7 @@ after_others read (Ok none) = read
 after_others read (Err fault) = Err (Field fault)
 
 unfoldable pub submit_at : Members → Result JobSpec SpecError
-submit_at ms = after_others (formed (object_at (codes "job") ms) >>= spec_at) (others_at submit_keys ms)
+submit_at ms = after_others (form_first (object_at (codes "job") ms) >>= spec_at) (others_at submit_keys ms)
 
 -- ---- the drop of a depend
 

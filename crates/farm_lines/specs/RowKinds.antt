@@ -1,5 +1,5 @@
 -- Which keys the rows of each list have.
-use Rattle.std.specs.Prelude.{◌≡◌, List}
+use Rattle.std.specs.Prelude.{ℕ, ◌≡◌, List, [], ◌∷◌, codes}
 use Rattle.std.specs.List.{All}
 use Rattle.farm_lines.specs.declared.list_row.ListRow.{ListRow}
 use Rattle.farm_lines.specs.declared.list_row.ListRow.TheVariants as row
@@ -30,6 +30,21 @@ kind_of_what what.Layers = kind.Layer
 kind_of_what what.Frames = kind.Frame
 kind_of_what what.Depends = kind.Depend
 kind_of_what what.Procs = kind.Proc
+
+-- they are, in byte order
+abbrev pub row_keys : RowKind → List (List ℕ)
+row_keys kind.Name = codes "name" ∷ []
+row_keys kind.Sub = codes "alloc" ∷ codes "booked" ∷ codes "burst" ∷ codes "show" ∷ codes "size" ∷ []
+row_keys kind.Host =
+    codes "alloc" ∷ codes "boot" ∷ codes "cores" ∷ codes "heard" ∷ codes "lock" ∷ codes "memory" ∷ codes "name" ∷ codes "state" ∷ codes "used_cores" ∷ codes "used_memory" ∷ []
+row_keys kind.Job =
+    codes "dead" ∷ codes "depend" ∷ codes "eaten" ∷ codes "name" ∷ codes "paused" ∷ codes "priority" ∷ codes "running" ∷ codes "show" ∷ codes "state" ∷ codes "succeeded"
+    ∷ codes "waiting" ∷ []
+row_keys kind.Layer =
+    codes "cores" ∷ codes "dead" ∷ codes "depend" ∷ codes "eaten" ∷ codes "memory" ∷ codes "name" ∷ codes "range" ∷ codes "running" ∷ codes "succeeded" ∷ codes "waiting" ∷ []
+row_keys kind.Frame = codes "frame" ∷ codes "retries" ∷ codes "state" ∷ codes "version" ∷ []
+row_keys kind.Depend = codes "depend" ∷ codes "kind" ∷ codes "satisfied" ∷ []
+row_keys kind.Proc = codes "cores" ∷ codes "frame" ∷ codes "host" ∷ codes "job" ∷ codes "memory" ∷ codes "slot" ∷ codes "version" ∷ []
 
 -- each row has these keys
 abbrev pub AreOfKind : RowKind → List ListRow → Type 0

@@ -158,10 +158,10 @@ job_of form =
 -- ---- a spec
 
 -- a fault of the form comes before every fault of an amount
-abbrev pub formed : {X : Type 0} → Result X Fault → Result X SpecError
-formed (Ok form) = Ok form
-formed (Err fault) = Err (Field fault)
+abbrev pub form_first : {X : Type 0} → Result X Fault → Result X SpecError
+form_first (Ok form) = Ok form
+form_first (Err fault) = Err (Field fault)
 
 -- what the spec says, or its first fault
 unfoldable pub spec_at : Members → Result JobSpec SpecError
-spec_at ms = formed (job_form_at ms) >>= job_of
+spec_at ms = form_first (job_form_at ms) >>= job_of

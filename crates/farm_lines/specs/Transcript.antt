@@ -16,7 +16,7 @@ use Rattle.farm_types.specs.Step.{refusal_of, after}
 use Rattle.farm_types.specs.Run.{run_of}
 use Rattle.farm_types.specs.Dispatch.{round_for}
 use Rattle.farm_lines.specs.Asked.{asked_of, entry_at, heard_entry}
-use Rattle.farm_lines.specs.Lists.{list_of}
+use Rattle.farm_lines.specs.Lists.{page_listed}
 use Rattle.farm_lines.specs.Request.{RequestError, request_of}
 use Rattle.farm_types.specs.EntryAnswers.{answer_of}
 use Rattle.farm_lines.specs.Reply.{reply_text, error_reply, ok_reply, report_reply}
@@ -98,7 +98,7 @@ list_reply (Err why) = reply.Refused why
 abbrev pub asked_answer : Farm → ℕ → Mark → Asked → Answered
 asked_answer f moment mark (asked.Report report) = report_answer f report moment mark (refusal_of f (heard_entry report moment))
 asked_answer f moment mark (asked.Act does) = entry_answer f (entry_at moment does) mark (refusal_of f (entry_at moment does))
-asked_answer f moment mark (asked.List query) = only_reply (list_reply (list_of f query))
+asked_answer f moment mark (asked.List query) = only_reply (list_reply (page_listed f query))
 
 -- a malformed line, and a request
 abbrev pub request_answer : Farm → ℕ → Mark → Result Request RequestError → Answered

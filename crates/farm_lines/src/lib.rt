@@ -4,6 +4,7 @@
 
 mod asked;
 mod attempt_reader;
+mod attempt_writer;
 mod boot_form;
 mod cores_text;
 mod field_faults;
@@ -25,6 +26,7 @@ mod what;
 
 pub use asked::Asked;
 pub use attempt_reader::AttemptReader;
+pub use attempt_writer::write_attempts;
 pub use boot_form::BootForm;
 pub use cores_text::read_cores;
 pub use fields::{read_list, read_text, read_whole};

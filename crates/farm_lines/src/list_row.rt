@@ -1,5 +1,8 @@
 //! What a list shows of each thing.
 
+ghost use Rattle.std.specs.Prelude.{◌≡◌, map};
+ghost use Rattle.farm_lines.specs.RowKinds.{row_keys};
+
 use farm_types::{
     Cores, DependKind, DependNo, FrameState, HostState, JobState, Kb, LockState, Slot, Text,
     Version,
@@ -116,4 +119,56 @@ pub enum RowKind {
     Frame,
     Depend,
     Proc,
+}
+
+impl RowKind {
+    /// The keys of such a row, in byte order.
+    pub fn keys(self) -> &'static [&'static str]
+        ensures { map (λ key. key.now) result.now ≡ row_keys self }
+    {
+        match self {
+            RowKind::Name => &["name"],
+            RowKind::Sub => &["alloc", "booked", "burst", "show", "size"],
+            RowKind::Host => &[
+                "alloc",
+                "boot",
+                "cores",
+                "heard",
+                "lock",
+                "memory",
+                "name",
+                "state",
+                "used_cores",
+                "used_memory",
+            ],
+            RowKind::Job => &[
+                "dead",
+                "depend",
+                "eaten",
+                "name",
+                "paused",
+                "priority",
+                "running",
+                "show",
+                "state",
+                "succeeded",
+                "waiting",
+            ],
+            RowKind::Layer => &[
+                "cores",
+                "dead",
+                "depend",
+                "eaten",
+                "memory",
+                "name",
+                "range",
+                "running",
+                "succeeded",
+                "waiting",
+            ],
+            RowKind::Frame => &["frame", "retries", "state", "version"],
+            RowKind::Depend => &["depend", "kind", "satisfied"],
+            RowKind::Proc => &["cores", "frame", "host", "job", "memory", "slot", "version"],
+        }
+    }
 }

@@ -16,19 +16,18 @@ use Rattle.farm_types.specs.declared.rows.JobRow.{JobRow}
 use Rattle.farm_types.specs.declared.rows.LayerRow.{LayerRow}
 use Rattle.farm_types.specs.declared.slot_row.Frame.{Frame}
 use Rattle.farm_types.specs.declared.slot_row.SlotRow.{SlotRow}
-use Rattle.farm_types.specs.declared.states.FrameState.{FrameState}
-use Rattle.farm_types.specs.declared.states.FrameState.TheVariants as frame_state
 use Rattle.farm_types.specs.declared.limits.TheConstants.{LAST_VERSION}
 use Rattle.farm_types.specs.Dispatch.{round_for}
 use Rattle.farm_types.specs.Farm.{Farm, job_at, layer_at, host_named}
 use Rattle.farm_types.specs.Kept.{KeepsRows, for_any, is_kept_frame, is_kept_slot}
-use Rattle.farm_types.specs.Run.{HasItsAttempt, IsAttemptOf, run_of}
+use Rattle.farm_types.specs.Run.{HasItsAttempt, run_of}
 use Rattle.farm_types.specs.Step.{after, refusal_of}
 use Rattle.farm_types.proofs.Lists.{and_both, list_all-at}
 use Rattle.farm_types.proofs.Passes.{option_map-from}
 use Rattle.farm_lines.specs.Asked.{heard_entry}
 use Rattle.farm_lines.specs.Reply.{due_in, is_due, launch_for, launch_of, launches_of, report_reply}
 use Rattle.farm_lines.specs.Transcript.{Answered, Mark, Plain, Memory, Store, CutAfter, StoreAfter, LatePlain, LateCut, LateStore, accepted_answer, marked_answer, report_answer, unless_memory}
+use Rattle.farm_law.proofs.RunningFrames.{frame_runs}
 use Rattle.farm_lines.specs.declared.launch.Launch.{Launch}
 use Rattle.farm_lines.specs.declared.limits.TheConstants.{LAUNCHES_EACH}
 use Rattle.farm_lines.specs.declared.report.Report.{Report}
@@ -43,18 +42,8 @@ pub record IsOfSlot (place version : ℕ) (p : ProcRow) : Type 0 where
   pub slot_is : p.slot ≡ place
   pub version_is : p.version ≡ version
 
-running_of : (place version : ℕ) (state : FrameState) (p : ProcRow) → IsAttemptOf place version state (Some p) → IsOfSlot place version p
-running_of place version frame_state.Running p h = record { slot_is = h.0; version_is = h.1 }
-running_of place version frame_state.Waiting p h = absurd h
-running_of place version frame_state.Setup p h = absurd h
-running_of place version frame_state.Succeeded p h = absurd h
-running_of place version frame_state.Depend p h = absurd h
-running_of place version frame_state.Dead p h = absurd h
-running_of place version frame_state.Eaten p h = absurd h
-
 attempt_of : (place version : ℕ) (frame : Option Frame) (p : ProcRow) → HasItsAttempt place version frame (Some p) → IsOfSlot place version p
-attempt_of place version None p h = absurd h
-attempt_of place version (Some x) p h = running_of place version x.state p h
+attempt_of place version frame p h = let runs = frame_runs place version frame p h in record { slot_is = runs.3; version_is = runs.4 }
 
 then_from : {X Y : Type 0} (next : X → Option Y) (o : Option X) (y : Y) → option_and_then next o ≡ Some y → (x : X) × (o ≡ Some x) × (next x ≡ Some y)
 then_from next None y is = absurd (none-some y is)

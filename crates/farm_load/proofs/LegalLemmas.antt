@@ -12,6 +12,7 @@ use Rattle.farm_types.specs.Forms.{is_name_text}
 use Rattle.farm_types.specs.Kept.{KeepsRows}
 use Rattle.farm_types.specs.Run.{IsLegal, run_of}
 use Rattle.farm_types.specs.Step.{after}
+use Rattle.farm_law.proofs.LegalRuns.{legal_append}
 use Rattle.farm_lines.specs.Asked.{heard_entry}
 use Rattle.farm_lines.specs.Transcript.{Mark}
 use Rattle.farm_lines.specs.declared.report.Report.{Report}
@@ -27,11 +28,6 @@ use Rattle.farm_load.proofs.LaunchLemmas.{reported_launches}
 run_append : (f : Farm) (xs ys : List Entry) → run_of f (xs ++ ys) ≡ run_of (run_of f xs) ys
 run_append f [] ys = refl
 run_append f (x ∷ xs) ys = run_append (after f x) xs ys
-
--- two legal runs, one after the other
-legal_append : (f : Farm) (xs ys : List Entry) → IsLegal f xs → IsLegal (run_of f xs) ys → IsLegal f (xs ++ ys)
-legal_append f [] ys first later = later
-legal_append f (x ∷ xs) ys first later = (first.0, legal_append (after f x) xs ys first.1 later)
 
 -- ---- the farm
 

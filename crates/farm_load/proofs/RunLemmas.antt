@@ -1,11 +1,11 @@
 -- Report by report, a load's run is that of its marks.
-use Rattle.std.proofs.Common.{◌≡◌, ◌≤◌, ◌<◌, ◌+◌, ◌*◌, ◌⊎◌, inl, inr, ℕ, cond, Bool, true, false, List, [], ◌∷◌, ◌++◌, arith, refl, sym, ap, ◌∙◌, subst, Result, Ok, append_assoc, length, length-append}
+use Rattle.std.proofs.Common.{◌≡◌, ◌≤◌, ◌<◌, ◌+◌, ◌*◌, inl, ℕ, cond, Bool, true, false, List, [], ◌∷◌, ◌++◌, arith, refl, sym, ap, ◌∙◌, subst, Result, Ok, append_assoc, length, length-append}
 use Rattle.std.specs.Prelude.{count_by}
 use Rattle.std.specs.List.{All}
 use Rattle.std.proofs.lemmas.List.Elements.{All-nil, All-push}
 use Rattle.std.proofs.lemmas.List.Sums.{sum_by-append, sum_by_push}
-use Rattle.farm_keeper.specs.Faults.{HasRisen, incremented_if, last_count}
-use Rattle.farm_keeper.proofs.KeepingLaws.{HasRisen-incremented}
+use Rattle.fault_counts.specs.Counts.{HasRisenBy, incremented_if}
+use Rattle.fault_counts.proofs.CountLaws.{HasRisenBy-push}
 use Rattle.farm_types.specs.declared.attempt.Attempt.{Attempt}
 use Rattle.farm_types.specs.declared.entry.Entry.{Entry}
 use Rattle.farm_types.specs.declared.limits.TheConstants.{BOOKINGS_EACH}
@@ -42,25 +42,10 @@ marks_more n l (m ∷ ms) mark are may = (are.0, are.1, are.2, marks_more n (loa
 abbrev weight : Mark → ℕ
 weight mark = cond (is_store_mark mark) 1 0
 
--- where a count that went up is
-next_by : (old new : ℕ) → new ≡ incremented_if true old → HasRisen old new → (new ≡ old + 1) ⊎ (new ≡ last_count)
-next_by old new is (inl rose) = inl (omega (arith, is, rose))
-next_by old new is (inr full) = inr (omega (arith, is, full))
-
-one_more : (marks old mid new : ℕ) → mid ≡ old + marks → (new ≡ mid + 1) ⊎ (new ≡ last_count) → (new ≡ old + (marks + 1)) ⊎ (new ≡ last_count)
-one_more marks old mid new so_far (inl more) = inl (omega (arith, so_far, more))
-one_more marks old mid new so_far (inr full) = inr full
-
-causes_by : (marks old mid new : ℕ) (b : Bool) → new ≡ incremented_if b mid → (mid ≡ old + marks) ⊎ (mid ≡ last_count) → (new ≡ old + (marks + cond b 1 0)) ⊎ (new ≡ last_count)
-causes_by marks old mid new false count_is (inl so_far) = inl (omega (arith, count_is, so_far))
-causes_by marks old mid new true count_is (inl so_far) = one_more marks old mid new so_far (next_by mid new count_is (HasRisen-incremented mid new count_is))
-causes_by marks old mid new false count_is (inr full) = inr (count_is ∙ full)
-causes_by marks old mid new true count_is (inr full) = inr (omega (arith, count_is, full))
-
 cause_more : (marks : List Mark) (mark : Mark) (old mid new : ℕ) → HaveCause marks old mid → new ≡ incremented_if (is_store_mark mark) mid → HaveCause (marks ++ mark ∷ []) old new
 cause_more marks mark old mid new causes count_is =
-    subst (λ (k : ℕ). (new ≡ old + k) ⊎ (new ≡ last_count)) (sym (sum_by_push weight marks mark))
-    (causes_by (count_by is_store_mark marks) old mid new (is_store_mark mark) count_is causes)
+    subst (λ (many : ℕ). HasRisenBy many old new) (sym (sum_by_push weight marks mark))
+    (HasRisenBy-push (is_store_mark mark) (count_by is_store_mark marks) old mid new causes count_is)
 
 -- ---- counts of two runs, one after the other
 

@@ -21,7 +21,7 @@ use Rattle.farm_lines.specs.declared.reply.Reply.{Reply}
 use Rattle.farm_lines.specs.declared.reply.Reply.TheVariants as reply
 use Rattle.farm_lines.specs.declared.report.Report.{Report}
 use Rattle.farm_lines.specs.Transcript.{Answered, Mark, Plain, Memory, Store, StoreAfter, accepted_answer, marked_answer, report_answer, unless_memory}
-use Rattle.line_answers.specs.LineAnswers.{TakesReport, is_calm, reported, tells_memory}
+use Rattle.line_answers.specs.LineAnswers.{Going, TakesReport, is_calm, reported, tells_memory}
 use Rattle.line_answers.specs.declared.taken.Taken.{Taken}
 use Rattle.farm_load.specs.declared.counts.Counts.{Counts}
 use Rattle.farm_load.specs.declared.load_host.LoadHost.{LoadHost}
@@ -104,7 +104,7 @@ few_told (reply.Report told) failing few = few
 few_told other failing few = omega arith
 
 -- What was taken is counted.
-module _ (n : ℕ) (f : Farm) (report : Report) (moment : ℕ) (new : Farm) (taken : Taken) (goes : Bool → Type 0) (failing : ℕ) (old counts : Counts)
+module _ (n : ℕ) (f : Farm) (report : Report) (moment : ℕ) (new : Farm) (taken : Taken) (goes : Going) (failing : ℕ) (old counts : Counts)
     (takes : TakesReport f report moment new taken goes) where
   abbrev answered : Answered
   answered = reported f report moment takes.mark
@@ -133,16 +133,17 @@ module _ (n : ℕ) (f : Farm) (report : Report) (moment : ℕ) (new : Farm) (tak
       }
   goes_on (Err e) failing_is few booked_few keeps attempts failed launched_is tells_none = tt
 
-  pub has_reported : {E : Type 0} (result : Result (List Attempt) E) → failing ≡ failed_in n f (heard_entry report moment ∷ [])
+  pub has_reported : {E : Type 0} (since : Bool → Type 0) → ((all done : List Entry) (failed : Bool) → goes all done failed → since failed)
+      → (result : Result (List Attempt) E) → failing ≡ failed_in n f (heard_entry report moment ∷ [])
       → failures_told taken.reply failing ≤ LAUNCHES_EACH → taken.booked ≤ BOOKINGS_EACH → KeepsRows new → counts.attempts ≡ old.attempts + taken.booked
       → counts.failed ≡ old.failed + failures_told taken.reply failing → IfOk result (λ launched. launched ≡ launched_by taken.reply)
-      → IfOk result (λ _. tells_memory taken.reply ≡ false) → HasReported n f report moment old result new counts goes
-  has_reported result failing_is few booked_few keeps attempts failed launched_is tells_none =
+      → IfOk result (λ _. tells_memory taken.reply ≡ false) → HasReported n f report moment old result new counts since
+  has_reported since on result failing_is few booked_few keeps attempts failed launched_is tells_none =
       record {
         mark = takes.mark;
         may_stand = takes.may_stand;
         farm_is = takes.farm;
-        keeper = takes.keeper;
+        keeper = on _ _ _ takes.keeper;
         goes_on = goes_on result failing_is few booked_few keeps attempts failed launched_is tells_none;
       }
 

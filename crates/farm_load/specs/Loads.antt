@@ -1,7 +1,7 @@
 -- The run of a load: reports of its hosts in rounds, each answered as a line would be, until its job is finished.
-use Rattle.std.specs.Prelude.{ℕ, ◌≡◌, ◌<◌, ◌+◌, ◌*◌, ◌/◌, ◌==◌, ◌⊎◌, Bool, true, false, List, [], ◌∷◌, ◌++◌, codes, count_by, map, None}
+use Rattle.std.specs.Prelude.{ℕ, ◌≡◌, ◌<◌, ◌+◌, ◌*◌, ◌/◌, ◌==◌, Bool, true, false, List, [], ◌∷◌, ◌++◌, codes, count_by, map, None}
 use Rattle.std.specs.List.{All}
-use Rattle.farm_keeper.specs.Faults.{last_count}
+use Rattle.fault_counts.specs.Counts.{HasRisenBy}
 use Rattle.farm_types.specs.declared.attempt.Attempt.{Attempt}
 use Rattle.farm_types.specs.declared.attempt.DoneItem.{DoneItem}
 use Rattle.farm_types.specs.declared.entry.Entry.{Entry}
@@ -119,9 +119,9 @@ AreMarks n l (mark ∷ marks) =
 abbrev pub AreCalm : List Mark → Type 0
 AreCalm marks = All (λ (mark : Mark). is_calm mark ≡ true) marks
 
--- the count of the keeper's faults rose by exactly the marks of the store, or stands at its last value
+-- the count of the keeper's faults rose by exactly the marks of the store, or stands at its last number
 abbrev pub HaveCause : List Mark → ℕ → ℕ → Type 0
-HaveCause marks faults faults_now = (faults_now ≡ faults + count_by is_store_mark marks) ⊎ (faults_now ≡ last_count)
+HaveCause marks faults faults_now = HasRisenBy (count_by is_store_mark marks) faults faults_now
 
 -- ---- completions
 

@@ -11,7 +11,7 @@ ghost use Rattle.farm_load.specs.Loads.{failed_in, fails};
 use farm_core::Farm;
 use farm_gen::load_exit;
 use farm_lines::Report;
-use farm_types::{Attempt, DoneItem, HostNo, HostRow, HostState, SILENT_SECONDS};
+use farm_types::{Attempt, DoneItem, HostNo, HostRow, SILENT_SECONDS};
 
 /// How many completions of the report change the farm when it is taken at the moment (seconds), and are of attempts that fail.
 #[tactic(auto, using(crate::proofs::FailureLemmas::failed_nowhere))]
@@ -51,7 +51,7 @@ fn is_silent(farm: &Farm, host: HostNo, moment: u64) -> bool
 fn is_unheard(row: &HostRow, moment: u64) -> bool
     ensures { result ≡ is_unheard moment row.now }
 {
-    matches!(row.state, HostState::Up) && moment.saturating_sub(row.heard) > SILENT_SECONDS
+    row.state.is_up() && moment.saturating_sub(row.heard) > SILENT_SECONDS
 }
 
 // How many of the completions are of attempts that are live on the host and fail, each counted where it stands for the first time.

@@ -1,5 +1,5 @@
 -- The answer to a line, by cases.
-use Rattle.std.proofs.Common.{◌≡◌, ℕ, Bool, true, false, ◌<◌, ◌≤◌, ◌^◌, cond, List, [], ◌∷◌, ◌++◌, length, refl, sym, ap, ◌∙◌, subst, Option, None, Result, Ok, Err, inl, inr}
+use Rattle.std.proofs.Common.{◌≡◌, ℕ, true, false, ◌<◌, ◌≤◌, ◌^◌, cond, List, [], ◌∷◌, ◌++◌, length, refl, sym, ap, ◌∙◌, subst, Option, None, Result, Ok, Err, inl, inr}
 use Rattle.std.proofs.lemmas.Bool.{le-ltb, lt-ltb, false≢true}
 use Rattle.farm_types.specs.declared.entry.Act.{Act}
 use Rattle.farm_types.specs.declared.entry.Act.TheVariants as act
@@ -19,24 +19,24 @@ use Rattle.farm_lines.specs.declared.request.RequestFault.TheVariants as fault
 use Rattle.farm_core.specs.Change.{after_change}
 use Rattle.farm_core.specs.Change.{Makes, Prepares}
 use Rattle.farm_core.specs.declared.change.Change.{Change}
-use Rattle.farm_places.specs.declared.fault.PrepareFault.{PrepareFault}
-use Rattle.farm_places.specs.declared.fault.PrepareFault.TheVariants as prepare
+use Rattle.farm_types.specs.declared.fault.FarmFault.{FarmFault}
+use Rattle.farm_types.specs.declared.fault.FarmFault.TheVariants as prepare
 use Rattle.farm_types.specs.EntryAnswers.{answer_of}
 use Rattle.farm_types.specs.Farm.{Farm}
 use Rattle.farm_types.specs.Formed.{IsFormed}
 use Rattle.farm_lines.specs.Reply.{ok_reply, reply_text}
-use Rattle.farm_lines.specs.Lists.{list_of}
+use Rattle.farm_lines.specs.Lists.{page_listed}
 use Rattle.farm_lines.specs.Request.{RequestError, request_of}
 use Rattle.farm_types.specs.Step.{HasCondition, refusal_of, after}
 use Rattle.farm_lines.specs.Asked.{IsFormedAsked, asked_of, entry_at, heard_entry}
-use Rattle.farm_lines.specs.Transcript.{Mark, Plain, Memory, Store, Answered, answer_to, asked_answer, entry_answer, list_reply, only_reply, request_answer, unless_memory}
+use Rattle.farm_lines.specs.Transcript.{Mark, Plain, Memory, Store, Answered, answer_to, asked_answer, entry_answer, is_store_mark, list_reply, only_reply, request_answer, unless_memory}
 use Rattle.report_codec.specs.Reads.{Fails}
 use Rattle.recorder.specs.Recording.{ChangesNone, ChangesRows, IsOfEntry, IsUnstored}
 use Rattle.line_answers.specs.Asking.{IsNoBooking, IsUnbooked}
-use Rattle.line_answers.specs.LineAnswers.{AnswersAsked, AnswersEntry, AnswersLine, AnswersReport, IsAnswer, IsMarked, IsMarkedAnswer, IsRecorded, IsUnprepared, MayStore, MayStoreEntry, fault_reply, reported}
+use Rattle.line_answers.specs.LineAnswers.{AnswersAsked, AnswersEntry, AnswersLine, AnswersReport, Going, IsAnswer, IsMarked, IsMarkedAnswer, IsRecorded, IsUnprepared, MayStore, MayStoreEntry, fault_reply, reported}
 use Rattle.line_answers.specs.declared.reply_line.ReplyLine.{ReplyLine}
 use Rattle.line_answers.specs.declared.reply_line.ReplyLine.TheVariants as reply_line
-use Rattle.line_answers.specs.Lines.{IsLineOf, is_store_line, shown}
+use Rattle.line_answers.specs.Lines.{IsLineOf, is_store_line, recorded_by, shown}
 use Rattle.farm_lines.specs.declared.limits.TheConstants.{LINE_LIMIT}
 
 -- a line within the limit is answered by what it asks
@@ -52,18 +52,20 @@ long_answer f line moment mark h =
     ap (λ b. cond b (only_reply reply.TooLong) (unless_memory mark (request_answer f moment mark (request_of line)))) (lt-ltb LINE_LIMIT (length line) h)
 
 -- what is answered by a mark is answered by it in other words
-retold : (f new : Farm) (text : List ℕ) (goes : Bool → Type 0) (one other : Mark → Answered) (may later : Mark → Type 0)
+retold : (f new : Farm) (text : List ℕ) (goes : Going) (one other : Mark → Answered) (may later : Mark → Type 0)
     → ((mark : Mark) → one mark ≡ other mark) → ((mark : Mark) → may mark → later mark)
     → IsMarkedAnswer f one may new text goes → IsMarkedAnswer f other later new text goes
 retold f new text goes one other may later same stands answered = record {
   mark = answered.mark;
   answer = subst (λ (a : Answered). IsAnswer f a new text) (same answered.mark) answered.answer;
   may_stand = stands answered.mark answered.may_stand;
-  keeper = answered.keeper;
+  keeper =
+      subst (λ (a : Answered). goes a.entries (other answered.mark).entries (is_store_mark answered.mark)) (same Plain)
+      (subst (λ (a : Answered). goes (one Plain).entries a.entries (is_store_mark answered.mark)) (same answered.mark) answered.keeper);
 }
 
 -- a line is answered by what is asked
-pub answered_line : (f : Farm) (line : List ℕ) (moment : ℕ) (new : Farm) (text : List ℕ) (goes : Bool → Type 0) (what : Request) → length line ≤ LINE_LIMIT
+pub answered_line : (f : Farm) (line : List ℕ) (moment : ℕ) (new : Farm) (text : List ℕ) (goes : Going) (what : Request) → length line ≤ LINE_LIMIT
     → request_of line ≡ Ok what → AnswersAsked f (asked_of what) moment new text goes → AnswersLine f line moment new text goes
 answered_line f line moment new text goes what fits asks answered =
     retold f new text goes (λ mark. unless_memory mark (asked_answer f moment mark (asked_of what))) (answer_to f line moment) (MayStore f moment (asked_of what))
@@ -73,18 +75,23 @@ answered_line f line moment new text goes what fits asks answered =
 -- ---- a reply alone
 
 -- memory ran out before anything was recorded
-pub unreplied : (f : Farm) (text : List ℕ) (goes : Bool → Type 0) → goes false → (answers : Mark → Answered) (may : Mark → Type 0) → may Memory → text ≡ reply_text reply.NoMemory ++ 10 ∷ []
-    → IsMarkedAnswer f (λ mark. unless_memory mark (answers mark)) may f text goes
-unreplied f text goes still answers may stands line = record { mark = Memory; answer = record { farm = refl; text = line }; may_stand = stands; keeper = still }
+pub unrecorded : (f : Farm) (text : List ℕ) (goes : Going) (answers : Mark → Answered) (may : Mark → Type 0) → goes (answers Plain).entries [] false → may Memory
+    → text ≡ reply_text reply.NoMemory ++ 10 ∷ [] → IsMarkedAnswer f (λ mark. unless_memory mark (answers mark)) may f text goes
+unrecorded f text goes answers may keeper stands line = record { mark = Memory; answer = record { farm = refl; text = line }; may_stand = stands; keeper = keeper }
+
+-- and before the keeper was asked
+pub unreplied : (f : Farm) (text : List ℕ) (goes : Going) → ((all : List Entry) → goes all [] false) → (answers : Mark → Answered) (may : Mark → Type 0) → may Memory
+    → text ≡ reply_text reply.NoMemory ++ 10 ∷ [] → IsMarkedAnswer f (λ mark. unless_memory mark (answers mark)) may f text goes
+unreplied f text goes still answers may stands line = unrecorded f text goes answers may (still (answers Plain).entries) stands line
 
 -- what is only replied, or that memory ran out
-pub replied : (f : Farm) (told : Reply) (text : List ℕ) (goes : Bool → Type 0) → goes false → (answers : Mark → Answered) (may : Mark → Type 0) → may Plain → may Memory
+pub replied : (f : Farm) (told : Reply) (text : List ℕ) (goes : Going) → ((all : List Entry) → goes all [] false) → (answers : Mark → Answered) (may : Mark → Type 0) → may Plain → may Memory
     → answers Plain ≡ only_reply told → IsLineOf told text → IsMarkedAnswer f (λ mark. unless_memory mark (answers mark)) may f text goes
 replied f told text goes still answers may plain memory is (inl e) = record {
   mark = Plain;
   answer = subst (λ (a : Answered). IsAnswer f a f text) (sym is) (record { farm = refl; text = e });
   may_stand = plain;
-  keeper = still;
+  keeper = subst (λ (a : Answered). goes a.entries a.entries false) (sym is) (still []);
 }
 replied f told text goes still answers may plain memory is (inr e) = unreplied f text goes still answers may memory e
 
@@ -95,7 +102,7 @@ no_memory : (text : List ℕ) → IsLineOf reply.NoMemory text → text ≡ repl
 no_memory text (inl e) = e
 no_memory text (inr e) = e
 
-faulted : (f : Farm) (moment : ℕ) (found : RequestFault) (read : Result Request RequestError) (text : List ℕ) (goes : Bool → Type 0) → goes false → (may : Mark → Type 0) → may Plain → may Memory
+faulted : (f : Farm) (moment : ℕ) (found : RequestFault) (read : Result Request RequestError) (text : List ℕ) (goes : Going) → ((all : List Entry) → goes all [] false) → (may : Mark → Type 0) → may Plain → may Memory
     → Fails found read → IsLineOf (fault_reply found) text → IsMarkedAnswer f (λ mark. unless_memory mark (request_answer f moment mark read)) may f text goes
 faulted f moment (fault.BadLine field) read text goes still may plain memory fails line =
     replied f (reply.BadLine field) text goes still (λ mark. request_answer f moment mark read) may plain memory (ap (request_answer f moment Plain) fails) line
@@ -107,7 +114,7 @@ faulted f moment fault.NoMemory read text goes still may plain memory fails line
     unreplied f text goes still (λ mark. request_answer f moment mark read) may memory (no_memory text line)
 
 -- its reply tells the fault, or that memory ran out
-pub faulted_line : (f : Farm) (line : List ℕ) (moment : ℕ) (found : RequestFault) (text : List ℕ) (goes : Bool → Type 0) → goes false → length line ≤ LINE_LIMIT
+pub faulted_line : (f : Farm) (line : List ℕ) (moment : ℕ) (found : RequestFault) (text : List ℕ) (goes : Going) → ((all : List Entry) → goes all [] false) → length line ≤ LINE_LIMIT
     → Fails found (request_of line) → IsLineOf (fault_reply found) text → AnswersLine f line moment f text goes
 faulted_line f line moment found text goes still fits fails told =
     retold f f text goes (λ mark. unless_memory mark (request_answer f moment mark (request_of line))) (answer_to f line moment) (IsMarked f line moment) (IsMarked f line moment)
@@ -130,12 +137,12 @@ pub report_formed : (moment : ℕ) (what : Asked) (report : Report) → moment <
 report_formed moment what report low is formed = record { moment_within = low; act_formed = subst IsFormedAsked is formed }
 
 -- a report is answered as one
-pub answered_report : (f new : Farm) (moment : ℕ) (text : List ℕ) (goes : Bool → Type 0) (what : Asked) (report : Report) → what ≡ asked.Report report
+pub answered_report : (f new : Farm) (moment : ℕ) (text : List ℕ) (goes : Going) (what : Asked) (report : Report) → what ≡ asked.Report report
     → AnswersReport f report moment new text goes → AnswersAsked f what moment new text goes
 answered_report f new moment text goes what report is answered = subst (λ (a : Asked). AnswersAsked f a moment new text goes) (sym is) answered
 
 -- an act is answered by its entry
-pub answered_act : (f new : Farm) (moment : ℕ) (text : List ℕ) (goes : Bool → Type 0) (what : Asked) (does : Act) → what ≡ asked.Act does
+pub answered_act : (f new : Farm) (moment : ℕ) (text : List ℕ) (goes : Going) (what : Asked) (does : Act) → what ≡ asked.Act does
     → AnswersEntry f (entry_at moment does) new text goes → AnswersAsked f what moment new text goes
 answered_act f new moment text goes what does is answered = subst (λ (a : Asked). AnswersAsked f a moment new text goes) (sym is) answered
 
@@ -154,45 +161,51 @@ pub listed_refusal : (listed : Result ListReply Refusal) (why : Refusal) (text :
 listed_refusal listed why text is line = subst (λ (l : Result ListReply Refusal). IsLineOf (list_reply l) text) (sym is) line
 
 -- a list is only replied to, by what is read of the farm
-pub answered_list : (f read : Farm) (moment : ℕ) (text : List ℕ) (goes : Bool → Type 0) → goes false → (what : Asked) (query : Query) → what ≡ asked.List query → read ≡ f
-    → IsLineOf (list_reply (list_of read query)) text → AnswersAsked f what moment f text goes
+pub answered_list : (f read : Farm) (moment : ℕ) (text : List ℕ) (goes : Going) → ((all : List Entry) → goes all [] false) → (what : Asked) (query : Query) → what ≡ asked.List query → read ≡ f
+    → IsLineOf (list_reply (page_listed read query)) text → AnswersAsked f what moment f text goes
 answered_list f read moment text goes still what query is same line =
     subst (λ (a : Asked). AnswersAsked f a moment f text goes) (sym is) (
-    replied f (list_reply (list_of f query)) text goes still (λ mark. asked_answer f moment mark (asked.List query)) (MayStore f moment (asked.List query)) refl refl refl
-    (subst (λ (g : Farm). IsLineOf (list_reply (list_of g query)) text) same line)
+    replied f (list_reply (page_listed f query)) text goes still (λ mark. asked_answer f moment mark (asked.List query)) (MayStore f moment (asked.List query)) refl refl refl
+    (subst (λ (g : Farm). IsLineOf (list_reply (page_listed g query)) text) same line)
     )
 
 -- no change was prepared for the entry
-pub unprepared_entry : (f : Farm) (e : Entry) (found : PrepareFault) (text : List ℕ) (goes : Bool → Type 0) → goes false → Prepares f e (Err found) → IsUnprepared found text
+pub unprepared_entry : (f : Farm) (e : Entry) (found : FarmFault) (text : List ℕ) (goes : Going) → ((all : List Entry) → goes all [] false) → Prepares f e (Err found) → IsUnprepared found text
     → AnswersEntry f e f text goes
 unprepared_entry f e (prepare.Refused why) text goes still refuses line =
     replied f (reply.Refused why) text goes still (λ mark. entry_answer f e mark (refusal_of f e)) (MayStoreEntry f e) tt tt (ap (entry_answer f e Plain) refuses) line
 unprepared_entry f e prepare.NoMemory text goes still fails line = unreplied f text goes still (λ mark. entry_answer f e mark (refusal_of f e)) (MayStoreEntry f e) tt line
 
 -- the farm took the entry
-taken_entry : (f new : Farm) (e : Entry) (text : List ℕ) (goes : Bool → Type 0) → goes false → refusal_of f e ≡ None → new ≡ after f e
+taken_entry : (f new : Farm) (e : Entry) (text : List ℕ) (goes : Going) → goes (e ∷ []) (e ∷ []) false → refusal_of f e ≡ None → new ≡ after f e
     → text ≡ reply_text (ok_reply e.act (answer_of f e)) ++ 10 ∷ [] → AnswersEntry f e new text goes
-taken_entry f new e text goes still accepts is line = record {
+taken_entry f new e text goes keeper accepts is line = record {
   mark = Plain;
   answer = subst (λ (a : Answered). IsAnswer f a new text) (sym (ap (entry_answer f e Plain) accepts)) (record { farm = is; text = line });
   may_stand = tt;
-  keeper = still;
+  keeper = subst (λ (a : Answered). goes a.entries a.entries false) (sym (ap (entry_answer f e Plain) accepts)) keeper;
 }
 
 -- the store failed at the entry
-failed_entry : (f : Farm) (e : Entry) (text : List ℕ) (goes : Bool → Type 0) → refusal_of f e ≡ None → ChangesRows f (after f e) → text ≡ reply_text reply.Store ++ 10 ∷ []
-    → goes true → AnswersEntry f e f text goes
+failed_entry : (f : Farm) (e : Entry) (text : List ℕ) (goes : Going) → refusal_of f e ≡ None → ChangesRows f (after f e) → text ≡ reply_text reply.Store ++ 10 ∷ []
+    → goes (e ∷ []) [] true → AnswersEntry f e f text goes
 failed_entry f e text goes accepts changes line failed = record {
   mark = Store;
   answer = subst (λ (a : Answered). IsAnswer f a f text) (sym (ap (entry_answer f e Store) accepts)) (record { farm = refl; text = line });
   may_stand = record { accepted = accepts; changes = changes };
-  keeper = failed;
+  keeper =
+      subst (λ (a : Answered). goes a.entries (entry_answer f e Store (refusal_of f e)).entries true) (sym (ap (entry_answer f e Plain) accepts))
+      (subst (λ (a : Answered). goes (e ∷ []) a.entries true) (sym (ap (entry_answer f e Store) accepts)) failed);
 }
 
+-- memory ran out as it was recorded
+asked_entry : (f : Farm) (e : Entry) (goes : Going) → refusal_of f e ≡ None → goes (e ∷ []) [] false → goes (entry_answer f e Plain (refusal_of f e)).entries [] false
+asked_entry f e goes accepts keeper = subst (λ (a : Answered). goes a.entries [] false) (sym (ap (entry_answer f e Plain) accepts)) keeper
+
 -- a change of the entry was recorded, or the store failed or memory ran out for it
-pub recorded_entry : (f new : Farm) (e : Entry) (change : Change) (written : List ℕ) (told : ReplyLine) (goes : Bool → Type 0) → Makes f e change
+pub recorded_entry : (f new : Farm) (e : Entry) (change : Change) (written : List ℕ) (told : ReplyLine) (goes : Going) → Makes f e change
     → written ≡ reply_text (ok_reply e.act (answer_of f e)) ++ 10 ∷ [] → IsRecorded f (after_change f change) written new told
-    → goes (is_store_line told) → AnswersEntry f e new (shown told) goes
+    → goes (e ∷ []) (recorded_by e told) (is_store_line told) → AnswersEntry f e new (shown told) goes
 recorded_entry f new e change written (reply_line.Written line) goes makes is recorded keeper =
     taken_entry f new e line goes keeper makes.accepted (recorded.0 ∙ makes.farm) (recorded.1 ∙ is)
 recorded_entry f new e change written reply_line.Store goes makes is recorded keeper =
@@ -200,10 +213,10 @@ recorded_entry f new e change written reply_line.Store goes makes is recorded ke
     (failed_entry f e (shown reply_line.Store) goes makes.accepted (subst (ChangesRows f) makes.farm recorded.1) refl keeper)
 recorded_entry f new e change written reply_line.NoMemory goes makes is recorded keeper =
     subst (λ (g : Farm). AnswersEntry f e g (shown reply_line.NoMemory) goes) (sym recorded.1)
-    (unreplied f (shown reply_line.NoMemory) goes keeper (λ mark. entry_answer f e mark (refusal_of f e)) (MayStoreEntry f e) tt refl)
+    (unrecorded f (shown reply_line.NoMemory) goes (λ mark. entry_answer f e mark (refusal_of f e)) (MayStoreEntry f e) (asked_entry f e goes makes.accepted keeper) tt refl)
 recorded_entry f new e change written reply_line.TooLong goes makes is recorded keeper =
     subst (λ (g : Farm). AnswersEntry f e g (shown reply_line.TooLong) goes) (sym recorded.1)
-    (unreplied f (shown reply_line.TooLong) goes keeper (λ mark. entry_answer f e mark (refusal_of f e)) (MayStoreEntry f e) tt (ap shown recorded.0))
+    (unrecorded f (shown reply_line.TooLong) goes (λ mark. entry_answer f e mark (refusal_of f e)) (MayStoreEntry f e) (asked_entry f e goes makes.accepted keeper) tt (ap shown recorded.0))
 
 -- the change of an entry that is no booking is that of a legal entry
 pub entry_made : (f : Farm) (e : Entry) (change : Change) → HasCondition f e.act → IsFormed e → Makes f e change → IsOfEntry f e change

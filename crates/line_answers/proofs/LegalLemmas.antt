@@ -1,19 +1,17 @@
 -- The entries that lines make are a legal run.
-use Rattle.std.proofs.Common.{◌≡◌, ℕ, ◌-◌, ◌<◌, ◌^◌, ◌&&◌, Bool, true, false, cond, List, [], ◌∷◌, ◌++◌, take, refl, sym, Option, None, Some, Result, Ok, Err, zero, suc, length}
+use Rattle.std.proofs.Common.{◌≡◌, ℕ, ◌-◌, ◌<◌, ◌^◌, Bool, true, false, cond, List, [], ◌∷◌, take, refl, Option, None, Some, Result, Ok, Err, length}
 use Rattle.std.specs.Prelude.{nat_lt}
-use Rattle.std.proofs.Common.{true≢false}
 use Rattle.std.specs.List.{All}
 use Rattle.std.proofs.lemmas.List.Elements.{All-head, All-tail}
-use Rattle.farm_types.specs.declared.dispatch.Candidate.{Candidate}
 use Rattle.farm_types.specs.declared.entry.Entry.{Entry}
 use Rattle.farm_types.specs.declared.refusal.Refusal.{Refusal}
 use Rattle.farm_lines.specs.declared.report.Report.{Report}
 use Rattle.farm_types.specs.Farm.{Farm, host_named}
 use Rattle.farm_types.specs.Formed.{IsFormed}
-use Rattle.farm_types.specs.Booking.{may_book, may_record, tags_match}
 use Rattle.farm_types.specs.Step.{HasCondition, refusal_of, after}
-use Rattle.farm_types.specs.Run.{run_of, IsLegal, IsLegalStep}
-use Rattle.farm_types.specs.Dispatch.{book_entry, round_from, round_for, plan_for}
+use Rattle.farm_types.specs.Run.{IsLegal}
+use Rattle.farm_types.specs.Dispatch.{round_for, plan_for}
+use Rattle.farm_law.proofs.LegalRuns.{legal_append, legal_round, legal_take}
 use Rattle.farm_lines.specs.declared.request.Request.{Request}
 use Rattle.farm_lines.specs.declared.asked.Asked.{Asked}
 use Rattle.farm_lines.specs.declared.asked.Asked.TheVariants as asked
@@ -27,41 +25,6 @@ use Rattle.line_answers.specs.LineAnswers.{reported}
 use Rattle.line_answers.proofs.AnswerLemmas.{no_booking, unbooked}
 use Rattle.farm_types.specs.declared.limits.TheConstants.{BOOKINGS_EACH}
 use Rattle.farm_lines.specs.declared.limits.TheConstants.{LINE_LIMIT}
-
--- both tests are true where both together are
-both_of : (a b : Bool) → (a && b) ≡ true → (a ≡ true) × (b ≡ true)
-both_of true b h = (refl, h)
-both_of false b h = absurd (true≢false (sym h))
-
--- two legal runs, one after the other
-pub legal_append : (f : Farm) (xs ys : List Entry) → IsLegal f xs → IsLegal (run_of f xs) ys → IsLegal f (xs ++ ys)
-legal_append f [] ys l m = m
-legal_append f (x ∷ xs) ys l m = (l.0, legal_append (after f x) xs ys l.1 m)
-
--- the front of a legal run
-pub legal_take : (f : Farm) (k : ℕ) (xs : List Entry) → IsLegal f xs → IsLegal f (take k xs)
-legal_take f zero xs l = tt
-legal_take f (suc k) [] l = tt
-legal_take f (suc k) (x ∷ xs) l = (l.0, legal_take (after f x) k xs l.1)
-
--- a candidate that may be booked makes a legal step
-book_legal : (f : Farm) (c : Candidate) (moment : ℕ) → moment < 2 ^ 64 → may_book f c.slot c.host ≡ true → IsLegalStep f (book_entry c moment)
-book_legal f c moment low h = record {
-  formed = record { moment_within = low; act_formed = tt };
-  accepted = refl;
-  condition = (both_of (may_record f c.slot c.host) (tags_match f c.slot c.host) h).0;
-}
-
--- the bookings of a round
-pub legal_round : (left : ℕ) (f : Farm) (moment : ℕ) (cs : List Candidate) → moment < 2 ^ 64 → IsLegal f (round_from left f moment cs)
-legal_round left f moment [] low = tt
-legal_round left f moment (c ∷ cs) low =
-    by (nat_lt 0 left && may_book f c.slot c.host) refl (legal_round (left - 1) (after f (book_entry c moment)) moment cs low) (legal_round left f moment cs low)
-  where
-    by : (b : Bool) → b ≡ (nat_lt 0 left && may_book f c.slot c.host) → IsLegal (after f (book_entry c moment)) (round_from (left - 1) (after f (book_entry c moment)) moment cs) → IsLegal f (round_from left f moment cs)
-        → IsLegal f (cond b (book_entry c moment ∷ round_from (left - 1) (after f (book_entry c moment)) moment cs) (round_from left f moment cs))
-    by true e booked passed = (book_legal f c moment low (both_of (nat_lt 0 left) (may_book f c.slot c.host) (sym e)).1, booked)
-    by false e booked passed = passed
 
 -- a report that the farm accepts, and its round
 module _ (f : Farm) (report : Report) (moment : ℕ) (formed : IsFormed (heard_entry report moment)) where

@@ -4,4 +4,5 @@ mod LegalLemmas
 mod LineLemmas
 mod OutcomeLemmas
 mod ReportLemmas
+mod ToldLemmas
 mod WalkLemmas

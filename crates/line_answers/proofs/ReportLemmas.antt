@@ -1,7 +1,8 @@
 -- The answer to a report, by cases.
-use Rattle.std.proofs.Common.{◌≡◌, ℕ, ◌<◌, ◌≤◌, arith, Bool, true, false, List, [], ◌∷◌, ◌++◌, length, take, refl, sym, ap, ◌∙◌, subst, Option, None, Some, Result, Ok, Err, IsErrAnd, inl, inr}
+use Rattle.std.proofs.Common.{◌≡◌, ℕ, ◌<◌, arith, Bool, true, false, List, [], ◌∷◌, ◌++◌, length, take, refl, sym, ap, ◌∙◌, subst, Option, None, Some, Result, Ok, Err, IsErrAnd, inl, inr}
 use Rattle.std.proofs.Common.{true≢false}
 use Rattle.std.proofs.lemmas.Bool.{false≢true}
+use Rattle.std.proofs.lemmas.List.{take_all}
 use Rattle.std.proofs.lemmas.Result.{err_from_is_err_and}
 use Rattle.std.specs.Prelude.{is_some, ◌⊎◌}
 use Rattle.dispatch_plan.specs.declared.walked.Walked.{Walked}
@@ -21,8 +22,8 @@ use Rattle.farm_lines.specs.declared.asked.Asked.TheVariants as asked
 use Rattle.farm_core.specs.Change.{Makes, Prepares, after_change}
 use Rattle.farm_core.specs.declared.change.Change.{Change}
 use Rattle.farm_changes.specs.Change.{HasHeard}
-use Rattle.farm_places.specs.declared.fault.PrepareFault.{PrepareFault}
-use Rattle.farm_places.specs.declared.fault.PrepareFault.TheVariants as prepare
+use Rattle.farm_types.specs.declared.fault.FarmFault.{FarmFault}
+use Rattle.farm_types.specs.declared.fault.FarmFault.TheVariants as prepare
 use Rattle.farm_types.specs.DependActs.{or_else}
 use Rattle.farm_types.specs.Dispatch.{round_for}
 use Rattle.farm_types.specs.Farm.{Farm, host_named}
@@ -35,13 +36,13 @@ use Rattle.recorder.specs.declared.refusal.CommitRefusal.{CommitRefusal}
 use Rattle.recorder.specs.declared.refusal.CommitRefusal.TheVariants as refusal
 use Rattle.recorder.specs.declared.refusal.RecordFault.{RecordFault}
 use Rattle.recorder.specs.declared.refusal.RecordFault.TheVariants as fault
-use Rattle.recorder.specs.Faults.{is_by_store, is_of_store, is_store_refusal, of_prepare, of_record}
+use Rattle.recorder.specs.Faults.{is_by_store, is_of_store, is_store_refusal, of_farm, of_record}
 use Rattle.recorder.specs.Recording.{ChangesNone, ChangesRows, FailsToRecord, IsUnstored}
-use Rattle.line_answers.specs.LineAnswers.{AnswersReport, Hears, MayCutRound, MayStore, TakesReport, TakesRound, bookings_in, is_calm, reported, tells_memory, unrecorded_reply}
+use Rattle.line_answers.specs.LineAnswers.{AnswersReport, Going, Hears, MayCutRound, MayStore, TakesReport, TakesRound, bookings_in, is_calm, reported, tells_memory, unrecorded_reply}
 use Rattle.line_answers.specs.Lines.{IsLineOf, IsLineOfTaken, is_store_reply}
 use Rattle.line_answers.specs.declared.taken.Taken.{Taken}
 use Rattle.line_answers.specs.Reports.{IsHeard, IsTold}
-use Rattle.line_answers.proofs.AnswerLemmas.{unreplied}
+use Rattle.line_answers.proofs.AnswerLemmas.{unrecorded}
 use Rattle.line_answers.proofs.BookingLemmas.{booked_front, booked_whole}
 
 -- what acts of a report tell
@@ -79,21 +80,21 @@ made_told f e change is makes = told_by f e.act change.act.heard is makes.heard
 told_as : (found : CommitRefusal) (r : Result ℕ CommitRefusal) → IsErrAnd r (λ told. told ≡ found) → r ≡ Err found
 told_as found r err = let p = err_from_is_err_and r err in p.1 ∙ ap Err p.2
 
-refused_as : (f : Farm) (e : Entry) (why : PrepareFault) → Prepares f e (Err why) → Hears f e (Err (of_prepare why)) f
+refused_as : (f : Farm) (e : Entry) (why : FarmFault) → Prepares f e (Err why) → Hears f e (Err (of_farm why)) f
 refused_as f e (prepare.Refused why) refuses = (refuses, refl)
 refused_as f e prepare.NoMemory fails = refl
 
 -- no change was prepared
-pub unprepared : (f : Farm) (e : Entry) (why : PrepareFault) (r : Result ℕ CommitRefusal) → IsErrAnd r (λ told. told ≡ of_prepare why) → Prepares f e (Err why) → Hears f e r f
-unprepared f e why r err is = subst (λ (q : Result ℕ CommitRefusal). Hears f e q f) (sym (told_as (of_prepare why) r err)) (refused_as f e why is)
+pub unprepared : (f : Farm) (e : Entry) (why : FarmFault) (r : Result ℕ CommitRefusal) → IsErrAnd r (λ told. told ≡ of_farm why) → Prepares f e (Err why) → Hears f e r f
+unprepared f e why r err is = subst (λ (q : Result ℕ CommitRefusal). Hears f e q f) (sym (told_as (of_farm why) r err)) (refused_as f e why is)
 
-prepared_not : (why : PrepareFault) → is_by_store (of_prepare why) ≡ false
+prepared_not : (why : FarmFault) → is_by_store (of_farm why) ≡ false
 prepared_not (prepare.Refused why) = refl
 prepared_not prepare.NoMemory = refl
 
 -- and preparing tells of no store
-pub never_store : (why : PrepareFault) (r : Result ℕ CommitRefusal) → IsErrAnd r (λ told. told ≡ of_prepare why) → is_store_refusal r ≡ false
-never_store why r err = ap is_store_refusal (told_as (of_prepare why) r err) ∙ prepared_not why
+pub never_store : (why : FarmFault) (r : Result ℕ CommitRefusal) → IsErrAnd r (λ told. told ≡ of_farm why) → is_store_refusal r ≡ false
+never_store why r err = ap is_store_refusal (told_as (of_farm why) r err) ∙ prepared_not why
 
 -- the change was recorded
 pub was_heard : (f new : Farm) (e : Entry) (change : Change) (host : ℕ) → Makes f e change → change.act.heard ≡ Some host → new ≡ after_change f change
@@ -145,9 +146,9 @@ accepted_is f report moment host mark accepts named =
     (ap (report_answer f report moment mark) accepts ∙ ap (accepted_answer f report moment mark) named)
 
 -- nothing was recorded, and this is replied
-unchanged : (f : Farm) (report : Report) (moment : ℕ) (mark : Mark) (taken : Taken) (goes : Bool → Type 0) → reported f report moment mark ≡ only_reply taken.reply → taken.booked ≡ 0
-    → (tells_memory taken.reply ≡ false → is_calm mark ≡ true) → MayStore f moment (asked.Report report) mark → goes (is_store_mark mark)
-    → TakesReport f report moment f taken goes
+unchanged : (f : Farm) (report : Report) (moment : ℕ) (mark : Mark) (taken : Taken) (goes : Going) → reported f report moment mark ≡ only_reply taken.reply → taken.booked ≡ 0
+    → (tells_memory taken.reply ≡ false → is_calm mark ≡ true) → MayStore f moment (asked.Report report) mark
+    → goes (reported f report moment Plain).entries [] (is_store_mark mark) → TakesReport f report moment f taken goes
 unchanged f report moment mark taken goes is none calm may keeper = record {
   mark = mark;
   farm = sym (ap (λ (a : Answered). run_of f a.entries) is);
@@ -155,13 +156,13 @@ unchanged f report moment mark taken goes is none calm may keeper = record {
   booked = none ∙ sym (ap (λ (a : Answered). bookings_in a.entries) is);
   calm = calm;
   may_stand = may;
-  keeper = keeper;
+  keeper = subst (λ (a : Answered). goes (reported f report moment Plain).entries a.entries (is_store_mark mark)) (sym is) keeper;
 }
 
 -- it wasn't recorded
-pub unrecorded_report : (f new : Farm) (report : Report) (moment : ℕ) (why : CommitRefusal) (taken : Taken) (goes : Bool → Type 0)
+pub unrecorded_report : (f new : Farm) (report : Report) (moment : ℕ) (why : CommitRefusal) (taken : Taken) (goes : Going)
     → Hears f (heard_entry report moment) (Err why) new → taken.reply ≡ unrecorded_reply why → taken.booked ≡ 0
-    → goes (is_by_store why) → TakesReport f report moment new taken goes
+    → goes (reported f report moment Plain).entries [] (is_by_store why) → TakesReport f report moment new taken goes
 unrecorded_report f new report moment (refusal.Refused why) taken goes heard is none keeper =
     subst (λ (g : Farm). TakesReport f report moment g taken goes) (sym heard.1)
     (unchanged f report moment Plain taken goes (ap (report_answer f report moment Plain) heard.0 ∙ ap only_reply (sym is)) none (λ calm. refl) tt keeper)
@@ -185,14 +186,19 @@ round_may f next report moment host accepts named is (LateStore k) may =
 round_may f next report moment host accepts named is mark may = tt
 
 -- what the round makes is what the report makes
-pub taken_report : (f next new : Farm) (report : Report) (moment host : ℕ) (taken : Taken) (goes since : Bool → Type 0) → Hears f (heard_entry report moment) (Ok host) next
-    → ((failed : Bool) → since failed → goes failed) → TakesRound next host report moment new taken since → TakesReport f report moment new taken goes
+pub taken_report : (f next new : Farm) (report : Report) (moment host : ℕ) (taken : Taken) (goes since : Going) → Hears f (heard_entry report moment) (Ok host) next
+    → ((done : List Entry) (failed : Bool) → since (round_for next host moment) done failed
+    → goes (heard_entry report moment ∷ round_for next host moment) (heard_entry report moment ∷ done) failed)
+    → TakesRound next host report moment new taken since → TakesReport f report moment new taken goes
 taken_report f next new report moment host taken goes since heard on walked =
     let round = round_for next host moment in
-    let made = marked_answer f host report (heard_entry report moment) round walked.mark in
-    let is : reported f report moment walked.mark ≡ made =
-    accepted_is f report moment host walked.mark heard.0 heard.1
-    ∙ sym (ap (λ (g : Farm). marked_answer f host report (heard_entry report moment) (round_for g host moment) walked.mark) heard.2) in
+    let made : (mark : Mark) → reported f report moment mark ≡ marked_answer f host report (heard_entry report moment) round mark =
+    λ mark.
+    accepted_is f report moment host mark heard.0 heard.1
+    ∙ sym (ap (λ (g : Farm). marked_answer f host report (heard_entry report moment) (round_for g host moment) mark) heard.2) in
+    let is = made walked.mark in
+    let done : (reported f report moment walked.mark).entries ≡ heard_entry report moment ∷ walked.done =
+    ap (λ (a : Answered). a.entries) is ∙ walked.behind f (heard_entry report moment) in
     record {
       mark = walked.mark;
       farm = walked.farm f (heard_entry report moment) (sym heard.2) ∙ sym (ap (λ (a : Answered). run_of f a.entries) is);
@@ -200,7 +206,10 @@ taken_report f next new report moment host taken goes since heard on walked =
       booked = walked.booked f (heard_entry report moment) refl ∙ sym (ap (λ (a : Answered). bookings_in a.entries) is);
       calm = walked.calm;
       may_stand = round_may f next report moment host heard.0 heard.1 heard.2 walked.mark walked.may_stand;
-      keeper = on (is_store_mark walked.mark) walked.keeper;
+      keeper =
+          subst (λ (a : Answered). goes a.entries (reported f report moment walked.mark).entries (is_store_mark walked.mark)) (sym (made Plain))
+          (subst (λ (es : List Entry). goes (heard_entry report moment ∷ round) es (is_store_mark walked.mark)) (sym done)
+          (on walked.done (is_store_mark walked.mark) walked.keeper));
     }
 
 -- ---- the round's marks
@@ -218,11 +227,14 @@ told_from old f new host report heard round ended told walked e is = is ∙ ap (
 not_calm : {P : Type 0} (told other : Reply) → told ≡ other → tells_memory other ≡ true → tells_memory told ≡ false → P
 not_calm told other is tells calm = absurd (false≢true (sym calm ∙ (ap tells_memory is ∙ tells)))
 
-module _ (old : Farm) (host : ℕ) (report : Report) (moment : ℕ) (new : Farm) (taken : Taken) (goes : Bool → Type 0) where
+module _ (old : Farm) (host : ℕ) (report : Report) (moment : ℕ) (new : Farm) (taken : Taken) (goes : Going) where
   abbrev round : List Entry
   round = round_for old host moment
 
-  replied_by : (ended : Cut) → EndsBy old round ended taken.booked new → goes (is_store_cut ended) → taken.reply ≡ report_reply new host report ended
+  whole : taken.booked ≡ length round → take taken.booked round ≡ round
+  whole all = take_all taken.booked round (omega (arith, all))
+
+  replied_by : (ended : Cut) → EndsBy old round ended taken.booked new → goes round (take taken.booked round) (is_store_cut ended) → taken.reply ≡ report_reply new host report ended
       → TakesRound old host report moment new taken goes
   replied_by cut.Whole walked keeper is = record {
     mark = Plain;
@@ -231,6 +243,8 @@ module _ (old : Farm) (host : ℕ) (report : Report) (moment : ℕ) (new : Farm)
     booked = λ f heard other. booked_whole old host moment heard taken.booked other walked.0;
     calm = λ calm. refl;
     may_stand = tt;
+    done = take taken.booked round;
+    behind = λ f heard. ap (λ (es : List Entry). heard ∷ es) (sym (whole walked.0));
     keeper = keeper;
   }
   replied_by cut.Store walked keeper is = record {
@@ -240,6 +254,8 @@ module _ (old : Farm) (host : ℕ) (report : Report) (moment : ℕ) (new : Farm)
     booked = λ f heard other. booked_front old host moment heard taken.booked other (omega (arith, walked.0));
     calm = λ calm. refl;
     may_stand = walked.0;
+    done = take taken.booked round;
+    behind = λ f heard. refl;
     keeper = keeper;
   }
   replied_by cut.Memory walked keeper is = record {
@@ -249,10 +265,12 @@ module _ (old : Farm) (host : ℕ) (report : Report) (moment : ℕ) (new : Farm)
     booked = λ f heard other. booked_front old host moment heard taken.booked other walked.0;
     calm = not_calm taken.reply (report_reply new host report cut.Memory) is refl;
     may_stand = tt;
+    done = take taken.booked round;
+    behind = λ f heard. refl;
     keeper = keeper;
   }
 
-  unreplied_by : (ended : Cut) → EndsBy old round ended taken.booked new → goes (is_store_cut ended) → taken.reply ≡ reply.NoMemory
+  unreplied_by : (ended : Cut) → EndsBy old round ended taken.booked new → goes round (take taken.booked round) (is_store_cut ended) → taken.reply ≡ reply.NoMemory
       → TakesRound old host report moment new taken goes
   unreplied_by cut.Whole walked keeper is = record {
     mark = LatePlain;
@@ -261,6 +279,8 @@ module _ (old : Farm) (host : ℕ) (report : Report) (moment : ℕ) (new : Farm)
     booked = λ f heard other. booked_whole old host moment heard taken.booked other walked.0;
     calm = not_calm taken.reply reply.NoMemory is refl;
     may_stand = tt;
+    done = take taken.booked round;
+    behind = λ f heard. ap (λ (es : List Entry). heard ∷ es) (sym (whole walked.0));
     keeper = keeper;
   }
   unreplied_by cut.Store walked keeper is = record {
@@ -270,6 +290,8 @@ module _ (old : Farm) (host : ℕ) (report : Report) (moment : ℕ) (new : Farm)
     booked = λ f heard other. booked_front old host moment heard taken.booked other (omega (arith, walked.0));
     calm = not_calm taken.reply reply.NoMemory is refl;
     may_stand = walked.0;
+    done = take taken.booked round;
+    behind = λ f heard. refl;
     keeper = keeper;
   }
   unreplied_by cut.Memory walked keeper is = record {
@@ -279,6 +301,8 @@ module _ (old : Farm) (host : ℕ) (report : Report) (moment : ℕ) (new : Farm)
     booked = λ f heard other. booked_front old host moment heard taken.booked other walked.0;
     calm = not_calm taken.reply reply.NoMemory is refl;
     may_stand = tt;
+    done = take taken.booked round;
+    behind = λ f heard. refl;
     keeper = keeper;
   }
 
@@ -286,13 +310,17 @@ module _ (old : Farm) (host : ℕ) (report : Report) (moment : ℕ) (new : Farm)
   ends_as : (walked : Walked) → taken.booked ≡ walked.booked → IsRound old host moment walked new → EndsBy old round walked.cut taken.booked new
   ends_as walked booked ends = subst (λ (k : ℕ). EndsBy old round walked.cut k new) (sym booked) ends
 
-  pub round_replied : (walked : Walked) → IsRound old host moment walked new → goes (is_store_cut walked.cut) → taken.booked ≡ walked.booked
-      → taken.reply ≡ report_reply new host report walked.cut → TakesRound old host report moment new taken goes
-  round_replied walked ends keeper booked is = replied_by walked.cut (ends_as walked booked ends) keeper is
+  goes_as : (walked : Walked) → taken.booked ≡ walked.booked → goes round (take walked.booked round) (is_store_cut walked.cut)
+      → goes round (take taken.booked round) (is_store_cut walked.cut)
+  goes_as walked booked keeper = subst (λ (k : ℕ). goes round (take k round) (is_store_cut walked.cut)) (sym booked) keeper
 
-  pub round_unreplied : (walked : Walked) → IsRound old host moment walked new → goes (is_store_cut walked.cut) → taken.booked ≡ walked.booked
+  pub round_replied : (walked : Walked) → IsRound old host moment walked new → goes round (take walked.booked round) (is_store_cut walked.cut) → taken.booked ≡ walked.booked
+      → taken.reply ≡ report_reply new host report walked.cut → TakesRound old host report moment new taken goes
+  round_replied walked ends keeper booked is = replied_by walked.cut (ends_as walked booked ends) (goes_as walked booked keeper) is
+
+  pub round_unreplied : (walked : Walked) → IsRound old host moment walked new → goes round (take walked.booked round) (is_store_cut walked.cut) → taken.booked ≡ walked.booked
       → taken.reply ≡ reply.NoMemory → TakesRound old host report moment new taken goes
-  round_unreplied walked ends keeper booked is = unreplied_by walked.cut (ends_as walked booked ends) keeper is
+  round_unreplied walked ends keeper booked is = unreplied_by walked.cut (ends_as walked booked ends) (goes_as walked booked keeper) is
 
 -- ---- the line of its reply
 
@@ -343,14 +371,17 @@ refused_nothing f report moment mark why refused = ap (λ (o : Option Refusal). 
     by Memory = refl
     by mark = refl
 
-module _ (f new : Farm) (report : Report) (moment : ℕ) (text : List ℕ) (taken : Taken) (goes : Bool → Type 0) (took : TakesReport f report moment new taken goes)
+module _ (f new : Farm) (report : Report) (moment : ℕ) (text : List ℕ) (taken : Taken) (goes : Going) (took : TakesReport f report moment new taken goes)
     (memory : text ≡ reply_text reply.NoMemory ++ 10 ∷ []) (other : is_store_reply taken.reply ≡ false) where
   -- memory ran out before anything was recorded
   late_refused : (why : Refusal) → refusal_of f (heard_entry report moment) ≡ Some why → AnswersReport f report moment new text goes
   late_refused why refused =
       let same : new ≡ f = took.farm ∙ ap (run_of f) (refused_nothing f report moment took.mark why refused) in
       subst (λ (g : Farm). AnswersReport f report moment g text goes) (sym same)
-      (unreplied f text goes (subst goes (refused_mark f report moment took.mark why refused took.may_stand) took.keeper) (λ mark. report_answer f report moment mark (refusal_of f (heard_entry report moment))) (MayStore f moment (asked.Report report)) tt memory)
+      (unrecorded f text goes (λ mark. report_answer f report moment mark (refusal_of f (heard_entry report moment))) (MayStore f moment (asked.Report report))
+      (subst (goes (reported f report moment Plain).entries []) (refused_mark f report moment took.mark why refused took.may_stand)
+      (subst (λ (es : List Entry). goes (reported f report moment Plain).entries es (is_store_mark took.mark)) (refused_nothing f report moment took.mark why refused)
+      took.keeper)) tt memory)
 
   -- memory ran out for the reply alone
   late_accepted : refusal_of f (heard_entry report moment) ≡ None → AnswersReport f report moment new text goes
@@ -362,14 +393,19 @@ module _ (f new : Farm) (report : Report) (moment : ℕ) (text : List ℕ) (take
       let is : reported f report moment took.mark ≡ marked_answer f host.0 report heard bookings took.mark = accepted_is f report moment host.0 took.mark accepted host.1 in
       let lately : reported f report moment (late_mark took.mark) ≡ marked_answer f host.0 report heard bookings (late_mark took.mark) =
       accepted_is f report moment host.0 (late_mark took.mark) accepted host.1 in
+      let same : (reported f report moment took.mark).entries ≡ (reported f report moment (late_mark took.mark)).entries =
+      ap (λ (a : Answered). a.entries) is ∙ (sym late.entries ∙ sym (ap (λ (a : Answered). a.entries) lately)) in
       record {
         mark = late_mark took.mark;
         answer = record {
-          farm = took.farm ∙ ap (run_of f) (ap (λ (a : Answered). a.entries) is ∙ (sym late.entries ∙ sym (ap (λ (a : Answered). a.entries) lately)));
+          farm = took.farm ∙ ap (run_of f) same;
           text = memory ∙ ap (λ (told : Reply). reply_text told ++ 10 ∷ []) (sym late.reply ∙ sym (ap (λ (a : Answered). a.reply) lately));
         };
         may_stand = late.may_stand took.may_stand;
-        keeper = subst goes (late.store (ap is_store_reply (sym (ap (λ (a : Answered). a.reply) is) ∙ sym took.reply) ∙ other)) took.keeper;
+        keeper =
+            subst (λ (es : List Entry). goes (reported f report moment Plain).entries es (is_store_mark (late_mark took.mark))) same
+            (subst (goes (reported f report moment Plain).entries (reported f report moment took.mark).entries)
+            (late.store (ap is_store_reply (sym (ap (λ (a : Answered). a.reply) is) ∙ sym took.reply) ∙ other)) took.keeper);
       }
 
   late_by : (why : Option Refusal) → refusal_of f (heard_entry report moment) ≡ why → AnswersReport f report moment new text goes
@@ -388,7 +424,7 @@ line_told reply.Store text is = inl is
 line_told told text (inl is) = inl is
 line_told told text (inr memory) = inr (memory, refl)
 
-by_line : (f new : Farm) (report : Report) (moment : ℕ) (text : List ℕ) (taken : Taken) (goes : Bool → Type 0) → TakesReport f report moment new taken goes
+by_line : (f new : Farm) (report : Report) (moment : ℕ) (text : List ℕ) (taken : Taken) (goes : Going) → TakesReport f report moment new taken goes
     → (text ≡ reply_text taken.reply ++ 10 ∷ []) ⊎ ((text ≡ reply_text reply.NoMemory ++ 10 ∷ []) × (is_store_reply taken.reply ≡ false))
     → AnswersReport f report moment new text goes
 by_line f new report moment text taken goes took (inl line) = record {
@@ -401,7 +437,7 @@ by_line f new report moment text taken goes took (inr memory) =
     late_by f new report moment text taken goes took memory.0 memory.1 (refusal_of f (heard_entry report moment)) refl
 
 -- the line is that of what is replied, or memory ran out for it
-pub told_report : (f new : Farm) (report : Report) (moment : ℕ) (text : List ℕ) (taken : Taken) (goes : Bool → Type 0) → TakesReport f report moment new taken goes
+pub told_report : (f new : Farm) (report : Report) (moment : ℕ) (text : List ℕ) (taken : Taken) (goes : Going) → TakesReport f report moment new taken goes
     → IsLineOfTaken taken.reply text → AnswersReport f report moment new text goes
 told_report f new report moment text taken goes took line = by_line f new report moment text taken goes took (line_told taken.reply text line)
 

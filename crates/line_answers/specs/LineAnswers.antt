@@ -13,8 +13,8 @@ use Rattle.farm_lines.specs.declared.report.Report.{Report}
 use Rattle.farm_lines.specs.declared.request.Request.{Request}
 use Rattle.farm_lines.specs.declared.request.RequestFault.{RequestFault}
 use Rattle.farm_lines.specs.declared.request.RequestFault.TheVariants as fault
-use Rattle.farm_places.specs.declared.fault.PrepareFault.{PrepareFault}
-use Rattle.farm_places.specs.declared.fault.PrepareFault.TheVariants as prepare
+use Rattle.farm_types.specs.declared.fault.FarmFault.{FarmFault}
+use Rattle.farm_types.specs.declared.fault.FarmFault.TheVariants as prepare
 use Rattle.line_answers.specs.declared.reply_line.ReplyLine.{ReplyLine}
 use Rattle.line_answers.specs.declared.reply_line.ReplyLine.TheVariants.{Written}
 use Rattle.line_answers.specs.declared.reply_line.ReplyLine.TheVariants as reply_line
@@ -74,29 +74,33 @@ IsMarked f line moment mark = is_store_mark mark ≡ true → (what : Request) �
 
 -- ---- answers
 
--- what was answered by a mark that may stand there; and so the keeper goes on, by whether that is a mark of the store
-pub record IsMarkedAnswer (old : Farm) (answers : Mark → Answered) (may : Mark → Type 0) (new : Farm) (line : List ℕ) (goes : Bool → Type 0) : Type 0 where
+-- how a keeper goes on, by all entries that are asked, those that were recorded, and whether the store failed at the next one
+abbrev pub Going : Type 1
+Going = List Entry → List Entry → Bool → Type 0
+
+-- what was answered by a mark that may stand there; and so the keeper goes on, by what it is asked and by what the mark leaves of it
+pub record IsMarkedAnswer (old : Farm) (answers : Mark → Answered) (may : Mark → Type 0) (new : Farm) (line : List ℕ) (goes : Going) : Type 0 where
   pub mark : Mark
   pub answer : IsAnswer old (answers mark) new line
   pub may_stand : may mark
-  pub keeper : goes (is_store_mark mark)
+  pub keeper : goes (answers Plain).entries (answers mark).entries (is_store_mark mark)
 
 -- the line was answered
-abbrev pub AnswersLine : Farm → List ℕ → ℕ → Farm → List ℕ → (Bool → Type 0) → Type 0
+abbrev pub AnswersLine : Farm → List ℕ → ℕ → Farm → List ℕ → Going → Type 0
 AnswersLine old line moment new text goes = IsMarkedAnswer old (answer_to old line moment) (IsMarked old line moment) new text goes
 
 -- what is asked was answered
-abbrev pub AnswersAsked : Farm → Asked → ℕ → Farm → List ℕ → (Bool → Type 0) → Type 0
+abbrev pub AnswersAsked : Farm → Asked → ℕ → Farm → List ℕ → Going → Type 0
 AnswersAsked old what moment new text goes =
     IsMarkedAnswer old (λ mark. unless_memory mark (asked_answer old moment mark what)) (MayStore old moment what) new text goes
 
 -- the entry was answered, by one of the marks
-abbrev pub AnswersEntry : Farm → Entry → Farm → List ℕ → (Bool → Type 0) → Type 0
+abbrev pub AnswersEntry : Farm → Entry → Farm → List ℕ → Going → Type 0
 AnswersEntry old e new line goes =
     IsMarkedAnswer old (λ mark. unless_memory mark (entry_answer old e mark (refusal_of old e))) (MayStoreEntry old e) new line goes
 
 -- the report was answered at the moment, by one of the marks
-abbrev pub AnswersReport : Farm → Report → ℕ → Farm → List ℕ → (Bool → Type 0) → Type 0
+abbrev pub AnswersReport : Farm → Report → ℕ → Farm → List ℕ → Going → Type 0
 AnswersReport old report moment new line goes =
     IsMarkedAnswer old (λ mark. unless_memory mark (report_answer old report moment mark (refusal_of old (heard_entry report moment))))
     (MayStore old moment (asked.Report report)) new line goes
@@ -134,14 +138,14 @@ tells_memory other = false
 
 -- The report was recorded at the moment with its round, or it wasn't, by one of the marks; the reply is the one of that mark, and so many frames were
 -- booked. Where the reply tells nothing of memory, it didn't run out. The keeper goes on as after the mark.
-pub record TakesReport (old : Farm) (report : Report) (moment : ℕ) (new : Farm) (taken : Taken) (goes : Bool → Type 0) : Type 0 where
+pub record TakesReport (old : Farm) (report : Report) (moment : ℕ) (new : Farm) (taken : Taken) (goes : Going) : Type 0 where
   pub mark : Mark
   pub farm : new ≡ run_of old (reported old report moment mark).entries
   pub reply : taken.reply ≡ (reported old report moment mark).reply
   pub booked : taken.booked ≡ bookings_in (reported old report moment mark).entries
   pub calm : tells_memory taken.reply ≡ false → is_calm mark ≡ true
   pub may_stand : MayStore old moment (asked.Report report) mark
-  pub keeper : goes (is_store_mark mark)
+  pub keeper : goes (reported old report moment Plain).entries (reported old report moment mark).entries (is_store_mark mark)
 
 -- A change was recorded, and the line is the one that was written for it; or the store failed or memory ran out, and the farm is as before. The store
 -- fails only at a change of a row.
@@ -165,7 +169,7 @@ unrecorded_reply commit.Store = reply.Store
 unrecorded_reply commit.NoMemory = reply.NoMemory
 
 -- no change was prepared: the line tells the refusal, or that memory ran out
-abbrev pub IsUnprepared : PrepareFault → List ℕ → Type 0
+abbrev pub IsUnprepared : FarmFault → List ℕ → Type 0
 IsUnprepared (prepare.Refused why) line = IsLineOf (reply.Refused why) line
 IsUnprepared prepare.NoMemory line = line ≡ reply_text reply.NoMemory ++ 10 ∷ []
 
@@ -183,12 +187,15 @@ MayCutRound bookings (StoreAfter k) = k < bookings
 MayCutRound bookings (LateStore k) = k < bookings
 MayCutRound bookings mark = Unit {0}
 
--- A round was walked over a farm, and the reply is to the report before it: whatever entry of the report made that farm, it is the answer by this mark.
-pub record TakesRound (old : Farm) (host : ℕ) (report : Report) (moment : ℕ) (new : Farm) (taken : Taken) (goes : Bool → Type 0) : Type 0 where
+-- A round was walked over a farm, and the reply is to the report before it: whatever entry of the report made that farm, it is the answer by this mark,
+-- and behind that entry these bookings were recorded.
+pub record TakesRound (old : Farm) (host : ℕ) (report : Report) (moment : ℕ) (new : Farm) (taken : Taken) (goes : Going) : Type 0 where
   pub mark : Mark
   pub farm : (f : Farm) (heard : Entry) → after f heard ≡ old → new ≡ run_of f (marked_answer f host report heard (round_for old host moment) mark).entries
   pub reply : (f : Farm) (heard : Entry) → after f heard ≡ old → taken.reply ≡ (marked_answer f host report heard (round_for old host moment) mark).reply
   pub booked : (f : Farm) (heard : Entry) → is_booking heard.act ≡ false → taken.booked ≡ bookings_in (marked_answer f host report heard (round_for old host moment) mark).entries
   pub calm : tells_memory taken.reply ≡ false → is_calm mark ≡ true
   pub may_stand : MayCutRound (length (round_for old host moment)) mark
-  pub keeper : goes (is_store_mark mark)
+  pub done : List Entry
+  pub behind : (f : Farm) (heard : Entry) → (marked_answer f host report heard (round_for old host moment) mark).entries ≡ heard ∷ done
+  pub keeper : goes (round_for old host moment) done (is_store_mark mark)

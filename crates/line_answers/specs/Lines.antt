@@ -1,5 +1,6 @@
 -- What a reply's line is.
 use Rattle.std.specs.Prelude.{◌≡◌, ◌⊎◌, ℕ, Bool, true, false, List, [], ◌∷◌, ◌++◌}
+use Rattle.farm_types.specs.declared.entry.Entry.{Entry}
 use Rattle.farm_lines.specs.declared.reply.Reply.{Reply}
 use Rattle.farm_lines.specs.declared.reply.Reply.TheVariants as reply
 use Rattle.farm_lines.specs.Reply.{reply_text}
@@ -21,6 +22,11 @@ IsLineOf told line = (line ≡ reply_text told ++ 10 ∷ []) ⊎ (line ≡ reply
 abbrev pub is_store_line : ReplyLine → Bool
 is_store_line Store = true
 is_store_line other = false
+
+-- the line that was written for an entry tells that it was recorded
+abbrev pub recorded_by : Entry → ReplyLine → List Entry
+recorded_by e (Written line) = e ∷ []
+recorded_by e other = []
 
 -- the reply tells that the store failed
 abbrev pub is_store_reply : Reply → Bool

@@ -1,14 +1,14 @@
 //! Answering one line.
 
 ghost use Rattle.std.specs.Prelude.{◌≡◌, ◌≤◌, length};
-ghost use Rattle.farm_keeper.specs.Keeping.{Continues};
 ghost use Rattle.farm_lines.specs.Asked.{IsFormedAsked, asked_of};
-ghost use Rattle.farm_lines.specs.Lists.{list_of};
+ghost use Rattle.farm_lines.specs.Lists.{page_listed};
 ghost use Rattle.farm_lines.specs.Transcript.{Plain, answer_to, asked_answer, list_reply};
 ghost use Rattle.line_answers.specs.Asking.{IsUnbooked};
 ghost use Rattle.farm_types.specs.Formed.{IsFormed};
 ghost use Rattle.farm_types.specs.Step.{HasCondition};
 ghost use Rattle.recorder.specs.Recording.{ChangesNone, IsUnstored};
+ghost use Rattle.recorder.specs.Telling.{GoesOn};
 ghost use Rattle.report_codec.specs.Reads.{AsksWithin};
 ghost use Rattle.line_answers.specs.LineAnswers.{AnswersAsked, AnswersEntry, AnswersLine, fault_reply};
 ghost use Rattle.line_answers.specs.Lines.{IsLineOf, shown};
@@ -17,11 +17,11 @@ ghost use Rattle.farm_lines.specs.declared.limits.TheConstants.{LINE_LIMIT};
 use crate::answer_entry::answer_entry;
 use crate::answer_report::answer_report;
 use crate::reply_line::{ReplyLine, line_of, refusal_line};
-use cue_query::{QueryFault, list};
+use cue_query::list;
 use farm_core::Farm;
 use farm_keeper::Keeper;
 use farm_lines::{Asked, Query, Reply, Request, RequestFault};
-use farm_types::{Act, Entry};
+use farm_types::{Act, Entry, FarmFault};
 use recorder::PlainRecorder;
 use report_codec::read_request;
 use std::alloc::Global;
@@ -36,7 +36,7 @@ pub fn answer_line<K: Keeper>(
 ) -> ReplyLine
     requires { length line.now ≤ LINE_LIMIT }
     ensures answer { AnswersLine recorder.old.farm line.now moment recorder.new.farm (shown result)
-        (Continues K.tells K.faults recorder.old.keeper recorder.new.keeper) }
+        (GoesOn K.commits K.tells K.faults recorder.old.farm recorder.old.keeper recorder.new.keeper) }
     ensures same { ChangesNone recorder.old.farm (answer_to recorder.old.farm line.now moment Plain).entries → recorder.new.keeper ≡ recorder.old.keeper }
 {
     match read_request(alloc, line) {
@@ -54,7 +54,7 @@ fn answer_request<K: Keeper>(
 ) -> ReplyLine
     requires { AsksWithin request }
     ensures answer { AnswersAsked recorder.old.farm (asked_of request) moment recorder.new.farm (shown result)
-        (Continues K.tells K.faults recorder.old.keeper recorder.new.keeper) }
+        (GoesOn K.commits K.tells K.faults recorder.old.farm recorder.old.keeper recorder.new.keeper) }
     ensures same { ChangesNone recorder.old.farm (asked_answer recorder.old.farm moment Plain (asked_of request)).entries
         → recorder.new.keeper ≡ recorder.old.keeper }
 {
@@ -71,7 +71,7 @@ fn answer_asked<K: Keeper>(
     requires formed { IsFormedAsked asked }
     requires unbooked { IsUnbooked asked }
     ensures answer { AnswersAsked recorder.old.farm asked moment recorder.new.farm (shown result)
-        (Continues K.tells K.faults recorder.old.keeper recorder.new.keeper) }
+        (GoesOn K.commits K.tells K.faults recorder.old.farm recorder.old.keeper recorder.new.keeper) }
     ensures same { ChangesNone recorder.old.farm (asked_answer recorder.old.farm moment Plain asked).entries → recorder.new.keeper ≡ recorder.old.keeper }
 {
     match asked {
@@ -84,12 +84,12 @@ fn answer_asked<K: Keeper>(
 // Answers a list, and lets the question go.
 #[tactic(auto, using(crate::proofs::AnswerLemmas::listed_page, crate::proofs::AnswerLemmas::listed_refusal))]
 fn answer_list(alloc: Global, farm: &Farm, query: Query) -> ReplyLine
-    ensures { IsLineOf (list_reply (list_of farm.now query)) (shown result) }
+    ensures { IsLineOf (list_reply (page_listed farm.now query)) (shown result) }
 {
     match list(alloc, farm, &query) {
         Ok(page) => line_of(alloc, &Reply::List(page)),
-        Err(QueryFault::Refused { why }) => refusal_line(alloc, why),
-        Err(QueryFault::NoMemory) => ReplyLine::NoMemory,
+        Err(FarmFault::Refused { why }) => refusal_line(alloc, why),
+        Err(FarmFault::NoMemory) => ReplyLine::NoMemory,
     }
 }
 
@@ -102,7 +102,7 @@ fn answer_taken<K: Keeper>(
     requires condition { HasCondition recorder.old.farm entry.act }
     requires formed { IsFormed entry }
     ensures answer { AnswersEntry recorder.old.farm entry recorder.new.farm (shown result)
-        (Continues K.tells K.faults recorder.old.keeper recorder.new.keeper) }
+        (GoesOn K.commits K.tells K.faults recorder.old.farm recorder.old.keeper recorder.new.keeper) }
     ensures same { IsUnstored recorder.old.farm entry → recorder.new.keeper ≡ recorder.old.keeper }
 {
     answer_entry(alloc, recorder, &entry)

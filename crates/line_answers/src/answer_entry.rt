@@ -6,15 +6,15 @@ ghost use Rattle.farm_lines.specs.Reply.{job_named, ok_reply, reply_text};
 ghost use Rattle.farm_types.specs.Formed.{IsFormed};
 ghost use Rattle.farm_types.specs.Step.{HasCondition, after};
 ghost use Rattle.line_answers.specs.LineAnswers.{AnswersEntry, IsRecorded, IsUnprepared};
-ghost use Rattle.line_answers.specs.Lines.{is_store_line, shown};
-ghost use Rattle.farm_keeper.specs.Keeping.{Continues};
+ghost use Rattle.line_answers.specs.Lines.{is_store_line, recorded_by, shown};
 ghost use Rattle.recorder.specs.Recording.{HasSameRows, IsOfEntry, IsUnstored};
+ghost use Rattle.recorder.specs.Telling.{GoesOn};
 
 use crate::reply_line::{ReplyLine, refusal_line, write_line};
-use farm_core::{Change, PrepareFault};
+use farm_core::Change;
 use farm_keeper::Keeper;
 use farm_lines::Reply;
-use farm_types::{Act, Answer, Entry, Text};
+use farm_types::{Act, Answer, Entry, FarmFault, Text};
 use recorder::{PlainRecorder, RecordFault};
 use std::alloc::{AllocError, Global};
 
@@ -28,7 +28,7 @@ pub fn answer_entry<K: Keeper>(
     requires condition { HasCondition recorder.old.farm entry.now.act }
     requires formed { IsFormed entry.now }
     ensures answer { AnswersEntry recorder.old.farm entry.now recorder.new.farm (shown result)
-        (Continues K.tells K.faults recorder.old.keeper recorder.new.keeper) }
+        (GoesOn K.commits K.tells K.faults recorder.old.farm recorder.old.keeper recorder.new.keeper) }
     ensures same { IsUnstored recorder.old.farm entry.now → recorder.new.keeper ≡ recorder.old.keeper }
 {
     match recorder.prepare(alloc, entry) {
@@ -48,7 +48,7 @@ fn answer_change<K: Keeper>(
     requires formed { IsFormed entry.now }
     requires makes { Makes recorder.old.farm entry.now change }
     ensures answer { AnswersEntry recorder.old.farm entry.now recorder.new.farm (shown result)
-        (Continues K.tells K.faults recorder.old.keeper recorder.new.keeper) }
+        (GoesOn K.commits K.tells K.faults recorder.old.farm recorder.old.keeper recorder.new.keeper) }
     ensures same { HasSameRows recorder.old.farm (after recorder.old.farm entry.now) → recorder.new.keeper ≡ recorder.old.keeper }
 {
     match write_ok(alloc, &entry.act, change.answer()) {
@@ -67,7 +67,8 @@ fn record<K: Keeper>(
 ) -> ReplyLine
     requires { IsOfEntry recorder.old.farm entry.now change }
     ensures recorded { IsRecorded recorder.old.farm (after_change recorder.old.farm change) line recorder.new.farm result }
-    ensures keeper { Continues K.tells K.faults recorder.old.keeper recorder.new.keeper (is_store_line result) }
+    ensures keeper { GoesOn K.commits K.tells K.faults recorder.old.farm recorder.old.keeper recorder.new.keeper (entry.now ∷ [])
+        (recorded_by entry.now result) (is_store_line result) }
     ensures same { HasSameRows recorder.old.farm (after recorder.old.farm entry.now) → recorder.new.keeper ≡ recorder.old.keeper }
 {
     match recorder.record(alloc, entry, change) {
@@ -85,12 +86,12 @@ fn without_memory(_change: Change) -> ReplyLine
 }
 
 // The line of the reply where no change was prepared.
-fn fault_line(alloc: Global, fault: PrepareFault) -> ReplyLine
+fn fault_line(alloc: Global, fault: FarmFault) -> ReplyLine
     ensures { IsUnprepared fault (shown result) }
 {
     match fault {
-        PrepareFault::Refused { why } => refusal_line(alloc, why),
-        PrepareFault::NoMemory => ReplyLine::NoMemory,
+        FarmFault::Refused { why } => refusal_line(alloc, why),
+        FarmFault::NoMemory => ReplyLine::NoMemory,
     }
 }
 

@@ -9,6 +9,7 @@ ghost use Rattle.farm_types.specs.Step.{after};
 ghost use Rattle.farm_keeper.specs.Keeping.{Continues};
 ghost use Rattle.recorder.specs.Faults.{is_store_refusal};
 ghost use Rattle.recorder.specs.Recording.{ChangesNone, HasSameRows, IsOfEntry, IsUnstored};
+ghost use Rattle.recorder.specs.Telling.{GoesOn, TellsCommit};
 ghost use Rattle.farm_types.specs.Formed.{IsFormed};
 ghost use Rattle.farm_lines.specs.Asked.{heard_entry, heard_of};
 ghost use Rattle.farm_lines.specs.Reply.{report_reply};
@@ -37,7 +38,7 @@ pub fn answer_report<K: Keeper>(
 ) -> ReplyLine
     requires { IsFormed (heard_entry report moment) }
     ensures answer { AnswersReport recorder.old.farm report moment recorder.new.farm (shown result)
-        (Continues K.tells K.faults recorder.old.keeper recorder.new.keeper) }
+        (GoesOn K.commits K.tells K.faults recorder.old.farm recorder.old.keeper recorder.new.keeper) }
     ensures same { ChangesNone recorder.old.farm (reported recorder.old.farm report moment Plain).entries → recorder.new.keeper ≡ recorder.old.keeper }
 {
     let taken = take_report(alloc, recorder, report, moment);
@@ -53,7 +54,7 @@ pub fn take_report<K: Keeper>(
 ) -> Taken
     requires { IsFormed (heard_entry report moment) }
     ensures taken { TakesReport recorder.old.farm report moment recorder.new.farm result
-        (Continues K.tells K.faults recorder.old.keeper recorder.new.keeper) }
+        (GoesOn K.commits K.tells K.faults recorder.old.farm recorder.old.keeper recorder.new.keeper) }
     ensures few { result.booked ≤ BOOKINGS_EACH }
     ensures same { ChangesNone recorder.old.farm (reported recorder.old.farm report moment Plain).entries → recorder.new.keeper ≡ recorder.old.keeper }
 {
@@ -93,6 +94,7 @@ fn record_heard<K: Keeper>(
     requires heard { IsHeard entry.now.act }
     ensures farm { Hears recorder.old.farm entry.now result recorder.new.farm }
     ensures keeper { Continues K.tells K.faults recorder.old.keeper recorder.new.keeper (is_store_refusal result) }
+    ensures told { TellsCommit K.commits recorder.old.farm entry.now result recorder.old.keeper recorder.new.keeper }
     ensures same { IsUnstored recorder.old.farm entry.now → recorder.new.keeper ≡ recorder.old.keeper }
 {
     let change = recorder.prepare(alloc, entry)?;
@@ -110,6 +112,7 @@ fn record_change<K: Keeper>(
     requires heard { IsHeard entry.now.act }
     ensures farm { Hears recorder.old.farm entry.now result recorder.new.farm }
     ensures keeper { Continues K.tells K.faults recorder.old.keeper recorder.new.keeper (is_store_refusal result) }
+    ensures told { TellsCommit K.commits recorder.old.farm entry.now result recorder.old.keeper recorder.new.keeper }
     ensures same { HasSameRows recorder.old.farm (after recorder.old.farm entry.now) → recorder.new.keeper ≡ recorder.old.keeper }
 {
     let host = host_of(&change);
@@ -127,7 +130,8 @@ fn take_recorded<K: Keeper>(
 ) -> Taken
     ensures taken { (f : Farm) (before : K) → Hears f (heard_entry report.now moment) recorded recorder.old.farm
         → Continues K.tells K.faults before recorder.old.keeper (is_store_refusal recorded)
-        → TakesReport f report.now moment recorder.new.farm result (Continues K.tells K.faults before recorder.new.keeper) }
+        → TellsCommit K.commits f (heard_entry report.now moment) recorded before recorder.old.keeper
+        → TakesReport f report.now moment recorder.new.farm result (GoesOn K.commits K.tells K.faults f before recorder.new.keeper) }
     ensures few { result.booked ≤ BOOKINGS_EACH }
     ensures same { (f : Farm) → Hears f (heard_entry report.now moment) recorded recorder.old.farm → ChangesNone f (reported f report.now moment Plain).entries
         → recorder.new.keeper ≡ recorder.old.keeper }
@@ -211,7 +215,7 @@ fn take_round<K: Keeper>(
     moment: u64,
 ) -> Taken
     ensures taken { TakesRound recorder.old.farm host report.now moment recorder.new.farm result
-        (Continues K.tells K.faults recorder.old.keeper recorder.new.keeper) }
+        (GoesOn K.commits K.tells K.faults recorder.old.farm recorder.old.keeper recorder.new.keeper) }
     ensures few { result.booked ≤ BOOKINGS_EACH }
     ensures same { ChangesNone recorder.old.farm (round_for recorder.old.farm host moment) → recorder.new.keeper ≡ recorder.old.keeper }
 {

@@ -1,5 +1,5 @@
--- What is replied to a line that asks for something is within its forms and limits.
-use Rattle.std.proofs.Common.{◌≡◌, ℕ, ◌<◌, ◌^◌, Bool, true, false, cond, List, length, Option, Some, None, Result, Ok, refl, sym, subst}
+-- What is replied to a line is within its forms and limits.
+use Rattle.std.proofs.Common.{◌≡◌, ℕ, ◌<◌, ◌^◌, Bool, true, false, cond, List, length, Option, Some, None, Result, Ok, Err, refl, subst}
 use Rattle.std.specs.Prelude.{nat_lt}
 use Rattle.std.specs.List.{All}
 use Rattle.std.specs.Option.{IfSome}
@@ -14,7 +14,6 @@ use Rattle.farm_types.specs.Formed.{IsFormed, IsFormedAct}
 use Rattle.farm_types.specs.Kept.{IsKeptFarm}
 use Rattle.farm_types.specs.Step.{act_refusal, after, follow_refusal, moment_of, refusal_of}
 use Rattle.farm_law.proofs.KeptRuns.{neither}
-use Rattle.farm_lines.specs.declared.asked.Asked.TheVariants as asked
 use Rattle.farm_lines.specs.declared.limits.TheConstants.{LINE_LIMIT}
 use Rattle.farm_lines.specs.declared.reply.Reply.TheVariants as reply
 use Rattle.farm_lines.specs.declared.report.Report.{Report}
@@ -26,6 +25,7 @@ use Rattle.farm_lines.specs.Reply.{ok_reply}
 use Rattle.farm_lines.specs.Request.{RequestError, request_of}
 use Rattle.farm_lines.specs.Transcript.{Answered, CutAfter, LateCut, LatePlain, LateStore, Mark, Memory, Plain, Store, StoreAfter, accepted_answer, answer_to, asked_answer, entry_answer, marked_answer, only_reply, report_answer, request_answer, unless_memory}
 use Rattle.reply_law.specs.SaidTexts.{SaysText}
+use Rattle.reply_law.proofs.LineTexts.{fault_formed, request_formed}
 use Rattle.reply_law.proofs.ListReplies.{list_formed}
 use Rattle.reply_law.proofs.OkReplies.{ok_formed}
 use Rattle.reply_law.proofs.Refusals.{refused_formed}
@@ -111,15 +111,15 @@ unless_replies LatePlain answered formed = formed
 unless_replies (LateCut k) answered formed = formed
 unless_replies (LateStore k) answered formed = formed
 
--- a line that asks for what is within its forms and limits
-pub answer_formed : (f : Farm) (line : List ℕ) (moment : ℕ) (mark : Mark) (what : Request) → IsKeptFarm f → moment < 2 ^ 64 → request_of line ≡ Ok what → IsFormedRequest what
-    → IsFormedReply (answer_to f line moment mark).reply
+-- what is replied to any line
+pub answer_formed : (f : Farm) (line : List ℕ) (moment : ℕ) (mark : Mark) → IsKeptFarm f → moment < 2 ^ 64 → IsFormedReply (answer_to f line moment mark).reply
 unfolding answer_to
-answer_formed f line moment mark what kept low asks formed = by (nat_lt LINE_LIMIT (length line))
+answer_formed f line moment mark kept low = by (nat_lt LINE_LIMIT (length line))
   where
-    read : (r : Result Request RequestError) → r ≡ Ok what → Replies (request_answer f moment mark r)
-    read r is = subst (λ (x : Result Request RequestError). Replies (request_answer f moment mark x)) (sym is) (request_replies f kept moment low mark what formed)
+    read : (r : Result Request RequestError) → request_of line ≡ r → Replies (request_answer f moment mark r)
+    read (Ok what) is = request_replies f kept moment low mark what (request_formed line what is)
+    read (Err error) is = fault_formed line error is
 
     by : (b : Bool) → Replies (cond b (only_reply reply.TooLong) (unless_memory mark (request_answer f moment mark (request_of line))))
     by true = tt
-    by false = unless_replies mark (request_answer f moment mark (request_of line)) (read (request_of line) asks)
+    by false = unless_replies mark (request_answer f moment mark (request_of line)) (read (request_of line) refl)

@@ -1,7 +1,7 @@
 -- Each live attempt is within its limits, on a host that is there, of a frame of a job that is there.
-use Rattle.std.proofs.Common.{◌≡◌, ℕ, ◌<◌, ◌≤◌, true, eqb, leb, length, Option, Some, None, refl, sym, subst, arith}
+use Rattle.std.proofs.Common.{◌≡◌, ℕ, ◌<◌, ◌≤◌, true, eqb, leb, length, Option, Some, sym, subst, arith}
 use Rattle.std.specs.Prelude.{◌&&◌}
-use Rattle.std.specs.List.{find, list_all, slice_get}
+use Rattle.std.specs.List.{find, slice_get}
 use Rattle.std.proofs.lemmas.Bool.{eqb-true, leb-true}
 use Rattle.std.proofs.lemmas.Option.{slice_get_within}
 use Rattle.farm_types.specs.declared.attempt.ProcRow.{ProcRow}
@@ -10,31 +10,16 @@ use Rattle.farm_types.specs.declared.rows.JobRow.{JobRow}
 use Rattle.farm_types.specs.declared.rows.LayerRow.{LayerRow}
 use Rattle.farm_types.specs.declared.slot_row.Frame.{Frame}
 use Rattle.farm_types.specs.declared.slot_row.SlotRow.{SlotRow}
-use Rattle.farm_types.specs.declared.states.FrameState.{FrameState}
-use Rattle.farm_types.specs.declared.states.FrameState.TheVariants.{Waiting, Setup, Running, Succeeded, Depend, Dead, Eaten}
 use Rattle.farm_types.specs.Farm.{Farm, job_at}
 use Rattle.farm_types.specs.Kept.{KeepsRows, for_any, for_both, has_amounts, is_formed_job, is_formed_layer, is_kept_frame, is_kept_slot, is_of_pending, is_on_host, is_pending_job, layer_in}
 use Rattle.farm_types.specs.Limits.{IsBetween}
-use Rattle.farm_types.specs.Run.{HasItsAttempt, IsAttemptOf}
+use Rattle.farm_types.specs.Run.{HasItsAttempt}
 use Rattle.farm_types.proofs.Lists.{and_both, find_passes, for_some_true, found_is, list_all-at}
 use Rattle.farm_law.proofs.KeptJobsFormed.{job_formed}
 use Rattle.farm_law.proofs.KeptJobsRows.{FrameKept, frame_kept}
+use Rattle.farm_law.proofs.RunningFrames.{frame_runs}
 use Rattle.farm_lines.specs.FormedLines.{IsName}
 use Rattle.reply_law.proofs.Layers.{layer_within}
-
-state_runs : (i version : ℕ) (state : FrameState) (p : ProcRow) → IsAttemptOf i version state (Some p) → (p.slot ≡ i) × (p.version ≡ version)
-state_runs i version Running p is = is
-state_runs i version Waiting p is = absurd is
-state_runs i version Setup p is = absurd is
-state_runs i version Succeeded p is = absurd is
-state_runs i version Depend p is = absurd is
-state_runs i version Dead p is = absurd is
-state_runs i version Eaten p is = absurd is
-
--- a live attempt is of a frame, and has the slot's number and version
-has_frame : (i v : ℕ) (o : Option Frame) (p : ProcRow) → HasItsAttempt i v o (Some p) → (x : Frame) × (o ≡ Some x) × (p.slot ≡ i) × (p.version ≡ v)
-has_frame i v None p is = absurd is
-has_frame i v (Some x) p is = let at = state_runs i v x.state p is in (x, refl, at.0, at.1)
 
 module _ (f : Farm) (kept : KeepsRows f) where
   pub slot_kept : (i : ℕ) (s : SlotRow) → slice_get f.slots i ≡ Some s → (s.version ≤ LAST_VERSION) × (for_any s.frame (is_kept_frame f.layers) ≡ true)
@@ -65,7 +50,7 @@ module _ (f : Farm) (kept : KeepsRows f) where
 
   pub attempt_within : (i : ℕ) (s : SlotRow) (p : ProcRow) → slice_get f.slots i ≡ Some s → s.proc ≡ Some p → AttemptWithin s p
   attempt_within i s p at is =
-      let x = has_frame i s.version s.frame p (subst (λ (o : Option ProcRow). HasItsAttempt i s.version s.frame o) is (kept.sound.attempts i s at)) in
+      let x = frame_runs i s.version s.frame p (subst (λ (o : Option ProcRow). HasItsAttempt i s.version s.frame o) is (kept.sound.attempts i s at)) in
       let hosted : is_on_host f.hosts p ≡ true = subst (λ (o : Option ProcRow). for_any o (is_on_host f.hosts) ≡ true) is (list_all-at (λ (t : SlotRow). for_any t.proc (is_on_host f.hosts)) f.slots i s kept.attempts.hosted at) in
       let both : for_any s.frame (λ y. for_any s.proc (has_amounts f.layers y)) ≡ true = list_all-at (λ (t : SlotRow). for_both t (has_amounts f.layers)) f.slots i s kept.attempts.measured at in
       let framed : for_any s.proc (has_amounts f.layers x.0) ≡ true = subst (λ (o : Option Frame). for_any o (λ y. for_any s.proc (has_amounts f.layers y)) ≡ true) x.1 both in
@@ -75,8 +60,8 @@ module _ (f : Farm) (kept : KeepsRows f) where
       let within = layer_within l.0 (find_passes (λ (k : LayerRow). eqb k.job x.0.job && eqb k.place x.0.layer) is_formed_layer f.layers l.0 kept.jobs.layers_formed l.1) in
       let host = for_some_true (slice_get f.hosts p.host) _ hosted in
       record {
-        slot = omega (arith, x.2, slice_get_within f.slots i s at, kept.jobs.slot_count);
-        version = omega (arith, x.3, (slot_kept i s at).0);
+        slot = omega (arith, x.3, slice_get_within f.slots i s at, kept.jobs.slot_count);
+        version = omega (arith, x.4, (slot_kept i s at).0);
         cores = subst (IsBetween LEAST_CORES MOST_CORES) (sym (eqb-true p.cores l.0.cores same.0)) within.cores;
         memory = subst (IsBetween LEAST_MEMORY MOST_MEMORY) (sym (eqb-true p.memory l.0.memory same.1)) within.memory;
         host = slice_get_within f.hosts p.host host.0 host.1;

@@ -1,6 +1,5 @@
 -- What is replied to a list is within its forms and limits.
 use Rattle.std.proofs.Common.{◌≡◌, ℕ, List, take, drop, Option, Some, None, Result, Ok, Err}
-use Rattle.std.specs.List.{All}
 use Rattle.std.proofs.lemmas.List.Elements.{All-drop, All-take, All-weaker}
 use Rattle.farm_types.specs.declared.refusal.Refusal.{Refusal}
 use Rattle.farm_types.specs.declared.rows.JobRow.{JobRow}
@@ -14,7 +13,7 @@ use Rattle.farm_lines.specs.declared.query.Listed.{Listed}
 use Rattle.farm_lines.specs.declared.query.Listed.TheVariants as listed
 use Rattle.farm_lines.specs.declared.query.Query.{Query}
 use Rattle.farm_lines.specs.FormedLines.{IsFormedListed, IsFormedQuery, IsFormedRefusal, IsFormedReply, IsFormedRow, IsName}
-use Rattle.farm_lines.specs.Lists.{depend_rows, frame_rows, layer_rows, list_of, of_job, paged, rows_listed}
+use Rattle.farm_lines.specs.Lists.{depend_rows, frame_rows, layer_rows, page_listed, of_job, paged, rows_listed}
 use Rattle.farm_lines.specs.RowKinds.{kind_of_row}
 use Rattle.farm_lines.specs.Transcript.{list_reply}
 use Rattle.reply_law.proofs.Elements.{take_few}
@@ -54,6 +53,6 @@ page_formed from (Ok rows) are =
     }
 page_formed from (Err why) are = are
 
-pub list_formed : (f : Farm) → IsKeptFarm f → (query : Query) → IsFormedQuery query → IsFormedReply (list_reply (list_of f query))
-unfolding list_of
+pub list_formed : (f : Farm) → IsKeptFarm f → (query : Query) → IsFormedQuery query → IsFormedReply (list_reply (page_listed f query))
+unfolding page_listed
 list_formed f kept query formed = page_formed query.from (rows_listed f query.what) (all_listed f kept query.what formed.listed)

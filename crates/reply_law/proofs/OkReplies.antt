@@ -27,11 +27,10 @@ use Rattle.farm_types.proofs.Lists.{list_all-at}
 use Rattle.farm_law.proofs.KeptBoots.{HasRoom, boot_room}
 use Rattle.depend_law.proofs.Accepted.{accepted}
 use Rattle.farm_lines.specs.declared.limits.TheConstants.{MOST_BOOKED}
-use Rattle.farm_lines.specs.declared.reply.Reply.TheVariants as reply
 use Rattle.farm_lines.specs.FormedLines.{IsFormedReply}
 use Rattle.farm_lines.specs.Reply.{ok_reply}
-use Rattle.reply_law.proofs.Booked.{booked_within}
-use Rattle.reply_law.proofs.Hosts.{host_within}
+use Rattle.farm_law.proofs.BookedOnHosts.{booked_within}
+use Rattle.farm_law.proofs.FormedParts.{host_formed}
 use Rattle.reply_law.proofs.Limits.{filtered_few}
 use Rattle.reply_law.proofs.Unmet.{unmet_within}
 
@@ -49,7 +48,7 @@ module _ (f : Farm) (kept : KeepsRows f) (line : BootLine) where
   number_by (Some row) each = by (is_same_life line row) refl
     where
       by : (b : Bool) → is_same_life line row ≡ b → IsBetween 1 LAST_BOOT (cond b row.boot (row.boot + 1))
-      by true same = (host_within row (each row refl).0).boot
+      by true same = (host_formed row (each row refl).0).boot
       by false new = (omega arith, omega (arith, (each row refl).1 new))
 
   number_named : (o : Option ℕ) → HasRoom line f.hosts o → IsBetween 1 LAST_BOOT (boot_number line (option_and_then (λ host. slice_get f.hosts host) o))

@@ -48,7 +48,7 @@ use Rattle.farm_types.proofs.Utf8.{tag_utf8}
 use Rattle.farm_lines.specs.FormedLines.{IsFormedRefusal, IsName, IsText}
 use Rattle.farm_lines.specs.ReplyLines.{limit_of}
 use Rattle.reply_law.specs.SaidTexts.{SaysText}
-use Rattle.reply_law.proofs.Hosts.{HostWithin, host_within}
+use Rattle.farm_law.proofs.FormedParts.{HostFormed, host_formed}
 use Rattle.reply_law.proofs.Texts.{alloc_name_is_name, decimal_text, empty_text, frame_text, name_text}
 
 -- what is refused, if anything is, is within its forms and limits
@@ -96,8 +96,8 @@ module _ (f : Farm) (kept : KeepsRows f) where
   pub alloc_of_host : (host : ℕ) (row : HostRow) → slice_get f.hosts host ≡ Some row → row.alloc < length f.allocs
   alloc_of_host host row at = ltb-true row.alloc (length f.allocs) (list_all-at (λ (r : HostRow). ltb r.alloc (length f.allocs)) f.hosts host row kept.hosts.allocated at)
 
-  pub host_there : (host : ℕ) (row : HostRow) → slice_get f.hosts host ≡ Some row → HostWithin row
-  host_there host row at = host_within row (list_all-at is_formed_host f.hosts host row kept.hosts.formed at)
+  pub host_there : (host : ℕ) (row : HostRow) → slice_get f.hosts host ≡ Some row → HostFormed row
+  host_there host row at = host_formed row (list_all-at is_formed_host f.hosts host row kept.hosts.formed at)
 
   life_refuses : (line : BootLine) (alloc host : ℕ) (o : Option HostRow) → slice_get f.hosts host ≡ o → Refuses (life_refusal f line alloc o)
   life_refuses line alloc host None at = tt

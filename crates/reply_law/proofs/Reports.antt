@@ -1,5 +1,5 @@
 -- What is replied to a report is within its forms and limits.
-use Rattle.std.proofs.Common.{◌≡◌, ℕ, not, cond, eqb, [], length, Option, Some, None, refl}
+use Rattle.std.proofs.Common.{◌≡◌, ℕ, not, cond, eqb, length, Option, Some, None, refl}
 use Rattle.std.specs.Prelude.{◌&&◌, option_and_then, option_map}
 use Rattle.std.specs.List.{All, filter_map, slice_get}
 use Rattle.std.specs.Option.{IfSome}

@@ -1,7 +1,7 @@
 -- The rows of lists that are of the whole farm.
 use Rattle.std.proofs.Common.{◌≡◌, ℕ, suc, ◌+◌, ◌<◌, ◌≤◌, ◌^◌, ◌/◌, ◌%◌, Bool, true, false, cond, eqb, leb, ltb, List, [], ◌∷◌, length, map, Option, Some, None, refl, sym, ap, subst, ◌∙◌, arith}
 use Rattle.std.specs.Prelude.{◌&&◌, option_map}
-use Rattle.std.specs.List.{All, filter_map, list_all, slice_get}
+use Rattle.std.specs.List.{All, filter_map, slice_get}
 use Rattle.std.specs.Option.{IfSome}
 use Rattle.std.proofs.lemmas.Bool.{eqb-true, leb-true, ltb-true}
 use Rattle.std.proofs.lemmas.List.Elements.{All-cons, All-nil}
@@ -15,7 +15,6 @@ use Rattle.farm_types.specs.declared.rows.SubRow.{SubRow}
 use Rattle.farm_types.specs.declared.slot_row.Frame.{Frame}
 use Rattle.farm_types.specs.declared.slot_row.SlotRow.{SlotRow}
 use Rattle.farm_types.specs.declared.states.FrameState.{FrameState}
-use Rattle.farm_types.specs.declared.states.JobState.TheVariants as job_state
 use Rattle.farm_types.specs.Booking.{is_pending, is_waiting}
 use Rattle.farm_types.specs.Farm.{Farm, alloc_name}
 use Rattle.farm_types.specs.DependActs.{is_running}
@@ -25,19 +24,18 @@ use Rattle.farm_types.specs.Forms.{is_tag_text}
 use Rattle.farm_types.specs.Kept.{KeepsRows, has_its_counts, is_formed_alloc, is_formed_host, is_formed_job, is_formed_show, is_kept_sub}
 use Rattle.farm_types.specs.Rising.{IsRising, job_key, sub_key}
 use Rattle.farm_types.proofs.Lists.{and_both, list_all-at, slice_get_below}
+use Rattle.farm_law.proofs.BookedOnHosts.{booked_within}
+use Rattle.farm_law.proofs.FormedParts.{between_is, host_formed}
 use Rattle.farm_law.proofs.KeptJobsFormed.{JobFormed, job_formed}
 use Rattle.farm_lines.specs.declared.list_row.ListRow.{ListRow}
 use Rattle.farm_lines.specs.declared.list_row.RowKind.{RowKind}
 use Rattle.farm_lines.specs.declared.list_row.RowKind.TheVariants as kind
 use Rattle.farm_lines.specs.FormedLines.{IsFormedRow, IsName}
-use Rattle.farm_lines.specs.Lists.{alloc_row, counted, host_name, host_row, host_rows, is_dead, job_of_frame, job_row, name_of_host, name_of_job, name_of_show, proc_in, proc_row, show_name, show_row, sub_row}
+use Rattle.farm_lines.specs.Lists.{alloc_row, host_name, host_row, host_rows, is_dead, job_of_frame, job_row, name_of_host, name_of_job, name_of_show, proc_in, proc_row, show_name, show_row, shown_count, sub_row}
 use Rattle.farm_lines.specs.RowKinds.{kind_of_row}
 use Rattle.reply_law.proofs.Attempts.{attempt_within, job_of_kept}
-use Rattle.reply_law.proofs.Booked.{booked_within}
 use Rattle.reply_law.proofs.Elements.{found_each, found_few, mapped_each}
-use Rattle.reply_law.proofs.Hosts.{host_within}
 use Rattle.reply_law.proofs.JobFrames.{count_within}
-use Rattle.reply_law.proofs.Limits.{between_is}
 use Rattle.reply_law.proofs.Refusals.{alloc_there, alloc_of_host, frame_named, kept_names}
 use Rattle.reply_law.proofs.Texts.{alloc_name_is_name}
 
@@ -104,9 +102,9 @@ module _ (f : Farm) (kept : KeepsRows f) where
 
   -- ---- hosts
 
-  host_formed : (n : ℕ) (h : HostRow) → slice_get f.hosts n ≡ Some h → IsRowOf kind.Host (host_row f n h)
-  host_formed n h at =
-      let own = host_within h (list_all-at is_formed_host f.hosts n h kept.hosts.formed at) in
+  host_row_formed : (n : ℕ) (h : HostRow) → slice_get f.hosts n ≡ Some h → IsRowOf kind.Host (host_row f n h)
+  host_row_formed n h at =
+      let own = host_formed h (list_all-at is_formed_host f.hosts n h kept.hosts.formed at) in
       let heard : h.heard ≤ f.moment = leb-true h.heard f.moment (list_all-at (λ (r : HostRow). leb r.heard f.moment) f.hosts n h kept.hosts.heard at) in (
         refl,
         record {
@@ -125,7 +123,7 @@ module _ (f : Farm) (kept : KeepsRows f) where
   hosts_from place [] there = All-nil (IsRowOf kind.Host)
   hosts_from place (h ∷ hs) there =
       let here : place + 0 ≡ place = omega arith in
-      All-cons (IsRowOf kind.Host) (host_row f place h) (host_rows f (place + 1) hs) (host_formed place h (ap (slice_get f.hosts) (sym here) ∙ there 0))
+      All-cons (IsRowOf kind.Host) (host_row f place h) (host_rows f (place + 1) hs) (host_row_formed place h (ap (slice_get f.hosts) (sym here) ∙ there 0))
       (hosts_from (place + 1) hs (λ n. let next : place + 1 + n ≡ place + suc n = omega arith in ap (slice_get f.hosts) next ∙ there (suc n)))
 
   long-hosts : (place : ℕ) (hs : List HostRow) → length (host_rows f place hs) ≡ length hs
@@ -175,7 +173,7 @@ module _ (f : Farm) (kept : KeepsRows f) where
       kept_counts : (j.eaten ≤ MOST_FRAMES) × (j.succeeded ≤ MOST_FRAMES)
       kept_counts = by_state (is_pending j.state) (list_all-at has_its_counts f.jobs n j kept.jobs.jobs_counted at)
 
-      counted_few : (test : FrameState → Bool) (kept_count : ℕ) → kept_count ≤ MOST_FRAMES → counted f j test kept_count ≤ MOST_FRAMES
+      counted_few : (test : FrameState → Bool) (kept_count : ℕ) → kept_count ≤ MOST_FRAMES → shown_count f j test kept_count ≤ MOST_FRAMES
       counted_few test kept_count less = by (is_pending j.state) refl
         where
           by : (b : Bool) → is_pending j.state ≡ b → cond b (count_where j.job test f.slots) kept_count ≤ MOST_FRAMES
@@ -194,7 +192,7 @@ module _ (f : Farm) (kept : KeepsRows f) where
   host_there_named : (host : ℕ) → host < length f.hosts → IsName (host_name f host)
   host_there_named host below =
       let row = slice_get_below f.hosts host below in
-      subst (λ (o : Option HostRow). IsName (name_of_host o)) (sym row.1) (host_within row.0 (list_all-at is_formed_host f.hosts host row.0 kept.hosts.formed row.1)).name
+      subst (λ (o : Option HostRow). IsName (name_of_host o)) (sym row.1) (host_formed row.0 (list_all-at is_formed_host f.hosts host row.0 kept.hosts.formed row.1)).name
 
   proc_formed : (i : ℕ) (s : SlotRow) (p : ProcRow) → slice_get f.slots i ≡ Some s → s.proc ≡ Some p → IsRowOf kind.Proc (proc_row f s.frame p)
   proc_formed i s p at is =

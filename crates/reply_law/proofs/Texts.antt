@@ -1,8 +1,7 @@
 -- Texts that are UTF-8: names, decimals, and names of frames and of allocations.
-use Rattle.std.proofs.Common.{◌≡◌, ℕ, suc, ℤ, ◌+◌, ◌-◌, ◌||◌, Bool, true, false, eqb, List, [], ◌∷◌, ◌++◌, length, length-append, refl, ◌∙◌, arith, IsUtf8}
+use Rattle.std.proofs.Common.{◌≡◌, ℕ, suc, ℤ, ◌+◌, ◌-◌, ◌||◌, Bool, true, false, eqb, List, [], ◌∷◌, ◌++◌, length, length-append, refl, ◌∙◌, arith}
 use Rattle.std.specs.Prelude.{decimal}
 use Rattle.std.specs.List.{list_all}
-use Rattle.std.specs.Str.{is_utf8}
 use Rattle.std.specs.Cmp.Derive.{both_true}
 use Rattle.std.proofs.lemmas.Bool.{le-leb}
 use Rattle.std.proofs.lemmas.List.Folds.{list_all-append}
@@ -14,9 +13,9 @@ use Rattle.farm_types.specs.Names.{four_places, frame_name}
 use Rattle.farm_types.specs.declared.limits.TheConstants.{MOST_NAME, MOST_TAG}
 use Rattle.farm_types.proofs.Lists.{and_both}
 use Rattle.farm_types.proofs.Utf8.{ascii_utf8, name_utf8}
-use Rattle.command_text.proofs.NumberTexts.{decimal_ascii, places_ascii}
+use Rattle.farm_types.proofs.NumberTexts.{decimal_ascii, places_ascii}
 use Rattle.farm_lines.specs.FormedLines.{IsName, IsText}
-use Rattle.reply_law.proofs.Limits.{between_is}
+use Rattle.farm_law.proofs.FormedParts.{between_is}
 
 -- ---- decimals and names of frames
 

@@ -21,7 +21,7 @@ use Rattle.farm_types.specs.Ranges.{range_numbers}
 use Rattle.farm_types.specs.Settle.{settle}
 use Rattle.farm_types.proofs.Lists.{and_both, for_some_true, found_is, find_passes}
 use Rattle.farm_law.proofs.KeptJobsFormed.{job_formed}
-use Rattle.reply_law.proofs.Limits.{between_is}
+use Rattle.farm_law.proofs.FormedParts.{between_is}
 use Rattle.depend_law.proofs.GroupSlots.{all_waiters, groups_among}
 
 -- ---- the frames of a job

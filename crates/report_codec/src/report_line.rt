@@ -6,7 +6,7 @@ ghost use Rattle.serde_json.specs.View.{members_view};
 ghost use Rattle.cue_json.specs.Fields.{Gives};
 ghost use Rattle.state_names.specs.Words.{cut_word};
 ghost use Rattle.farm_lines.specs.declared.request.Request.TheVariants as request;
-ghost use Rattle.farm_lines.specs.Reply.{attempt_data, attempts_data, launch_data, launches_data, report_data};
+ghost use Rattle.farm_lines.specs.Reply.{launch_data, launches_data, report_data};
 ghost use Rattle.farm_lines.specs.Request.{asked, report_at};
 ghost use Rattle.report_codec.specs.Reads.{IsRequest};
 ghost use Rattle.object_writer.specs.Tokens.{added, tokens_of};
@@ -15,8 +15,9 @@ use crate::done_reader::DoneReader;
 use cue_json::{FieldFault, Map};
 use farm_lines::{
     AttemptReader, Launch, Report, ReportReply, Request, RequestFault, read_list, read_name,
+    write_attempts,
 };
-use farm_types::{Attempt, LAST_BOOT};
+use farm_types::LAST_BOOT;
 use object_writer::ObjectWriter;
 use state_names::cut_word;
 use std::alloc::{AllocError, Global};
@@ -69,20 +70,6 @@ pub fn write_report(out: &mut ObjectWriter, report: &ReportReply) -> Result<(), 
     out.end_object()
 }
 
-fn write_attempts(
-    out: &mut ObjectWriter,
-    name: &str,
-    attempts: &[Attempt],
-) -> Result<(), AllocError>
-    ensures { OnOk result (out.new ≡ added out.old (key name.now ∷ tokens_of (attempts_data attempts.now))) }
-{
-    out.begin_list(name)?;
-    for attempt in attempts {
-        write_attempt(out, *attempt)?;
-    }
-    out.end_list()
-}
-
 fn write_launches(out: &mut ObjectWriter, name: &str, launches: &[Launch]) -> Result<(), AllocError>
     ensures { OnOk result (out.new ≡ added out.old (key name.now ∷ tokens_of (launches_data launches.now))) }
 {
@@ -91,16 +78,6 @@ fn write_launches(out: &mut ObjectWriter, name: &str, launches: &[Launch]) -> Re
         write_launch(out, launch)?;
     }
     out.end_list()
-}
-
-#[tactic(auto, unfolding(farm_lines::specs::Reply::attempt_data))]
-fn write_attempt(out: &mut ObjectWriter, attempt: Attempt) -> Result<(), AllocError>
-    ensures { OnOk result (out.new ≡ added out.old (tokens_of (attempt_data attempt))) }
-{
-    out.begin_object()?;
-    out.slot("slot", attempt.slot)?;
-    out.version("version", attempt.version)?;
-    out.end_object()
 }
 
 #[tactic(auto, unfolding(farm_lines::specs::Reply::launch_data))]

@@ -1,8 +1,10 @@
 -- Tasks that are carried out one after the other.
-use Rattle.std.proofs.Common.{◌≡◌, ℕ, ◌≤◌, List, [], ◌∷◌, ◌++◌, map, Result, Ok, Err, inl, inr, refl, sym, ap, ◌∙◌, arith, append_assoc, append-nil, length-append}
+use Rattle.std.proofs.Common.{◌≡◌, ℕ, ◌≤◌, List, [], ◌∷◌, ◌++◌, map, Result, Ok, Err, refl, sym, ap, ◌∙◌, subst, sum_by, arith, append_assoc, append-nil, length-append}
 use Rattle.std.proofs.lemmas.List.{map-append}
 use Rattle.std.proofs.lemmas.List.Sums.{sum_by-append}
 use Rattle.std.specs.Prelude.{IsErrAnd, cond}
+use Rattle.fault_counts.specs.Counts.{HasRisenAtLeast}
+use Rattle.fault_counts.proofs.CountLaws.{HasRisenAtLeast-append, HasRisenAtLeast-none}
 use Rattle.rqd_core.specs.Life.{Life}
 use Rattle.rqd_launcher.specs.declared.call.SpawnCall.{SpawnCall}
 use Rattle.rqd_launcher.specs.declared.call.SpawnTask.{SpawnTask}
@@ -21,11 +23,17 @@ life_more : (l : Life) (first second : List SpawnCall) → life_after l (first +
 life_more l [] second = refl
 life_more l (c ∷ cs) second = life_more (after_answer l c.task c.answer) cs second
 
-causes_more : (first second : List SpawnCall) (old mid new : ℕ) → HaveCauses first old mid → HaveCauses second mid new → mid ≤ new → HaveCauses (first ++ second) old new
-causes_more first second old mid new (inr full) later rises = inr (omega arith)
-causes_more first second old mid new (inl fewer) (inr full) rises = inr full
-causes_more first second old mid new (inl fewer) (inl more) rises =
-    inl (omega (arith, sum_by-append (λ (c : SpawnCall). cond (is_failure c.answer) 1 0) first second, fewer, more))
+-- what a call weighs in the count of faults
+abbrev weight : SpawnCall → ℕ
+weight c = cond (is_failure c.answer) 1 0
+
+pub HaveCauses-none : (faults : ℕ) → HaveCauses [] faults faults
+HaveCauses-none faults = HasRisenAtLeast-none faults
+
+pub HaveCauses-append : (first second : List SpawnCall) (old mid new : ℕ) → HaveCauses first old mid → HaveCauses second mid new → HaveCauses (first ++ second) old new
+HaveCauses-append first second old mid new before after =
+    subst (λ (many : ℕ). HasRisenAtLeast many old new) (sym (sum_by-append weight first second))
+    (HasRisenAtLeast-append (sum_by weight first) (sum_by weight second) old mid new before after)
 
 -- ---- tasks that are left
 
@@ -38,7 +46,7 @@ pub record IsBegun (all left : List SpawnTask) (told : List SpawnCall) (old new 
 
 -- nothing was done
 pub none_done : (all : List SpawnTask) (l : Life) (faults : ℕ) → IsBegun all all [] l l faults faults
-none_done all l faults = record { tasks = refl; life_is = refl; causes = inl (omega arith); rises = omega arith }
+none_done all l faults = record { tasks = refl; life_is = refl; causes = HaveCauses-none faults; rises = omega arith }
 
 module _ {all left : List SpawnTask} {told : List SpawnCall} {old mid : Life} {faults mid_faults : ℕ} (begun : IsBegun all left told old mid faults mid_faults) where
   -- none is left
@@ -56,7 +64,7 @@ module _ {all left : List SpawnTask} {told : List SpawnCall} {old mid : Life} {f
     life_more_is = carried.life_is ∙ (ap (λ (l : Life). life_after l more) begun.life_is ∙ sym (life_more old told more))
 
     causes_are : HaveCauses (told ++ more) faults new_faults
-    causes_are = causes_more told more faults mid_faults new_faults begun.causes carried.causes carried.rises
+    causes_are = HaveCauses-append told more faults mid_faults new_faults begun.causes carried.causes
 
   done_so : {T E : Type 0} (result : Result T E) (more : List SpawnCall) → AreDone left result more → AreDone all result (told ++ more)
   done_so (Ok done) more is =

@@ -1,6 +1,6 @@
 -- What carrying out and polling do: the tasks that a spawner is given, what it answers, and what that makes of RQD's life.
-use Rattle.std.specs.Prelude.{ℕ, ◌≡◌, ◌<◌, ◌≤◌, ◌+◌, ◌⊎◌, Bool, true, false, List, [], ◌∷◌, ◌++◌, map, length, count_by, Result, Ok, Err}
-use Rattle.cue_io.specs.Faults.{last_count}
+use Rattle.std.specs.Prelude.{ℕ, ◌≡◌, ◌<◌, ◌≤◌, Bool, true, false, List, [], ◌∷◌, ◌++◌, map, length, count_by, Result, Ok, Err}
+use Rattle.fault_counts.specs.Counts.{HasRisenAtLeast}
 use Rattle.farm_types.specs.declared.attempt.Attempt.{Attempt}
 use Rattle.farm_types.specs.declared.attempt.Exit.{Exit}
 use Rattle.farm_lines.specs.declared.launch.Launch.{Launch}
@@ -74,7 +74,7 @@ is_failure other = false
 
 -- the count of faults rose for each call that failed, or stands where no count can go up
 abbrev pub HaveCauses : List SpawnCall → ℕ → ℕ → Type 0
-HaveCauses told faults faults_now = (faults + count_by (λ (c : SpawnCall). is_failure c.answer) told ≤ faults_now) ⊎ (last_count ≤ faults_now)
+HaveCauses told faults faults_now = HasRisenAtLeast (count_by (λ (c : SpawnCall). is_failure c.answer) told) faults faults_now
 
 -- These calls were made for the tasks, and the life is what their answers make of it.
 pub record Carries {T E : Type 0} (tasks : List SpawnTask) (result : Result T E) (told : List SpawnCall) (old new : Life) (faults faults_now : ℕ) : Type 0 where

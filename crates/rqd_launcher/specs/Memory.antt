@@ -1,7 +1,7 @@
 -- A spawner in memory: the attempts that end once they were started, the calls that are to fail, and its calls so far.
 use Rattle.std.specs.Prelude.{◌≡◌, ℕ, Bool, false, List, [], ◌∷◌, ◌++◌, Option, None, Some, if◌then◌else◌}
 use Rattle.std.specs.List.{list_any}
-use Rattle.cue_io.specs.Memory.{Plan, after_call, is_to_fail, new_plan}
+use Rattle.fault_counts.specs.Plans.{Plan, after_call, is_to_fail, new_plan}
 use Rattle.farm_types.specs.declared.attempt.Attempt.{Attempt}
 use Rattle.farm_types.specs.declared.attempt.Exit.{Exit}
 use Rattle.farm_types.specs.Run.{is_same}

@@ -1,8 +1,8 @@
 //! A spawner in memory.
 ghost use Rattle.std.specs.Prelude.{◌≡◌, ◌≤◌, ◌++◌, ◌∷◌, [], true, false, Some, IfOk, OnOk, OnErr};
 ghost use Rattle.std.specs.Result.{IsErrOf};
-ghost use Rattle.cue_io.specs.Faults.{HasRisen};
-ghost use Rattle.cue_io.specs.Memory.{after_call, is_to_fail};
+ghost use Rattle.fault_counts.specs.Counts.{HasRisen};
+ghost use Rattle.fault_counts.specs.Plans.{after_call, is_to_fail};
 ghost use Rattle.rqd_launcher.specs.declared.call.SpawnTask.TheVariants.{Start, Poll, Stop};
 ghost use Rattle.rqd_launcher.specs.declared.spawner.SpawnFault.TheVariants.{Failed};
 ghost use Rattle.cue_io.specs.Growth.{Grows};
@@ -12,6 +12,7 @@ ghost use Rattle.rqd_launcher.specs.Memory.{Plays, exit_of, listed_exit, new_spa
 use crate::call::{SpawnAnswer, SpawnCall, SpawnTask};
 use crate::spawner::{SpawnFault, Spawner};
 use farm_types::{Attempt, Exit, Text};
+use fault_counts::FaultPlan;
 use std::alloc::{AllocError, Global};
 use std::marker::Model;
 
@@ -20,9 +21,7 @@ use std::marker::Model;
 #[derive(Drop)]
 pub struct MemorySpawner {
     exits: Vec<(Attempt, Exit)>,
-    fails: Vec<u64>,
-    count: u64,
-    faults: u64,
+    plan: FaultPlan,
     calls: Vec<SpawnCall>,
 }
 
@@ -31,11 +30,7 @@ impl Model for MemorySpawner {
 
     ghost Value = { Spawned };
 
-    ghost view = { λ s. record {
-      exits = s.exits.items;
-      plan = record { fails = s.fails.items; calls = s.count; faults = s.faults };
-      calls = s.calls.items;
-    } };
+    ghost view = { λ s. record { exits = s.exits.items; plan = s.plan; calls = s.calls.items } };
 }
 
 impl MemorySpawner {
@@ -50,9 +45,7 @@ impl MemorySpawner {
     {
         Ok(MemorySpawner {
             exits: Vec::from_slice(alloc, exits)?,
-            fails: Vec::from_slice(alloc, fails)?,
-            count: 0,
-            faults: 0,
+            plan: FaultPlan::make(alloc, fails)?,
             calls: Vec::new(alloc),
         })
     }
@@ -68,7 +61,7 @@ impl MemorySpawner {
     pub fn faults(&self) -> u64
         ensures { result ≡ self.now.plan.faults }
     {
-        self.faults
+        self.plan.faults()
     }
 
     // Counts a call, and says whether it fails.
@@ -78,12 +71,7 @@ impl MemorySpawner {
         ensures cause { result ≡ true → HasRisen self.old.plan.faults self.new.plan.faults }
         ensures rises { self.old.plan.faults ≤ self.new.plan.faults }
     {
-        self.count = self.count.saturating_add(1);
-        let fails = self.fails.contains(&self.count);
-        if fails {
-            self.faults = self.faults.saturating_add(1);
-        }
-        fails
+        self.plan.call()
     }
 
     // Puts a call on the list.

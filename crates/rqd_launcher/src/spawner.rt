@@ -41,7 +41,7 @@ impl From<AllocError> for SpawnFault {
 pub trait Spawner {
     ghost use Rattle.std.specs.Prelude.{◌≡◌, ℕ, ◌≤◌, List, Option};
     ghost use Rattle.std.specs.Result.{IsErrOf};
-    ghost use Rattle.cue_io.specs.Faults.{HasRisen};
+    ghost use Rattle.fault_counts.specs.Counts.{HasRisen};
     ghost use Rattle.rqd_launcher.specs.declared.call.SpawnCall.{SpawnCall};
     ghost use Rattle.rqd_launcher.specs.declared.call.SpawnTask.TheVariants.{Start, Poll, Stop};
     ghost use Rattle.rqd_launcher.specs.declared.spawner.SpawnFault.TheVariants.{Failed};

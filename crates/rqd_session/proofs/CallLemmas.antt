@@ -14,12 +14,13 @@ use Rattle.farm_lines.specs.declared.limits.TheConstants.{REPLY_LIMIT}
 use Rattle.rqd_core.specs.Life.{Life}
 use Rattle.rqd_launcher.specs.declared.call.SpawnCall.{SpawnCall}
 use Rattle.rqd_launcher.specs.Carries.{HaveCauses}
+use Rattle.rqd_launcher.proofs.Carrying.{HaveCauses-append}
 use Rattle.rqd_session.specs.declared.cut.Cut.{Cut}
 use Rattle.rqd_session.specs.declared.cut.Cut.TheVariants as cut
 use Rattle.rqd_session.specs.Rounds.{Round, Part, Polling, Sending, Waiting, Reading, Acting, AreRounds, IsPart, IsRound, after_round, after_rounds, calls_by, calls_in, line_after, lines_sent, replies_by, replies_in, sent_by}
 use Rattle.rqd_session.specs.Runs.{Call, Cuts, HasMoved, IsCutOff, Surroundings}
 use Rattle.rqd_session.specs.Steps.{Done, Gave, GaveSo, IsCutAt, IsWhole, Makes, RanOutEarly, RanOutLate, round_of, status_of}
-use Rattle.rqd_session.proofs.RoundLemmas.{HaveCauses-append, after_rounds-append, are_rounds-append, calls_in-append, lines_sent-append, replies_in-append}
+use Rattle.rqd_session.proofs.RoundLemmas.{after_rounds-append, are_rounds-append, calls_in-append, lines_sent-append, replies_in-append}
 
 -- ---- what was moved
 

@@ -3,7 +3,7 @@ use Rattle.std.proofs.Common.{◌≡◌, ◌<◌, ◌≤◌, ◌⊎◌, ◌↔�
 use Rattle.std.proofs.lemmas.Bool.{and_parts, leb-true}
 use Rattle.command_line.specs.declared.status.Status.{Status}
 use Rattle.command_line.specs.declared.status.Status.TheVariants as exit
-use Rattle.cue_io.specs.Faults.{HasRisen}
+use Rattle.fault_counts.specs.Counts.{HasRisen}
 use Rattle.cue_io.specs.History.{AreFirstLines, HasGiven-first}
 use Rattle.cue_io.specs.Input.{IsAtEnd, Takes-none}
 use Rattle.cue_io.specs.Lines.{lines_of}
@@ -25,7 +25,8 @@ use Rattle.rqd_session.specs.Words.{Asked, amount_of, asked_of, asked_words, ask
 use Rattle.rqd_session.specs.declared.words.AskedWords.{AskedWords}
 use Rattle.rqd_session.specs.declared.words.TheConstants.{MOST_ROUNDS}
 use Rattle.rqd_session.proofs.CallLemmas.{HasMade}
-use Rattle.rqd_session.proofs.RoundLemmas.{HaveCauses-none, front_none, replies_count}
+use Rattle.rqd_launcher.proofs.Carrying.{HaveCauses-none}
+use Rattle.rqd_session.proofs.RoundLemmas.{front_none, replies_count}
 
 -- ---- nothing was done
 

@@ -1,11 +1,7 @@
--- Rounds after one another: what one round more adds, and the causes of its calls.
-use Rattle.std.proofs.Common.{◌≡◌, ◌+◌, ◌<◌, ◌≤◌, ◌⊎◌, inl, inr, ℕ, suc, cond, List, [], ◌∷◌, ◌++◌, arith, refl, sym, ap, ◌∙◌, subst, length, sum_by, take, drop, append_assoc, append-nil, length-drop, take-append-drop}
+-- Rounds after one another: what one round more adds.
+use Rattle.std.proofs.Common.{◌≡◌, ◌<◌, ℕ, suc, List, [], ◌∷◌, ◌++◌, arith, refl, sym, ap, ◌∙◌, length, take, drop, append_assoc, append-nil, length-drop, take-append-drop}
 use Rattle.std.proofs.lemmas.List.{map-append}
-use Rattle.std.proofs.lemmas.List.Sums.{sum_by-append}
-use Rattle.cue_io.specs.Faults.{last_count}
 use Rattle.rqd_core.specs.Life.{Life}
-use Rattle.rqd_launcher.specs.declared.call.SpawnCall.{SpawnCall}
-use Rattle.rqd_launcher.specs.Carries.{HaveCauses, is_failure}
 use Rattle.rqd_session.specs.Rounds.{Round, AreRounds, IsFront, IsRound, after_round, after_rounds, calls_in, line_after, lines_sent, replies_in}
 
 -- ---- one round more
@@ -36,25 +32,6 @@ replies_in-append rs r = map-append (λ (q : Round). q.reply) rs (r ∷ [])
 pub replies_count : (rs : List Round) → length (replies_in rs ++ []) ≡ length rs
 replies_count [] = refl
 replies_count (r ∷ rs) = ap suc (replies_count rs)
-
--- ---- causes
-
--- what a call weighs in the count of faults
-abbrev weight : SpawnCall → ℕ
-weight c = cond (is_failure c.answer) 1 0
-
-causes_by : (n m old mid new : ℕ) → (old + n ≤ mid) ⊎ (last_count ≤ mid) → (mid + m ≤ new) ⊎ (last_count ≤ new) → (old + (n + m) ≤ new) ⊎ (last_count ≤ new)
-causes_by n m old mid new first (inr full) = inr full
-causes_by n m old mid new (inl rose) (inl more) = inl (omega arith)
-causes_by n m old mid new (inr full) (inl more) = inr (omega arith)
-
-pub HaveCauses-none : (faults : ℕ) → HaveCauses [] faults faults
-HaveCauses-none faults = inl (omega arith)
-
-pub HaveCauses-append : (first second : List SpawnCall) (old mid new : ℕ) → HaveCauses first old mid → HaveCauses second mid new → HaveCauses (first ++ second) old new
-HaveCauses-append first second old mid new before after =
-    subst (λ (count : ℕ). (old + count ≤ new) ⊎ (last_count ≤ new)) (sym (sum_by-append weight first second))
-    (causes_by (sum_by weight first) (sum_by weight second) old mid new before after)
 
 -- ---- fronts of a text
 

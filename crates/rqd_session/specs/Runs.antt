@@ -2,7 +2,7 @@
 use Rattle.std.specs.Prelude.{ℕ, ◌≡◌, ◌<◌, ◌≤◌, ◌⊎◌, List, [], ◌++◌, length, Option, None, Some}
 use Rattle.command_line.specs.declared.status.Status.{Status}
 use Rattle.command_line.specs.declared.status.Status.TheVariants as exit
-use Rattle.cue_io.specs.Faults.{HasRisen}
+use Rattle.fault_counts.specs.Counts.{HasRisen}
 use Rattle.cue_io.specs.Growth.{Grows}
 use Rattle.cue_io.specs.History.{AreAllLines, AreFirstLines, IsUnfinished}
 use Rattle.cue_io.specs.Input.{IsAtEnd, Takes}

@@ -3,7 +3,7 @@
 ghost use Rattle.std.specs.Prelude.{◌≡◌, ◌≤◌, ◌++◌, ◌∷◌, [], List, Result, IfOk};
 ghost use Rattle.std.specs.Result.{IsErrOf};
 ghost use Rattle.std.specs.Option.{IfSome};
-ghost use Rattle.cue_io.specs.Faults.{HasRisen};
+ghost use Rattle.fault_counts.specs.Counts.{HasRisen};
 ghost use Rattle.cue_io.specs.Output.{Adds};
 ghost use Rattle.cue_io.specs.Reader.{Given, Moves};
 ghost use Rattle.rqd_core.specs.Keeping.{AreStarted};

@@ -2,7 +2,7 @@
 
 ghost use Rattle.std.specs.Prelude.{◌≡◌, ◌↔◌, None};
 ghost use Rattle.command_line.specs.declared.status.Status.TheVariants as exit;
-ghost use Rattle.cue_io.specs.Faults.{HasRisen};
+ghost use Rattle.fault_counts.specs.Counts.{HasRisen};
 ghost use Rattle.cue_io.specs.Reader.{new_reader};
 ghost use Rattle.farm_lines.specs.declared.limits.TheConstants.{REPLY_LIMIT};
 ghost use Rattle.rqd_session.specs.Runs.{AreRun, Call, IsCall, surroundings};

@@ -12,7 +12,7 @@ use Rattle.farm_lines.specs.declared.list_row.ListRow.{ListRow}
 use Rattle.farm_lines.specs.declared.list_row.ListRow.TheVariants as row
 use Rattle.farm_lines.specs.declared.query.Listed.{Listed}
 use Rattle.farm_lines.specs.declared.query.Query.{Query}
-use Rattle.farm_lines.specs.Lists.{list_of, rows_listed}
+use Rattle.farm_lines.specs.Lists.{page_listed, rows_listed}
 use Rattle.farm_lines.specs.Reply.{reply_text}
 use Rattle.farm_lines.specs.Transcript.{list_reply}
 
@@ -112,7 +112,7 @@ first_row f what = first_of (rows_listed f what)
 
 -- the text of the reply to a list
 abbrev pub text_of_list : Farm → Listed → List ℕ
-text_of_list f what = reply_text (list_reply (list_of f (whole_list what)))
+text_of_list f what = reply_text (list_reply (page_listed f (whole_list what)))
 
 -- the lines {"from":2,"job":"hi","op":"list","what":"frames"} and {"job":"hi","op":"list","what":"procs"}
 abbrev pub frames_line : Members

@@ -4,7 +4,7 @@ ghost use Rattle.std.specs.Prelude.{◌≡◌, ◌∷◌, [], codes, Err, Ok};
 ghost use Rattle.farm_types.specs.declared.refusal.Refusal.TheVariants.{Finished, Unknown};
 ghost use Rattle.farm_lines.specs.declared.query.Listed.TheVariants as listed;
 ghost use Rattle.farm_lines.specs.declared.request.Request.TheVariants as request;
-ghost use Rattle.farm_lines.specs.Lists.{list_of, rows_listed};
+ghost use Rattle.farm_lines.specs.Lists.{page_listed, rows_listed};
 ghost use Rattle.farm_lines.specs.Request.{BadLine, request_at};
 ghost use Rattle.worked_examples.specs.Demonstration.{farm_two, farm_four};
 ghost use Rattle.worked_examples.specs.Finishing.{farm_opened};
@@ -35,8 +35,8 @@ pub fn waiting_jobs_are_listed()
 
 /// A page begins at its place, and the whole list is counted also where the place is past its end.
 pub fn pages_begin_at_their_place()
-    ensures second { list_of farm_waiting (record { what = listed.Frames (codes "hi"); from = 2 }) ≡ Ok (record { rows = blocked_frame (codes "0001-x") ∷ []; total = 3 }) }
-    ensures past { list_of farm_waiting (record { what = listed.Frames (codes "hi"); from = 7 }) ≡ Ok (record { rows = []; total = 3 }) }
+    ensures second { page_listed farm_waiting (record { what = listed.Frames (codes "hi"); from = 2 }) ≡ Ok (record { rows = blocked_frame (codes "0001-x") ∷ []; total = 3 }) }
+    ensures past { page_listed farm_waiting (record { what = listed.Frames (codes "hi"); from = 7 }) ≡ Ok (record { rows = []; total = 3 }) }
 {}
 
 /// The layers, frames and depends of a finished job are refused as such, and those of a job that isn't there as unknown.

@@ -1,6 +1,5 @@
 -- A reply's status tells of no failed read or write.
-use Rattle.std.proofs.Common.{◌≡◌, sym, ◌∙◌, subst, Some, Option}
-use Rattle.command_line.specs.declared.status.Status.{Status}
+use Rattle.std.proofs.Common.{sym, ◌∙◌}
 use Rattle.farm_lines.specs.ReplyLines.{reply_of}
 use Rattle.cue_tool.proofs.ShownLemmas.{not_read, not_write, of_reply}
 use Rattle.cue_tool.proofs.run.print_line.Goals as goal

@@ -1,15 +1,15 @@
 -- A list is only replied to.
-use Rattle.farm_keeper.specs.Keeping.{Continues}
-use Rattle.farm_keeper.proofs.KeepingLaws.{Continues-same}
+use Rattle.recorder.specs.Telling.{GoesOn}
 use Rattle.line_answers.specs.Lines.{shown}
 use Rattle.line_answers.proofs.AnswerLemmas.{answered_list, unstored_act, unstored_report}
+use Rattle.line_answers.proofs.ToldLemmas.{GoesOn-same}
 use Rattle.line_answers.proofs.answer.answer_asked.Goals as goal
 
 pub returns-in-List-clause-answer : goal.returns-in-List-clause-answer
 returns-in-List-clause-answer g c =
     answered_list c.args.recorder.now.farm c.read.result.now c.args.moment (shown c.answer_list.result)
-    (Continues g.K.Keeper.tells g.K.Keeper.faults c.args.recorder.now.keeper c.args.recorder.now.keeper)
-    (Continues-same g.K.Keeper.tells g.K.Keeper.faults c.args.recorder.now.keeper) c.args.asked c.in-List.query c.in-List.is c.read.ensures c.answer_list.ensures
+    (GoesOn g.K.Keeper.commits g.K.Keeper.tells g.K.Keeper.faults c.args.recorder.now.farm c.args.recorder.now.keeper c.args.recorder.now.keeper)
+    (GoesOn-same g.K.Keeper.commits g.K.Keeper.tells g.K.Keeper.faults c.args.recorder.now.farm c.args.recorder.now.keeper) c.args.asked c.in-List.query c.in-List.is c.read.ensures c.answer_list.ensures
 
 pub returns-in-Report-clause-same : goal.returns-in-Report-clause-same
 returns-in-Report-clause-same g c = λ none.

@@ -1,5 +1,5 @@
 -- The line of what is replied.
-use Rattle.farm_keeper.specs.Keeping.{Continues}
+use Rattle.recorder.specs.Telling.{GoesOn}
 use Rattle.line_answers.specs.Lines.{shown}
 use Rattle.line_answers.proofs.ReportLemmas.{told_report}
 use Rattle.line_answers.proofs.answer_report.answer_report.Goals as goal
@@ -7,4 +7,4 @@ use Rattle.line_answers.proofs.answer_report.answer_report.Goals as goal
 pub returns-clause-answer : goal.returns-clause-answer
 returns-clause-answer g c =
     told_report c.args.recorder.now.farm c.take_report-taken.new.recorder.farm c.args.report c.args.moment (shown c.taken_line.result) c.take_report-taken.result
-    (Continues g.K.Keeper.tells g.K.Keeper.faults c.args.recorder.now.keeper c.take_report-taken.new.recorder.keeper) c.take_report-taken.ensures.taken c.taken_line.ensures
+    (GoesOn g.K.Keeper.commits g.K.Keeper.tells g.K.Keeper.faults c.args.recorder.now.farm c.args.recorder.now.keeper c.take_report-taken.new.recorder.keeper) c.take_report-taken.ensures.taken c.taken_line.ensures

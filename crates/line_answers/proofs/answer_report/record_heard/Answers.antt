@@ -4,6 +4,7 @@ use Rattle.farm_keeper.proofs.KeepingLaws.{Continues-as, Continues-same}
 use Rattle.recorder.specs.Faults.{is_store_refusal}
 use Rattle.line_answers.proofs.AnswerLemmas.{entry_made}
 use Rattle.line_answers.proofs.ReportLemmas.{heard_condition, never_store, unprepared}
+use Rattle.recorder.proofs.Told.{never_told}
 use Rattle.line_answers.proofs.answer_report.record_heard.Goals as goal
 
 pub prepare-requires-clause-condition : goal.prepare-requires-clause-condition
@@ -24,3 +25,7 @@ returns-in_err-change-clause-keeper g c =
 
 pub returns-clause-same : goal.returns-clause-same
 returns-clause-same g c = λ unstored. c.record_change.ensures.same (unstored c.in_ok-change.ensures.accepted)
+
+pub returns-in_err-change-clause-told : goal.returns-in_err-change-clause-told
+returns-in_err-change-clause-told g c =
+    never_told g.K.Keeper.commits c.args.recorder.now.farm c.args.entry.now c.args.recorder.now.keeper _ c.from_residual.result c.from_residual.ensures.1

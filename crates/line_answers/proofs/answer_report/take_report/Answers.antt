@@ -4,8 +4,8 @@ use Rattle.farm_types.specs.declared.entry.Act.TheVariants as act
 use Rattle.farm_types.specs.declared.entry.HeardAct.{HeardAct}
 use Rattle.farm_lines.specs.declared.report.Report.{Report}
 use Rattle.farm_lines.specs.Transcript.{Plain}
-use Rattle.farm_keeper.specs.Keeping.{Continues}
 use Rattle.recorder.specs.Recording.{ChangesNone, IsUnstored}
+use Rattle.recorder.specs.Telling.{GoesOn, TellsCommit}
 use Rattle.line_answers.specs.LineAnswers.{Hears, TakesReport, reported}
 use Rattle.line_answers.proofs.ReportLemmas.{heard_same, same_report, unstored_heard}
 use Rattle.line_answers.proofs.answer_report.take_report.Goals as goal
@@ -18,11 +18,14 @@ returns-clause-taken g c =
     (c.report_of.ensures.running ∙ c.parts_of-heard.ensures.running) in
     subst
     (λ (r : Report). TakesReport c.args.recorder.now.farm r c.args.moment c.take_recorded.new.recorder.farm c.take_recorded.result
-    (Continues g.K.Keeper.tells g.K.Keeper.faults c.args.recorder.now.keeper c.take_recorded.new.recorder.keeper)) is
+    (GoesOn g.K.Keeper.commits g.K.Keeper.tells g.K.Keeper.faults c.args.recorder.now.farm c.args.recorder.now.keeper c.take_recorded.new.recorder.keeper)) is
     (c.take_recorded.ensures.taken c.args.recorder.now.farm c.args.recorder.now.keeper
     (subst (λ (h : HeardAct). Hears c.args.recorder.now.farm (record { moment = c.args.moment; act = act.Heard h }) c.record_heard-recorded.result
     c.record_heard-recorded.new.recorder.farm)
-    (same ∙ sym c.report_of.ensures.heard) c.record_heard-recorded.ensures.farm) c.record_heard-recorded.ensures.keeper)
+    (same ∙ sym c.report_of.ensures.heard) c.record_heard-recorded.ensures.farm) c.record_heard-recorded.ensures.keeper
+    (subst (λ (h : HeardAct). TellsCommit g.K.Keeper.commits c.args.recorder.now.farm (record { moment = c.args.moment; act = act.Heard h }) c.record_heard-recorded.result
+    c.args.recorder.now.keeper c.record_heard-recorded.new.recorder.keeper)
+    (same ∙ sym c.report_of.ensures.heard) c.record_heard-recorded.ensures.told))
 
 pub returns-clause-same : goal.returns-clause-same
 returns-clause-same g c = λ none.

@@ -4,7 +4,7 @@ use Rattle.cue_io.specs.Output.{Adds-none}
 use Rattle.cue_io.specs.Growth.{Grows-append, Grows-none}
 use Rattle.rqd_session.specs.Rounds.{line_after}
 use Rattle.rqd_session.proofs.MadeLemmas.{cut_acting, cut_reading, cut_polling, cut_sending, done_by, is_awaiting, line_sent, made_whole}
-use Rattle.rqd_session.proofs.RoundLemmas.{HaveCauses-append, HaveCauses-none}
+use Rattle.rqd_launcher.proofs.Carrying.{HaveCauses-append, HaveCauses-none}
 use Rattle.rqd_session.proofs.round.run_round.Goals as goal
 
 pub returns-in_err-poll_all-clause-made : goal.returns-in_err-poll_all-clause-made

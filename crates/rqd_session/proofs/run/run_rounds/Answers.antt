@@ -1,6 +1,6 @@
 -- Before the first round, after one more, after all, and at the one that was cut off.
 use Rattle.std.proofs.Common.{◌≡◌, ◌<◌, [], ◌∷◌, ◌++◌, List, length, refl, sym, ap, ◌∙◌, Err, arith, rules, None, Some, length-append}
-use Rattle.cue_io.specs.Faults.{HasRisen-earlier}
+use Rattle.fault_counts.proofs.CountLaws.{HasRisen-earlier}
 use Rattle.cue_io.specs.Input.{Takes-none}
 use Rattle.cue_io.specs.Output.{Adds-none}
 use Rattle.cue_io.specs.Growth.{Grows-none}
@@ -8,7 +8,7 @@ use Rattle.rqd_session.specs.Rounds.{Round}
 use Rattle.rqd_session.specs.Runs.{Call, Surroundings, surroundings}
 use Rattle.rqd_session.proofs.CallLemmas.{call_with, cut_more, made_more, made_none, moved_more}
 use Rattle.rqd_session.proofs.EndLemmas.{all_made, cut_off, no_call, read_of, write_of}
-use Rattle.rqd_session.proofs.RoundLemmas.{HaveCauses-none}
+use Rattle.rqd_launcher.proofs.Carrying.{HaveCauses-none}
 use Rattle.rqd_session.proofs.run.run_rounds.Goals as goal
 
 pub loop-round-init : goal.loop-round-init

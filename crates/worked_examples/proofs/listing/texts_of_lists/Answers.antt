@@ -10,9 +10,9 @@ use Rattle.farm_types.specs.Ranges.{range_numbers}
 use Rattle.farm_types.specs.Settle.{opened_by, settle, with_blocked}
 use Rattle.farm_types.specs.Step.{finish_all}
 use Rattle.farm_lines.specs.ListReplies.{list_data, name_data}
-use Rattle.farm_lines.specs.Lists.{list_of}
+use Rattle.farm_lines.specs.Lists.{page_listed}
 use Rattle.worked_examples.proofs.listing.texts_of_lists.Goals as goal
 
 pub returns : goal.returns
-unfolding list_of serde_json_on_literals digits list_data name_data opened_by settle with_blocked finish_all groups_of range_numbers numbers_of set_of add_section section_at fault_of section_numbers
+unfolding page_listed serde_json_on_literals digits list_data name_data opened_by settle with_blocked finish_all groups_of range_numbers numbers_of set_of add_section section_at fault_of section_numbers
 returns c = refl
