@@ -1,45 +1,56 @@
 //! The scheduler's program. It reads requests from standard input, a line each, and answers them: `cuebot demo` over the farm of the
-//! demonstration, and `cuebot script :memory:` over a farm that begins empty. `cuebot load N` reads nothing: it runs the job of a load and tells a summary.
-//! Its store is in memory, and goes with it.
+//! demonstration, `cuebot script FILE` over the farm that the file keeps, and `cuebot script :memory:` over one that begins empty and goes with the program.
+//! `cuebot load N` reads nothing: it runs the job of a load and tells a summary.
 #![tactic(auto)]
 
+mod answering;
+mod file_store;
+
+ghost use Rattle.std.specs.Prelude.{◌≡◌, option_and_then, option_map};
+ghost use Rattle.session.specs.Words.{file_of, form_of};
+
+use crate::answering::answer;
+use crate::file_store::answer_over_file;
 use command_line::{Status, exit_code, words_of};
-use cue_io::{InputSource, OutputSink, SystemClock};
 use farm_keeper::MemoryKeeper;
-use session::run_program;
-use std::io::{self, IsTerminal, Write};
+use farm_types::Text;
+use session::form;
+use sqlite::Unknown;
 use std::process::ExitCode;
-use std::rt::Runtime;
 
 fn main(rt: HostRuntime) -> ExitCode {
-    let at_terminal = rt.stdin().is_terminal();
-    exit_code(run(&rt, at_terminal, rt.stderr()))
+    exit_code(run(&rt))
 }
 
-// Runs the program over the standard streams, the machine's clock, and a store in memory. Where memory runs out before the call, nothing is done.
-fn run<R: Runtime + AllocGlobal, E: Write + Drop>(rt: &R, at_terminal: bool, stderr: E) -> Status {
+// Runs the program. Where memory runs out before the call, nothing is done.
+fn run(rt: &HostRuntime) -> Status {
     let Ok(words) = words_of(rt) else {
         return Status::NoMemory;
     };
-    let Ok(clock_rt) = rt.clone() else {
-        return Status::NoMemory;
-    };
+    answer_words(rt, words.as_slice())
+}
+
+// Runs the program over the store that its words name. `Unknown` stands for what a file holds, and supposes that a write which a stop cut short leaves
+// each byte old or new, so that most commits sync once.
+fn answer_words(rt: &HostRuntime, words: &[Text]) -> Status {
+    match file_of(words) {
+        Some(path) => answer_over_file(rt, words, path, Unknown),
+        None => answer_in_memory(rt, words),
+    }
+}
+
+// The path of the file that keeps the farm, where the words name one.
+fn file_of(words: &[Text]) -> Option<&str>
+    ensures { option_map (λ path. path.now) result ≡ option_and_then file_of (form_of words.now) }
+{
+    form(words)?.file()
+}
+
+// Runs the program over a store in memory, which goes with it.
+fn answer_in_memory(rt: &HostRuntime, words: &[Text]) -> Status {
     let Ok(keeper) = MemoryKeeper::make(rt.alloc(), &[]) else {
         return Status::NoMemory;
     };
-    let mut source = InputSource::make(rt.reader());
-    let mut sink = OutputSink::make(io::writer(rt));
-    let mut errors = OutputSink::make(stderr);
-    let mut clock = SystemClock::make(clock_rt);
-    let (status, _keeper) = run_program(
-        rt.alloc(),
-        words.as_slice(),
-        at_terminal,
-        &mut source,
-        &mut sink,
-        &mut errors,
-        keeper,
-        &mut clock,
-    );
+    let (status, _keeper) = answer(rt, words, keeper);
     status
 }

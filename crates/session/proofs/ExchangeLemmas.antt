@@ -4,38 +4,46 @@ use Rattle.cue_io.specs.declared.line.Line.{Line}
 use Rattle.cue_io.specs.declared.line.LineFault.{LineFault}
 use Rattle.cue_io.specs.Input.{IsAtEnd}
 use Rattle.cue_io.specs.Reader.{Held, Given, Whole, Long, Goes, IsPending, given_by}
+use Rattle.farm_types.specs.declared.entry.Entry.{Entry}
 use Rattle.farm_types.specs.Farm.{Farm}
+use Rattle.farm_types.specs.Run.{run_of}
 use Rattle.farm_lines.specs.declared.reply.Reply.TheVariants as reply
 use Rattle.farm_lines.specs.Reply.{reply_text}
 use Rattle.farm_lines.specs.Transcript.{Answered, Mark, Plain, answer_to, is_store_mark}
 use Rattle.session.specs.declared.exchanged.Exchanged.{Exchanged}
 use Rattle.session.specs.declared.exchanged.Exchanged.TheVariants as exchanged
-use Rattle.line_answers.specs.LineAnswers.{AnswersLine, IsAnswer}
+use Rattle.line_answers.specs.LineAnswers.{AnswersLine, Going, IsAnswer}
 use Rattle.line_answers.specs.Outcomes.{IsAnsweredFully}
 use Rattle.recorder.specs.Recording.{ChangesNone}
-use Rattle.session.specs.Sessions.{Answers, Sends, Exchanges, IsExchange, IsStep, MayStand, StaysAt}
+use Rattle.session.specs.Sessions.{Answers, Sends, Exchanges, IsExchange, IsStep, MayStand, StaysAt, entries_by}
 
 -- a front of the text was written
 pub sent_part : (text : List ℕ) (count : ℕ) → count < length text → Sends exchanged.Write text (take count text)
 sent_part text count short = (drop count text, omega (arith, length-drop count text), take-append-drop count text)
 
 -- What was given was answered, by a mark that may stand there, and the keeper went on as the mark says.
-pub record IsGivenAnswer (given : Given) (before after : Farm) (moment : ℕ) (text : List ℕ) (goes : Bool → Type 0) (same : Type 0) : Type 0 where
+pub record IsGivenAnswer (given : Given) (before after : Farm) (moment : ℕ) (text : List ℕ) (goes : Going) (same : Type 0) : Type 0 where
   pub mark : Mark
   pub answers : Answers given before moment mark after text
   pub may_stand : MayStand given before moment mark
-  pub keeper : goes (is_store_mark mark)
+  pub keeper : goes (entries_by given before moment Plain) (entries_by given before moment mark) (is_store_mark mark)
   pub stays : StaysAt given before moment same
 
 -- a line that was given whole
-pub answers_whole : (line : List ℕ) (before after : Farm) (moment : ℕ) (text : List ℕ) (goes : Bool → Type 0) (same : Type 0) → AnswersLine before line moment after text goes
-    → (ChangesNone before (answer_to before line moment Plain).entries → same) → IsGivenAnswer (Whole line) before after moment text goes same
-answers_whole line before after moment text goes same answer stays =
-    record { mark = answer.mark; answers = answer.answer; may_stand = answer.may_stand; keeper = answer.keeper; stays = stays }
+pub answers_whole : (line : List ℕ) (before after : Farm) (moment : ℕ) (text : List ℕ) (goes since : Going) (same : Type 0)
+    → ((all done : List Entry) (failed : Bool) → after ≡ run_of before done → goes all done failed → since all done failed) → AnswersLine before line moment after text goes
+    → (ChangesNone before (answer_to before line moment Plain).entries → same) → IsGivenAnswer (Whole line) before after moment text since same
+answers_whole line before after moment text goes since same on answer stays = record {
+  mark = answer.mark;
+  answers = answer.answer;
+  may_stand = answer.may_stand;
+  keeper = on _ _ _ answer.answer.farm answer.keeper;
+  stays = stays;
+}
 
 -- any line that is too long
-pub answers_long : (f : Farm) (moment : ℕ) (text : List ℕ) (goes : Bool → Type 0) (same : Type 0) → ((line : List ℕ) → IsAnsweredFully f line moment)
-    → text ≡ reply_text reply.TooLong ++ 10 ∷ [] → goes false → same → IsGivenAnswer Long f f moment text goes same
+pub answers_long : (f : Farm) (moment : ℕ) (text : List ℕ) (goes : Going) (same : Type 0) → ((line : List ℕ) → IsAnsweredFully f line moment)
+    → text ≡ reply_text reply.TooLong ++ 10 ∷ [] → goes [] [] false → same → IsGivenAnswer Long f f moment text goes same
 answers_long f moment text goes same law e keeper still = record {
   mark = Plain;
   answers = λ line long. subst (λ (a : Answered). IsAnswer f a f text) (sym ((law line).long long Plain)) (record { farm = refl; text = e });
@@ -45,7 +53,7 @@ answers_long f moment text goes same law e keeper still = record {
 }
 
 -- what was given is answered, and the reply's text sent
-exchange_of : (given : Given) (before after : Farm) (moment : ℕ) (text wrote unwritten : List ℕ) (goes : Bool → Type 0) (same : Type 0) → moment < 2 ^ 64
+exchange_of : (given : Given) (before after : Farm) (moment : ℕ) (text wrote unwritten : List ℕ) (goes : Going) (same : Type 0) → moment < 2 ^ 64
     → IsGivenAnswer given before after moment text goes same → wrote ++ unwritten ≡ text → IsExchange given before after wrote unwritten (moment ∷ []) goes same
 exchange_of given before after moment text wrote unwritten goes same low answer sent = record {
   moment = moment;
@@ -60,7 +68,7 @@ exchange_of given before after moment text wrote unwritten goes same low answer 
   written = sent;
 }
 
-exchange_answered : (result : Exchanged) (answer : Result Given LineFault) (given : Given) (before after : Farm) (moment : ℕ) (text wrote : List ℕ) (goes : Bool → Type 0) (same : Type 0)
+exchange_answered : (result : Exchanged) (answer : Result Given LineFault) (given : Given) (before after : Farm) (moment : ℕ) (text wrote : List ℕ) (goes : Going) (same : Type 0)
     → moment < 2 ^ 64 → answer ≡ Ok given → IsGivenAnswer given before after moment text goes same → Sends result text wrote
     → Exchanges result answer before after wrote (moment ∷ []) goes same
 exchange_answered exchanged.Went answer given before after moment text wrote goes same low is answers sent =
@@ -72,7 +80,7 @@ exchange_answered exchanged.Read answer given before after moment text wrote goe
 exchange_answered exchanged.Spent answer given before after moment text wrote goes same low is answers sent = absurd sent
 
 pub step_answered : (result : Exchanged) (returned : Result Line LineFault) (given : Given) (old new : Held) (left : Option (List ℕ)) (before after : Farm)
-    (took : List ℕ) (moment : ℕ) (text wrote : List ℕ) (goes : Bool → Type 0) (same : Type 0) → moment < 2 ^ 64 → given_by returned ≡ Ok given → Goes old took (given_by returned) new
+    (took : List ℕ) (moment : ℕ) (text wrote : List ℕ) (goes : Going) (same : Type 0) → moment < 2 ^ 64 → given_by returned ≡ Ok given → Goes old took (given_by returned) new
     → (old.ended ≡ false → new.ended ≡ true → IsAtEnd left) → IsGivenAnswer given before after moment text goes same → Sends result text wrote
     → IsStep result old new left before after took wrote (moment ∷ []) goes same
 step_answered result returned given old new left before after took moment text wrote goes same low is moves end answers sent = record {
@@ -86,5 +94,5 @@ step_answered result returned given old new left before after took moment text w
 pub line_fits : (returned : Result Line LineFault) (line : List ℕ) (old new : Held) (took pending : List ℕ) → given_by returned ≡ Ok (Whole line)
     → Goes old took (given_by returned) new → IsPending old pending → length line ≤ old.limit
 line_fits returned line old new took pending is goes held =
-    let Going : Result Given LineFault → Type 0 = λ answer. Goes old took answer new in
-    ((subst Going is goes).leaves pending held).cuts.1
+    let Moved : Result Given LineFault → Type 0 = λ answer. Goes old took answer new in
+    ((subst Moved is goes).leaves pending held).cuts.1

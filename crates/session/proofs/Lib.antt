@@ -1,6 +1,7 @@
 mod ExchangeLemmas
 mod KeeperLemmas
 mod LoadLemmas
+mod MemoryLemmas
 pub mod NewKeepers
 mod OpenedLegal
 mod OpenedRun

@@ -1,6 +1,6 @@
 -- What a call of a load did.
 use Rattle.std.proofs.Common.{◌≡◌, ◌<◌, ◌⊎◌, ℕ, List, [], ◌∷◌, length, take, drop, length-drop, take-append-drop, inl, inr, refl, sym, ◌∙◌, subst, Option, None, Some, true≢false, ap, arith}
-use Rattle.cue_io.specs.Faults.{HasRisen}
+use Rattle.fault_counts.specs.Counts.{HasRisen}
 use Rattle.cue_io.specs.Readings.{Tells, Tells-append}
 use Rattle.command_line.specs.declared.status.Status.{Status}
 use Rattle.command_line.specs.declared.status.Status.TheVariants as exit

@@ -6,7 +6,8 @@ use Rattle.farm_types.specs.Run.{IsLegal}
 use Rattle.farm_keeper.specs.declared.fault.KeeperFault.{KeeperFault}
 use Rattle.farm_keeper.specs.declared.fault.KeeperFault.TheVariants as keeper_fault
 use Rattle.farm_keeper.specs.declared.row.Row.{Row}
-use Rattle.farm_keeper.specs.Faults.{HasRisen, incremented_if, is_failed}
+use Rattle.fault_counts.specs.Counts.{HasRisen, incremented_if}
+use Rattle.farm_keeper.specs.Faults.{is_failed}
 use Rattle.farm_keeper.specs.Keeping.{Continues, Keeps}
 use Rattle.farm_keeper.specs.Rows.{Lists, Rows}
 use Rattle.recorder.specs.Recording.{Recording}
@@ -19,7 +20,8 @@ use Rattle.session.specs.declared.opening.Opening.{Opening}
 use Rattle.session.specs.declared.opening.Opening.TheVariants as opening
 use Rattle.session.specs.Opening.{Begins, BeginsBad, BeginsWith, HasFailed, HasRecovered, HoldsFarm, IsLoadFault, IsLoaded, IsPartOpened, IsRecordFault, IsUntouched, Opens, SaysFault, is_of_store, is_store_failure, of_keeper, of_recovery}
 use Rattle.session.specs.Words.{WordForm, Demo, IsScript, Load, Script, opening_entries}
-use Rattle.farm_keeper.proofs.KeepingLaws.{Continues-same, Continues-then, HasRisen-incremented}
+use Rattle.fault_counts.proofs.CountLaws.{HasRisen-incremented}
+use Rattle.farm_keeper.proofs.KeepingLaws.{Continues-same, Continues-then}
 use Rattle.session.proofs.OpenedStore.{says_list}
 
 -- a keeper on which nothing was done

@@ -2,7 +2,7 @@
 use Rattle.std.proofs.Common.{◌≡◌, ◌↔◌, ◌<◌, ◌≤◌, ◌^◌, ◌⊎◌, ℕ, true, false, List, [], ◌∷◌, length, take, drop, length-drop, take-append-drop, inl, inr, refl, sym, ◌∙◌, subst, Option, None, Some, ap, arith}
 use Rattle.std.specs.Prelude.{option_map}
 use Rattle.std.specs.List.{All}
-use Rattle.cue_io.specs.Faults.{HasRisen}
+use Rattle.fault_counts.specs.Counts.{HasRisen, HasRisenBy}
 use Rattle.cue_io.specs.Input.{Takes-none}
 use Rattle.cue_io.specs.Output.{Adds, Adds-none}
 use Rattle.cue_io.specs.declared.limits.TheConstants.{BYTE_LIMIT}
@@ -15,7 +15,7 @@ use Rattle.farm_law.proofs.KeptChanges.{kept_hosts}
 use Rattle.command_line.specs.Codes.{code_of}
 use Rattle.command_line.specs.declared.status.Status.{Status}
 use Rattle.command_line.specs.declared.status.Status.TheVariants as exit
-use Rattle.farm_keeper.specs.Keeping.{Continues}
+use Rattle.farm_keeper.specs.Keeping.{Committing, Continues}
 use Rattle.farm_keeper.specs.Rows.{Rows}
 use Rattle.farm_lines.specs.Transcript.{Exchange, entries_in, lines_in}
 use Rattle.farm_lines.specs.Reply.{bad_store_line}
@@ -26,9 +26,9 @@ use Rattle.session.specs.declared.words.Form.{Form}
 use Rattle.session.specs.declared.exchanged.Exchanged.TheVariants as exchanged
 use Rattle.session.specs.declared.opening.OpenFault.{OpenFault}
 use Rattle.session.specs.declared.opening.OpenFault.TheVariants as fault
-use Rattle.session.specs.Opening.{BeginsWith, HasFailed, IsOpened, IsPartOpened, is_of_store}
+use Rattle.session.specs.Opening.{BeginsWith, HasFailed, HoldsFarm, IsOpened, IsPartOpened, is_of_store}
 use Rattle.session.specs.Loads.{AnswersLoad}
-use Rattle.session.specs.Sessions.{AnswersAll, AnswersForm, AnswersLoadCall, Call, EndsEarly, EndsSession, EndsWell, GoesOnOpened, GoesOnOver, HasLines, HasMoved, HasRisenBy, IsBadStore, IsCall, IsOpening, IsUnopened, MayTell, Streams, TellsBad, TellsFault, TellsLine, status_of, store_marks, streams}
+use Rattle.session.specs.Sessions.{AnswersAll, AnswersForm, AnswersLoadCall, Call, EndsEarly, EndsSession, EndsWell, GoesOnOpened, GoesOnOver, HasLines, HasMoved, IsBadStore, IsCall, IsOpening, IsUnopened, MayTell, Streams, TellsBad, TellsFault, TellsLine, status_of, store_marks, streams}
 use Rattle.session.specs.Words.{WordForm, Demo, Script, Load, TakesLines, form_of, opened_farm, word_form}
 use Rattle.session.proofs.KeeperLemmas.{over_risen}
 use Rattle.session.proofs.LoadLemmas.{called_load}
@@ -270,33 +270,31 @@ pub opened_still : (told_then told_now : Type 0) (held : Rows → Type 0) (form 
 opened_still told_then told_now held form opened farm told o =
     record { first = o.first; said = begins_still form told_then told_now held o.first told o.said; legal = o.legal; farm_is = o.farm_is }
 
--- the keeper, from before the opening on
-opened_on : {K : Type 0} (tells : K → Type 0) (faults : K → ℕ) (given opened now : K) (f : Farm) (ts : List Exchange) → Continues tells faults given opened false
-    → GoesOnOver tells faults f ts opened now → GoesOnOpened tells faults given now f ts
-opened_on tells faults given opened now f ts begins over = (opened, begins, over)
-
 -- its count of faults rose by the marks of the store alone
-opened_risen : {K : Type 0} (tells : K → Type 0) (faults : K → ℕ) (given opened now : K) (f : Farm) (ts : List Exchange) → Continues tells faults given opened false
-    → GoesOnOver tells faults f ts opened now → HasRisenBy (store_marks ts) (faults given) (faults now)
-opened_risen tells faults given opened now f ts begins over =
-    subst (λ (count : ℕ). HasRisenBy (store_marks ts) count (faults now)) begins.counted (over_risen tells faults f ts opened now over)
+opened_risen : {K : Type 0} (commits : Committing K) (tells : K → Type 0) (holds left : K → Rows → Type 0) (faults : K → ℕ) (given opened now : K) (f : Farm)
+    (ts : List Exchange) → Continues tells faults given opened false → GoesOnOver commits tells holds left faults f ts opened now
+    → HasRisenBy (store_marks ts) (faults given) (faults now)
+opened_risen commits tells holds left faults given opened now f ts begins over =
+    subst (λ (count : ℕ). HasRisenBy (store_marks ts) count (faults now)) begins.counted (over_risen commits tells holds left faults f ts opened now over)
 
-module _ {K : Type 0} (tells : K → Type 0) (faults : K → ℕ) (given middle now : K) (words : List (List ℕ)) (status : Status) (opened : ℕ) (farm : Farm) (call : Call)
+module _ {K : Type 0} (commits : Committing K) (tells : K → Type 0) (held left : K → Rows → Type 0) (faults : K → ℕ) (given middle now : K) (words : List (List ℕ))
+    (status : Status) (opened : ℕ) (farm : Farm) (call : Call)
     (before after : Streams) (mid : Option (List ℕ)) (says : WordForm → Farm → Type 0) (bad : WordForm → RecoverFault → Type 0) (same untouched : Type 0) (holds : Farm → Type 0)
-    (begins : Continues tells faults given middle false) (was : before.store_faults ≡ faults given) (is_now : after.store_faults ≡ faults now) where
+    (begins : Continues tells faults given middle false)
+    (recorded : HoldsFarm (tells middle) (held middle) (left middle) farm) (was : before.store_faults ≡ faults given) (is_now : after.store_faults ≡ faults now) where
   -- what the call began with, after the opening
   abbrev begun : Streams
   begun = streams before.unread before.read_faults before.written before.write_faults mid (faults middle)
 
   -- a session over a farm that was opened
   called_session : (form : WordForm) → TakesLines form → form_of words ≡ Some form → IsOpened (says form) form opened farm → Tells before.readings mid (opened ∷ [])
-      → AnswersAll status farm begun after call (λ ts. GoesOnOver tells faults farm ts middle now) holds
+      → AnswersAll status farm begun after call (λ ts. GoesOnOver commits tells held left faults farm ts middle now) holds
       → (status ≡ exit.ReadFailed → HasRisen before.read_faults after.read_faults) → (status ≡ exit.WriteFailed → HasRisen before.write_faults after.write_faults)
-      → IsCall words status before after (opened_call opened call) says bad same untouched (GoesOnOpened tells faults given now) holds
+      → IsCall words status before after (opened_call opened call) says bad same untouched (GoesOnOpened commits tells held left faults given now) holds
   called_session form of_lines formed opening reads answered read write =
       let first : Farm = opened_farm form opening.first opened in
-      let over : AnswersAll status first begun after call (λ ts. GoesOnOver tells faults first ts middle now) holds
-      = subst (λ (f : Farm). AnswersAll status f begun after call (λ ts. GoesOnOver tells faults f ts middle now) holds) opening.farm_is answered in
+      let over : AnswersAll status first begun after call (λ ts. GoesOnOver commits tells held left faults first ts middle now) holds
+      = subst (λ (f : Farm). AnswersAll status f begun after call (λ ts. GoesOnOver commits tells held left faults f ts middle now) holds) opening.farm_is answered in
       let moved = over.moved in
       let ends = over.ends in
       record {
@@ -321,10 +319,15 @@ module _ {K : Type 0} (tells : K → Type 0) (faults : K → ℕ) (given middle 
           legal = over.legal;
           safe = over.safe;
           marked = ends.marked;
-          keeper = opened_on tells faults given middle now first call.exchanges begins ends.keeper;
+          keeper = record {
+            opened = middle;
+            begins = begins;
+            recorded = subst (HoldsFarm (tells middle) (held middle) (left middle)) opening.farm_is recorded;
+            lines = ends.keeper;
+          };
           causes = subst (λ (count : ℕ). HasRisenBy (store_marks call.exchanges) count after.store_faults) (sym was)
               (subst (λ (count : ℕ). HasRisenBy (store_marks call.exchanges) (faults given) count) (sym is_now)
-              (opened_risen tells faults given middle now first call.exchanges begins ends.keeper));
+              (opened_risen commits tells held left faults given middle now first call.exchanges begins ends.keeper));
           held = subst holds ends.farm_is over.held;
         }))));
         spent = λ lines. spent_session over.ended status call after.unread over.status_is ends.lines;
@@ -335,13 +338,13 @@ module _ {K : Type 0} (tells : K → Type 0) (faults : K → ℕ) (given middle 
 
   -- a session or a load over a farm that was opened
   pub called_opened : (form : WordForm) → form_of words ≡ Some form → IsOpened (says form) form opened farm → Tells before.readings mid (opened ∷ [])
-      → AnswersForm form status farm begun after call (λ ts. GoesOnOver tells faults farm ts middle now) holds
+      → AnswersForm form status farm begun after call (λ ts. GoesOnOver commits tells held left faults farm ts middle now) holds
       → (status ≡ exit.ReadFailed → HasRisen before.read_faults after.read_faults) → (status ≡ exit.WriteFailed → HasRisen before.write_faults after.write_faults)
-      → IsCall words status before after (opened_call opened call) says bad same untouched (GoesOnOpened tells faults given now) holds
+      → IsCall words status before after (opened_call opened call) says bad same untouched (GoesOnOpened commits tells held left faults given now) holds
   called_opened Demo formed opening reads answered read write = called_session Demo tt formed opening reads answered read write
   called_opened (Script store) formed opening reads answered read write = called_session (Script store) tt formed opening reads answered read write
   called_opened (Load n) formed opening reads answered read write =
-      called_load words n status opened farm call before after mid (faults middle) says bad same untouched (GoesOnOpened tells faults given now) holds formed opening reads
+      called_load words n status opened farm call before after mid (faults middle) says bad same untouched (GoesOnOpened commits tells held left faults given now) holds formed opening reads
       (begins.counted ∙ sym was) answered write
 
 -- a load moves nothing but its sink and the keeper

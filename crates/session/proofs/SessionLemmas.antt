@@ -1,5 +1,6 @@
 -- Exchange by exchange, a session is the transcript of its lines.
-use Rattle.std.proofs.Common.{◌≡◌, ◌<◌, ◌^◌, ◌+◌, ℕ, Bool, true≢false, List, [], ◌∷◌, ◌++◌, refl, sym, ap, ◌∙◌, subst, Option, Result, Ok, Err, append_assoc, append-nil, length, length-append}
+use Rattle.std.proofs.Common.{◌≡◌, ◌<◌, ◌^◌, ◌+◌, ℕ, Bool, true≢false, cond, List, [], ◌∷◌, ◌++◌, refl, sym, ap, ◌∙◌, subst, Option, Result, Ok, Err, append_assoc, append-nil, length, length-append}
+use Rattle.std.proofs.lemmas.Bool.{lt-ltb}
 use Rattle.std.proofs.lemmas.List.{map-append}
 use Rattle.std.proofs.lemmas.List.Elements.{All-push}
 use Rattle.cue_io.specs.declared.line.LineFault.{LineFault}
@@ -10,14 +11,17 @@ use Rattle.cue_io.specs.Output.{Adds, Adds-append}
 use Rattle.cue_io.specs.Readings.{Tells, Tells-append}
 use Rattle.cue_io.specs.Reader.{Held, Given, Whole, Long, AtEnd, Goes}
 use Rattle.cue_io.specs.declared.limits.TheConstants.{BYTE_LIMIT}
+use Rattle.farm_types.specs.declared.entry.Entry.{Entry}
 use Rattle.farm_types.specs.Farm.{Farm}
+use Rattle.farm_lines.specs.declared.reply.Reply.TheVariants.{TooLong}
+use Rattle.farm_lines.specs.Request.{request_of}
 use Rattle.farm_lines.specs.Reply.{reply_text}
-use Rattle.farm_lines.specs.Transcript.{Mark, Plain, Exchange, answer_to, answer_at, farm_next, farm_after, is_store_mark, transcript, lines_in, moments_in}
+use Rattle.farm_lines.specs.Transcript.{Mark, Plain, Exchange, answer_to, answer_at, farm_next, farm_after, is_store_mark, only_reply, request_answer, unless_memory, transcript, lines_in, moments_in}
 use Rattle.session.specs.declared.exchanged.Exchanged.{Exchanged}
 use Rattle.session.specs.declared.exchanged.Exchanged.TheVariants as exchanged
-use Rattle.line_answers.specs.LineAnswers.{IsAnswer, IsMarked}
+use Rattle.line_answers.specs.LineAnswers.{Going, IsAnswer, IsMarked}
 use Rattle.recorder.specs.Recording.{ChangesNone}
-use Rattle.session.specs.Sessions.{Answers, AreMarked, Call, EndsSession, HasAnswered, HasLines, HasMoved, HasReplies, HasServed, IsExchange, IsNoExchange, IsStep, MayStand, StaysAt, Streams}
+use Rattle.session.specs.Sessions.{Answers, AreMarked, Call, EndsSession, HasAnswered, HasLines, HasMoved, HasReplies, HasServed, IsExchange, IsNoExchange, IsStep, MayStand, StaysAt, Streams, entries_by}
 use Rattle.farm_lines.specs.declared.limits.TheConstants.{LINE_LIMIT}
 
 -- ---- one exchange more
@@ -47,19 +51,20 @@ are_marked-append f (u ∷ ts) t marked may = (marked.0, are_marked-append (farm
 -- ---- an exchange in a session
 
 -- how the keeper went on over a line, of which the mark is this one
-record StaysOn (f : Farm) (t : Exchange) (goes : Bool → Type 0) (same : Type 0) : Type 0 where
-  keeper : goes (is_store_mark t.mark)
+record StaysOn (f : Farm) (t : Exchange) (goes : Going) (same : Type 0) : Type 0 where
+  keeper : goes (answer_to f t.line t.moment Plain).entries (answer_at f t).entries (is_store_mark t.mark)
   stays : ChangesNone f (answer_to f t.line t.moment Plain).entries → same
 
 -- what the keeper did over one exchange more, after those before
-abbrev pub GoesOnBy : Farm → (Bool → Type 0) → Type 0 → (List Exchange → Type 0) → (List Exchange → Type 0) → Type 0
-GoesOnBy first goes same before now =
-    (ts : List Exchange) (t : Exchange) → before ts → goes (is_store_mark t.mark)
-    → (ChangesNone (farm_after first ts) (answer_to (farm_after first ts) t.line t.moment Plain).entries → same) → now (ts ++ t ∷ [])
+abbrev pub GoesOnBy : Farm → Farm → Going → Type 0 → (List Exchange → Type 0) → (List Exchange → Type 0) → Type 0
+GoesOnBy first f goes same before now =
+    (ts : List Exchange) (t : Exchange) → before ts → f ≡ farm_after first ts
+    → goes (answer_to f t.line t.moment Plain).entries (answer_at f t).entries (is_store_mark t.mark)
+    → (ChangesNone f (answer_to f t.line t.moment Plain).entries → same) → now (ts ++ t ∷ [])
 
 -- the farm, the text, the reading, the mark and the keeper of one exchange more
-answered_more : (first : Farm) (exchanges : List Exchange) (farm : Farm) (wrote seen : List ℕ) (t : Exchange) (after : Farm) (reply : List ℕ) (goes : Bool → Type 0) (same : Type 0)
-    (before now : List Exchange → Type 0) → GoesOnBy first goes same before now → HasAnswered first exchanges farm wrote seen before → t.moment < 2 ^ 64
+answered_more : (first : Farm) (exchanges : List Exchange) (farm : Farm) (wrote seen : List ℕ) (t : Exchange) (after : Farm) (reply : List ℕ) (goes : Going) (same : Type 0)
+    (before now : List Exchange → Type 0) → GoesOnBy first farm goes same before now → HasAnswered first exchanges farm wrote seen before → t.moment < 2 ^ 64
     → IsAnswer farm (answer_at farm t) after reply → IsMarked farm t.line t.moment t.mark → StaysOn farm t goes same
     → HasAnswered first (exchanges ++ t ∷ []) after (wrote ++ reply) (seen ++ t.moment ∷ []) now
 answered_more first exchanges farm wrote seen t after reply goes same before now on answered low answer may stays = record {
@@ -70,47 +75,60 @@ answered_more first exchanges farm wrote seen t after reply goes same before now
   moments = ap (λ moments. moments ++ t.moment ∷ []) answered.moments ∙ sym (moments_in-append exchanges t);
   within = All-push (λ (t : Exchange). t.moment < 2 ^ 64) exchanges t answered.within low;
   marked = are_marked-append first exchanges t answered.marked (subst (λ (g : Farm). IsMarked g t.line t.moment t.mark) answered.farm_is may);
-  keeper = on exchanges t answered.keeper stays.keeper
-      (subst (λ (g : Farm). ChangesNone g (answer_to g t.line t.moment Plain).entries → same) answered.farm_is stays.stays);
+  keeper = on exchanges t answered.keeper answered.farm_is stays.keeper stays.stays;
 }
 
--- the line that was given, its answer, its mark, and that the keeper is as before where it asks for nothing that changes a row
-record IsLineGiven (taken : List ℕ) (lines : List (List ℕ)) (reader : Held) (left : Option (List ℕ)) (old new : Farm) (moment : ℕ) (mark : Mark) (reply : List ℕ) (same : Type 0) :
-    Type 0 where
+-- the line that was given, its answer, its mark, how the keeper went on, and that it is as before where the line asks for nothing that changes a row
+record IsLineGiven (taken : List ℕ) (lines : List (List ℕ)) (reader : Held) (left : Option (List ℕ)) (old new : Farm) (moment : ℕ) (mark : Mark) (reply : List ℕ) (goes : Going)
+    (same : Type 0) : Type 0 where
   line : List ℕ
   given : HasGiven LINE_LIMIT taken (lines ++ line ∷ []) reader left
   answer : IsAnswer old (answer_to old line moment mark) new reply
   may_stand : IsMarked old line moment mark
+  keeper : goes (answer_to old line moment Plain).entries (answer_to old line moment mark).entries (is_store_mark mark)
   stays : ChangesNone old (answer_to old line moment Plain).entries → same
 
+-- a line that is too long makes no entry
+none_of_long : (f : Farm) (line : List ℕ) (moment : ℕ) (mark : Mark) → LINE_LIMIT < length line → (answer_to f line moment mark).entries ≡ []
+unfolding answer_to
+none_of_long f line moment mark long =
+    ap (λ (b : Bool). (cond b (only_reply TooLong) (unless_memory mark (request_answer f moment mark (request_of line)))).entries) (lt-ltb LINE_LIMIT (length line) long)
+
 line_of_exchange : (given : Given) (taken : List ℕ) (lines : List (List ℕ)) (reader : Held) (left : Option (List ℕ)) (old new : Farm) (moment : ℕ) (mark : Mark) (reply : List ℕ)
-    (same : Type 0) → Continues LINE_LIMIT taken lines (Ok given) reader left → Answers given old moment mark new reply → MayStand given old moment mark
-    → StaysAt given old moment same → IsLineGiven taken lines reader left old new moment mark reply same
-line_of_exchange (Whole line) taken lines reader left old new moment mark reply same continues answers may stays =
-    record { line = line; given = continues.1; answer = answers; may_stand = may; stays = stays }
-line_of_exchange Long taken lines reader left old new moment mark reply same continues answers may stays = record {
-  line = continues.0;
-  given = continues.2;
-  answer = answers continues.0 continues.1;
-  may_stand = λ is. absurd (true≢false (sym is ∙ may));
-  stays = λ none. stays;
-}
-line_of_exchange AtEnd taken lines reader left old new moment mark reply same continues answers may stays = absurd answers
+    (goes : Going) (same : Type 0) → Continues LINE_LIMIT taken lines (Ok given) reader left → Answers given old moment mark new reply → MayStand given old moment mark
+    → goes (entries_by given old moment Plain) (entries_by given old moment mark) (is_store_mark mark) → StaysAt given old moment same
+    → IsLineGiven taken lines reader left old new moment mark reply goes same
+line_of_exchange (Whole line) taken lines reader left old new moment mark reply goes same continues answers may keeper stays =
+    record { line = line; given = continues.1; answer = answers; may_stand = may; keeper = keeper; stays = stays }
+line_of_exchange Long taken lines reader left old new moment mark reply goes same continues answers may keeper stays =
+    let line = continues.0 in
+    let nothing : (m : Mark) → (answer_to old line moment m).entries ≡ [] = λ m. none_of_long old line moment m continues.1 in
+    record {
+      line = line;
+      given = continues.2;
+      answer = answers line continues.1;
+      may_stand = λ is. absurd (true≢false (sym is ∙ may));
+      keeper =
+          subst (λ (es : List Entry). goes es (answer_to old line moment mark).entries (is_store_mark mark)) (sym (nothing Plain))
+          (subst (λ (es : List Entry). goes [] es (is_store_mark mark)) (sym (nothing mark)) keeper);
+      stays = λ none. stays;
+    }
+line_of_exchange AtEnd taken lines reader left old new moment mark reply goes same continues answers may keeper stays = absurd answers
 
 -- one exchange more: what was written of its reply, and what wasn't, is its text
 served_more : (first : Farm) (call : Call) (farm after : Farm) (reader new : Held) (left left' : Option (List ℕ)) (taken' : List ℕ)
-    (given : Given) (w u s : List ℕ) (goes : Bool → Type 0) (same : Type 0) (before now : List Exchange → Type 0) → GoesOnBy first goes same before now
+    (given : Given) (w u s : List ℕ) (goes : Going) (same : Type 0) (before now : List Exchange → Type 0) → GoesOnBy first farm goes same before now
     → HasServed first call farm reader left before → Continues LINE_LIMIT taken' (lines_in call.exchanges) (Ok given) new left'
     → IsExchange given farm after w u s goes same
     → (t : Exchange) × HasServed first (record { taken = taken'; written = call.written ++ (w ++ u); readings = call.readings ++ s; exchanges = call.exchanges ++ t ∷ [] }) after new left' now
     × (w ++ u ≡ reply_text (answer_at (farm_after first call.exchanges) t).reply ++ 10 ∷ [])
 served_more first call farm after reader new left left' taken' given w u s goes same before now on served continues exchange =
-    let found = line_of_exchange given taken' (lines_in call.exchanges) new left' farm after exchange.moment exchange.mark exchange.reply same continues exchange.answers exchange.may_stand
-    exchange.stays in
+    let found = line_of_exchange given taken' (lines_in call.exchanges) new left' farm after exchange.moment exchange.mark exchange.reply goes same continues exchange.answers
+    exchange.may_stand exchange.keeper exchange.stays in
     let t : Exchange = record { line = found.line; moment = exchange.moment; mark = exchange.mark } in
     let answered : HasAnswered first (call.exchanges ++ t ∷ []) after (call.written ++ exchange.reply) (call.readings ++ exchange.moment ∷ []) now
     = answered_more first call.exchanges farm call.written call.readings t after exchange.reply goes same before now on served.answered exchange.moment_within found.answer found.may_stand
-    (record { keeper = exchange.keeper; stays = found.stays }) in (
+    (record { keeper = found.keeper; stays = found.stays }) in (
       t,
       record {
         answered = subst (λ (bytes : List ℕ). HasAnswered first (call.exchanges ++ t ∷ []) after (call.written ++ bytes) (call.readings ++ s) now)
@@ -134,8 +152,8 @@ moved_more before mid after call took w s exchanges moved takes adds tells = rec
   readings = Tells-append before.readings mid.readings after.readings call.readings s moved.readings tells;
 }
 
-module _ (first : Farm) (call : Call) (farm after : Farm) (reader new : Held) (left left' : Option (List ℕ)) (took w s : List ℕ) (goes : Bool → Type 0) (same : Type 0)
-    (before now : List Exchange → Type 0) (on : GoesOnBy first goes same before now) (quietly : (ts : List Exchange) → same → before ts → now ts)
+module _ (first : Farm) (call : Call) (farm after : Farm) (reader new : Held) (left left' : Option (List ℕ)) (took w s : List ℕ) (goes : Going) (same : Type 0)
+    (before now : List Exchange → Type 0) (on : GoesOnBy first farm goes same before now) (quietly : (ts : List Exchange) → same → before ts → now ts)
     (served : HasServed first call farm reader left before) (takes : Takes left left' took) where
   -- what is taken, written and read after the step, with these exchanges
   abbrev more_of : List Exchange → Call

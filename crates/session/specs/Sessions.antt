@@ -1,9 +1,9 @@
 -- What a whole call does: what it took, wrote and read of the clock, the exchanges that it made, and how it ended.
-use Rattle.std.specs.Prelude.{◌≡◌, ◌↔◌, ◌<◌, ◌+◌, ◌^◌, ◌++◌, ◌∷◌, [], ◌⊎◌, ℕ, Bool, List, true, false, count_by, length, take, Option, Some, Result, Ok, Err}
+use Rattle.std.specs.Prelude.{◌≡◌, ◌↔◌, ◌<◌, ◌^◌, ◌++◌, ◌∷◌, [], ◌⊎◌, ℕ, Bool, List, true, false, count_by, length, take, Option, Some, Result, Ok, Err}
 use Rattle.std.specs.List.{All}
 use Rattle.cue_io.specs.declared.line.LineFault.{LineFault}
 use Rattle.cue_io.specs.declared.line.LineFault.TheVariants as line_fault
-use Rattle.cue_io.specs.Faults.{HasRisen}
+use Rattle.fault_counts.specs.Counts.{HasRisen, HasRisenBy}
 use Rattle.cue_io.specs.History.{AreAllLines, AreFirstLines, HasGiven, IsUnfinished}
 use Rattle.cue_io.specs.Input.{IsAtEnd, Takes}
 use Rattle.cue_io.specs.Output.{Adds}
@@ -14,12 +14,14 @@ use Rattle.command_line.specs.declared.status.Status.{Status}
 use Rattle.command_line.specs.declared.status.Status.TheVariants as exit
 use Rattle.farm_types.specs.Farm.{Farm}
 use Rattle.farm_types.specs.Run.{IsLegal, IsSafe, run_of}
-use Rattle.farm_keeper.specs.Faults.{last_count}
-use Rattle.farm_keeper.specs.Keeping.{Continues}
+use Rattle.farm_keeper.specs.Keeping.{Committing, Continues}
+use Rattle.farm_keeper.specs.Rows.{Rows}
+use Rattle.farm_types.specs.declared.entry.Entry.{Entry}
 use Rattle.farm_lines.specs.Reply.{bad_store_line, reply_text}
 use Rattle.farm_lines.specs.Transcript.{Mark, Plain, Exchange, answer_at, answer_to, transcript, farm_after, farm_next, entries_in, is_store_mark, lines_in, moments_in}
-use Rattle.line_answers.specs.LineAnswers.{IsAnswer, IsMarked}
+use Rattle.line_answers.specs.LineAnswers.{Going, IsAnswer, IsMarked}
 use Rattle.recorder.specs.Recording.{ChangesNone}
+use Rattle.recorder.specs.Telling.{GoesOn, Tells as TellsKeeper}
 use Rattle.recovery.specs.declared.fault.RecoverFault.{RecoverFault}
 use Rattle.recovery.specs.declared.fault.RecoverFault.TheVariants.{BadBytes, BreaksFarm, NoMemory}
 use Rattle.session.specs.declared.exchanged.Exchanged.{Exchanged}
@@ -27,6 +29,7 @@ use Rattle.session.specs.declared.exchanged.Exchanged.TheVariants as exchanged
 use Rattle.session.specs.declared.opening.OpenFault.{OpenFault}
 use Rattle.session.specs.declared.opening.OpenFault.TheVariants as fault
 use Rattle.session.specs.Loads.{AnswersLoad}
+use Rattle.session.specs.Opening.{HoldsFarm}
 use Rattle.session.specs.Words.{WordForm, Load, TakesLines, form_of, is_load, opened_farm, opening_entries}
 use Rattle.farm_lines.specs.declared.limits.TheConstants.{LINE_LIMIT}
 
@@ -48,9 +51,14 @@ abbrev pub StaysAt : Given → Farm → ℕ → Type 0 → Type 0
 StaysAt (Whole line) f moment same = ChangesNone f (answer_to f line moment Plain).entries → same
 StaysAt other f moment same = same
 
+-- the entries of what was given, by the mark: none of a line that is too long
+abbrev pub entries_by : Given → Farm → ℕ → Mark → List Entry
+entries_by (Whole line) f moment mark = (answer_to f line moment mark).entries
+entries_by other f moment mark = []
+
 -- A line was answered, with the clock's reading, a number of 64 bits, and the mark; of the reply's text this was written, and this wasn't. The mark is of
--- the store only where that may be. The keeper went on as the mark says.
-pub record IsExchange (given : Given) (old new : Farm) (wrote unwritten seen : List ℕ) (goes : Bool → Type 0) (same : Type 0) : Type 0 where
+-- the store only where that may be. The keeper went on so, by what is asked and what the mark leaves of it.
+pub record IsExchange (given : Given) (old new : Farm) (wrote unwritten seen : List ℕ) (goes : Going) (same : Type 0) : Type 0 where
   pub moment : ℕ
   pub mark : Mark
   pub reply : List ℕ
@@ -58,7 +66,7 @@ pub record IsExchange (given : Given) (old new : Farm) (wrote unwritten seen : L
   pub read : seen ≡ moment ∷ []
   pub answers : Answers given old moment mark new reply
   pub may_stand : MayStand given old moment mark
-  pub keeper : goes (is_store_mark mark)
+  pub keeper : goes (entries_by given old moment Plain) (entries_by given old moment mark) (is_store_mark mark)
   pub stays : StaysAt given old moment same
   pub written : wrote ++ unwritten ≡ reply
 
@@ -70,7 +78,7 @@ pub record IsNoExchange (old new : Farm) (wrote seen : List ℕ) (same : Type 0)
   pub none_read : seen ≡ []
 
 -- what came of a call of the reader, by what it gave
-abbrev pub Exchanges : Exchanged → Result Given LineFault → Farm → Farm → List ℕ → List ℕ → (Bool → Type 0) → Type 0 → Type 0
+abbrev pub Exchanges : Exchanged → Result Given LineFault → Farm → Farm → List ℕ → List ℕ → Going → Type 0 → Type 0
 Exchanges exchanged.Went answer old new wrote seen goes same = (given : Given) × (answer ≡ Ok given) × IsExchange given old new wrote [] seen goes same
 Exchanges exchanged.Write answer old new wrote seen goes same =
     (given : Given) × (unwritten : List ℕ) × (answer ≡ Ok given) × (0 < length unwritten) × IsExchange given old new wrote unwritten seen goes same
@@ -87,7 +95,7 @@ Sends exchanged.Read text wrote = ⊥
 Sends exchanged.Spent text wrote = ⊥
 
 -- one step: what the reader did with the bytes taken, and what was done with what it gave
-pub record IsStep (result : Exchanged) (old new : Held) (unread : Option (List ℕ)) (before after : Farm) (took wrote seen : List ℕ) (goes : Bool → Type 0)
+pub record IsStep (result : Exchanged) (old new : Held) (unread : Option (List ℕ)) (before after : Farm) (took wrote seen : List ℕ) (goes : Going)
     (same : Type 0) : Type 0 where
   pub answer : Result Given LineFault
   pub moves : Goes old took answer new
@@ -133,26 +141,38 @@ abbrev pub AreMarked : Farm → List Exchange → Type 0
 AreMarked f [] = Unit {0}
 AreMarked f (t ∷ ts) = IsMarked f t.line t.moment t.mark × AreMarked (farm_next f t) ts
 
--- The count of the keeper's faults rose by exactly so many, or stands at its last value.
-abbrev pub HasRisenBy : ℕ → ℕ → ℕ → Type 0
-HasRisenBy marks faults faults_now = (faults_now ≡ faults + marks) ⊎ (faults_now ≡ last_count)
-
 -- ---- the keeper, line by line
 
--- How a keeper went on over one line: its count of faults is one more exactly where the line's mark is of the store; and it is as before where nothing
--- that the line asks changes a row.
-pub record GoesOnAt {K : Type 0} (tells : K → Type 0) (faults : K → ℕ) (f : Farm) (t : Exchange) (before now : K) : Type 0 where
+-- how a keeper went on over what was asked, and, where it tells the truth, that it holds the rows of what was recorded
+pub record WentOn {K : Type 0} (commits : Committing K) (tells : K → Type 0) (holds left : K → Rows → Type 0) (faults : K → ℕ) (f : Farm) (before now : K)
+    (all done : List Entry) (failed : Bool) : Type 0 where
+  pub on : GoesOn commits tells faults f before now all done failed
+  pub recorded : HoldsFarm (tells now) (holds now) (left now) (run_of f done)
+
+-- How a keeper went on over one line. Its count of faults is one more exactly where the line's mark is of the store. It is as before where nothing that
+-- the line asks changes a row. It was told what was recorded, entry by entry, and took it, and of what else the line asks the next entry at most: it failed
+-- at that one exactly where the mark is of the store. Then it holds the rows of the farm after the line, and a stop leaves these, or those of that farm one
+-- legal entry further.
+pub record GoesOnAt {K : Type 0} (commits : Committing K) (tells : K → Type 0) (holds left : K → Rows → Type 0) (faults : K → ℕ) (f : Farm) (t : Exchange)
+    (before now : K) : Type 0 where
   pub keeper : Continues tells faults before now (is_store_mark t.mark)
   pub stays : ChangesNone f (answer_to f t.line t.moment Plain).entries → now ≡ before
+  pub told : TellsKeeper commits f (answer_to f t.line t.moment Plain).entries (answer_at f t).entries (is_store_mark t.mark) before now
+  pub recorded : HoldsFarm (tells now) (holds now) (left now) (farm_next f t)
 
 -- over lines in turn, each with the keeper as the next line finds it
-abbrev pub GoesOnOver : {K : Type 0} → (K → Type 0) → (K → ℕ) → Farm → List Exchange → K → K → Type 0
-GoesOnOver tells faults f [] before now = now ≡ before
-GoesOnOver {K = K} tells faults f (t ∷ ts) before now = (next : K) × GoesOnAt tells faults f t before next × GoesOnOver tells faults (farm_next f t) ts next now
+abbrev pub GoesOnOver : {K : Type 0} → Committing K → (K → Type 0) → (K → Rows → Type 0) → (K → Rows → Type 0) → (K → ℕ) → Farm → List Exchange → K → K → Type 0
+GoesOnOver commits tells holds left faults f [] before now = now ≡ before
+GoesOnOver {K = K} commits tells holds left faults f (t ∷ ts) before now =
+    (next : K) × GoesOnAt commits tells holds left faults f t before next × GoesOnOver commits tells holds left faults (farm_next f t) ts next now
 
--- from the opening of a farm on, in which no call of it failed
-abbrev pub GoesOnOpened : {K : Type 0} → (K → Type 0) → (K → ℕ) → K → K → Farm → List Exchange → Type 0
-GoesOnOpened {K = K} tells faults given now f ts = (opened : K) × Continues tells faults given opened false × GoesOnOver tells faults f ts opened now
+-- from the opening of a farm on, in which no call of it failed, and which it recorded
+pub record GoesOnOpened {K : Type 0} (commits : Committing K) (tells : K → Type 0) (holds left : K → Rows → Type 0) (faults : K → ℕ) (given now : K) (f : Farm)
+    (ts : List Exchange) : Type 0 where
+  pub opened : K
+  pub begins : Continues tells faults given opened false
+  pub recorded : HoldsFarm (tells opened) (holds opened) (left opened) f
+  pub lines : GoesOnOver commits tells holds left faults f ts opened now
 
 -- ---- a whole session
 

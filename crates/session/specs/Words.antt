@@ -1,5 +1,5 @@
 -- The words that the program is given, and the farm that they open.
-use Rattle.std.specs.Prelude.{ℕ, Bool, true, false, List, [], ◌∷◌, ◌&&◌, codes, bytes_eq, Option, None, Some, option_map, option_and_then, if◌then◌else◌}
+use Rattle.std.specs.Prelude.{ℕ, Bool, true, false, List, [], ◌∷◌, codes, bytes_eq, Option, None, Some, option_map, option_and_then, if◌then◌else◌}
 use Rattle.farm_types.specs.declared.entry.Entry.{Entry}
 use Rattle.farm_types.specs.declared.entry.Act.TheVariants as act
 use Rattle.farm_types.specs.Farm.{Farm}
@@ -34,13 +34,27 @@ number_between least most text = option_and_then (checked_between least most) (n
 abbrev pub load_form : List ℕ → Option WordForm
 load_form number = option_map Load (number_between 1 MOST_LOAD number)
 
--- the valid words: `demo`, `script :memory:`, and `load` with a number from 1 to 5,000
+-- any store but the empty word
+abbrev pub script_form : List ℕ → Option WordForm
+script_form store = if bytes_eq store (codes "") then None else Some (Script store)
+
+-- the valid words: `demo`, `script` with a store, and `load` with a number from 1 to 5,000
 abbrev pub form_of : List (List ℕ) → Option WordForm
 form_of (word ∷ []) = if bytes_eq word (codes "demo") then Some Demo else None
 form_of (word ∷ second ∷ []) =
-    if bytes_eq word (codes "script") && bytes_eq second (codes ":memory:") then Some (Script second)
+    if bytes_eq word (codes "script") then script_form second
     else (if bytes_eq word (codes "load") then load_form second else None)
 form_of words = None
+
+-- the file of a store: any but the one in memory
+abbrev pub file_at : List ℕ → Option (List ℕ)
+file_at store = if bytes_eq store (codes ":memory:") then None else Some store
+
+-- the file that keeps the farm
+abbrev pub file_of : WordForm → Option (List ℕ)
+file_of Demo = None
+file_of (Script store) = file_at store
+file_of (Load n) = None
 
 -- the scheduler was opened at that moment
 abbrev pub opened_entry : ℕ → Entry

@@ -1,13 +1,12 @@
 //! One exchange: a line is read, answered, and its reply written.
 
 ghost use Rattle.std.specs.Prelude.{◌≡◌, ◌≤◌, ℕ, List};
-ghost use Rattle.cue_io.specs.Faults.{HasRisen};
+ghost use Rattle.fault_counts.specs.Counts.{HasRisen};
 ghost use Rattle.cue_io.specs.Input.{Takes};
 ghost use Rattle.cue_io.specs.Output.{Adds};
 ghost use Rattle.cue_io.specs.Reader.{IsPending};
 ghost use Rattle.cue_io.specs.Readings.{Tells};
-ghost use Rattle.farm_keeper.specs.Keeping.{Continues};
-ghost use Rattle.session.specs.Sessions.{IsStep, Sends};
+ghost use Rattle.session.specs.Sessions.{IsStep, Sends, WentOn};
 ghost use Rattle.line_answers.specs.Lines.{shown};
 ghost use Rattle.farm_lines.specs.declared.limits.TheConstants.{LINE_LIMIT};
 
@@ -32,7 +31,8 @@ pub fn exchange<S: Source, W: Sink, K: Keeper, C: Clock>(
     ensures step { (took wrote seen : List ℕ) × Takes (S.left source.old) (S.left source.new) took × Adds (W.written sink.old) (W.written sink.new) wrote
         × Tells (C.readings clock.old) (C.readings clock.new) seen
         × IsStep result reader.old reader.new (S.left source.new) recorder.old.farm recorder.new.farm took wrote seen
-        (Continues K.tells K.faults recorder.old.keeper recorder.new.keeper) (recorder.new.keeper ≡ recorder.old.keeper) }
+        (WentOn K.commits K.tells K.holds K.left K.faults recorder.old.farm recorder.old.keeper recorder.new.keeper)
+        (recorder.new.keeper ≡ recorder.old.keeper) }
     ensures read { result ≡ Exchanged.Read → HasRisen (S.faults source.old) (S.faults source.new) }
     ensures write { result ≡ Exchanged.Write → HasRisen (W.faults sink.old) (W.faults sink.new) }
     ensures source { S.faults source.old ≤ S.faults source.new }
@@ -42,11 +42,13 @@ pub fn exchange<S: Source, W: Sink, K: Keeper, C: Clock>(
         Ok(Line::Bytes(line)) => {
             let moment = clock.now();
             let reply = answer_line(alloc, recorder, line, moment);
+            recorder.recorded();
             send(sink, &reply)
         }
         Ok(Line::TooLong) => {
             let _moment = clock.now();
             lines_are_answered_by_what_they_ask();
+            recorder.recorded();
             send(sink, &ReplyLine::TooLong)
         }
         Ok(Line::End) => Exchanged::End,

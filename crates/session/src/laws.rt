@@ -1,16 +1,19 @@
-//! The law of stops. Its functions do nothing: their contracts are the law.
+//! The laws of stops and of faults of the store. The functions do nothing: their contracts are the laws.
 
-ghost use Rattle.std.specs.Prelude.{◌≡◌, ◌<◌, ◌^◌, ℕ, List, Ok};
+ghost use Rattle.std.specs.Prelude.{◌≡◌, ◌<◌, ◌^◌, ⊤, true, ℕ, List, Ok};
 ghost use Rattle.std.specs.List.{All};
 ghost use Rattle.farm_keeper.specs.declared.row.Row.{Row};
+ghost use Rattle.farm_keeper.specs.Keeping.{MayRemain};
+ghost use Rattle.farm_keeper.specs.Memory.{Commits, Kept};
 ghost use Rattle.farm_keeper.specs.Rows.{Lists, Rows};
-ghost use Rattle.farm_lines.specs.Transcript.{Exchange, farm_after};
+ghost use Rattle.farm_lines.specs.Transcript.{Exchange, farm_after, is_store_mark};
 ghost use Rattle.farm_types.specs.Farm.{Farm, empty_farm};
 ghost use Rattle.farm_types.specs.Kept.{IsKeptFarm};
 ghost use Rattle.farm_types.specs.Run.{IsLegal};
 ghost use Rattle.recorder.specs.Recording.{MayBe};
 ghost use Rattle.recovery.specs.Recovered.{recovered};
-ghost use Rattle.session.specs.Stops.{IsOpenedAgain};
+ghost use Rattle.session.specs.Sessions.{GoesOnAt};
+ghost use Rattle.session.specs.Stops.{IsOpenedAgain, has_just_failed};
 ghost use Rattle.session.specs.Words.{WordForm, opened_farm, opening_entries};
 
 use depend_law::legal_runs_keep_farms;
@@ -45,3 +48,11 @@ pub fn stops_keep_acknowledged_lines()
     rows_recovered_are_the_farms();
     sessions_are_legal();
 }
+
+/// Over a keeper in memory the last call up to the end of a line whose reply is by a mark of the store is one of those that were to fail. So no such
+/// reply can stand at a line of which the store took what was asked.
+pub fn store_marks_stand_at_failed_calls()
+    ensures { (f : Farm) (t : Exchange) (before now : Kept)
+        → GoesOnAt Commits (λ (_ : Kept). ⊤) (λ (k : Kept) rows. rows ≡ k.rows) (λ (k : Kept). MayRemain k.rows k.refused) (λ (k : Kept). k.plan.faults)
+        f t before now → is_store_mark t.mark ≡ true → has_just_failed now.plan ≡ true }
+{}

@@ -13,7 +13,9 @@ mod serve;
 mod word_forms;
 mod words;
 
-pub use laws::{stops_keep_acknowledged_lines, stops_keep_farms};
+pub use laws::{
+    stops_keep_acknowledged_lines, stops_keep_farms, store_marks_stand_at_failed_calls,
+};
 pub use program::run_program;
 pub use run::run_cuebot;
 pub use word_forms::form;

@@ -1,7 +1,7 @@
 //! The run of a load over a farm that was opened.
 
 ghost use Rattle.std.specs.Prelude.{◌≡◌, ℕ, List};
-ghost use Rattle.cue_io.specs.Faults.{HasRisen};
+ghost use Rattle.fault_counts.specs.Counts.{HasRisen};
 ghost use Rattle.cue_io.specs.Output.{Adds};
 ghost use Rattle.farm_gen.specs.Load.{IsLoad};
 ghost use Rattle.farm_load.specs.Summaries.{summary_text};

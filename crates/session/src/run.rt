@@ -1,10 +1,9 @@
 //! The top call of the program `cuebot`.
 
 ghost use Rattle.std.specs.Prelude.{◌≡◌, ◌↔◌, ℕ, List, None, Some};
-ghost use Rattle.cue_io.specs.Faults.{HasRisen};
+ghost use Rattle.fault_counts.specs.Counts.{HasRisen};
 ghost use Rattle.cue_io.specs.Output.{Adds};
 ghost use Rattle.cue_io.specs.Reader.{new_reader};
-ghost use Rattle.farm_keeper.specs.Faults as keeper_faults;
 ghost use Rattle.farm_lines.specs.Reply.{bad_store_line};
 ghost use Rattle.farm_lines.specs.declared.limits.TheConstants.{LINE_LIMIT};
 ghost use Rattle.session.specs.Opening.{BeginsBad, BeginsWith, HoldsFarm, IsUntouched, MayOpen};
@@ -60,10 +59,10 @@ pub fn run_cuebot<S: Source, W: Sink, K: Keeper, C: Clock>(
         (streams (S.left source.new) (S.faults source.new) (W.written sink.new) (W.faults sink.new) (C.readings clock.new) (K.faults result.1)) call
         (λ form. BeginsWith form (K.tells result.1) (K.holds keeper)) (λ form. BeginsBad form (K.tells result.1) (K.holds keeper))
         (result.1 ≡ keeper) (K.tells result.1 → IsUntouched (K.holds keeper) (K.left keeper) (K.holds result.1) (K.left result.1))
-        (GoesOnOpened K.tells K.faults keeper result.1) (HoldsFarm (K.tells result.1) (K.holds result.1) (K.left result.1)) }
+        (GoesOnOpened K.commits K.tells K.holds K.left K.faults keeper result.1) (HoldsFarm (K.tells result.1) (K.holds result.1) (K.left result.1)) }
 
     // A fault of the store, a failed read or a failed write is told only where the keeper's, the source's or the sink's count of faults rose in this call.
-    ensures store { result.0 ≡ Status.StoreFailed → keeper_faults.HasRisen (K.faults keeper) (K.faults result.1) }
+    ensures store { result.0 ≡ Status.StoreFailed → HasRisen (K.faults keeper) (K.faults result.1) }
     ensures read { result.0 ≡ Status.ReadFailed → HasRisen (S.faults source.old) (S.faults source.new) }
     ensures write { result.0 ≡ Status.WriteFailed → HasRisen (W.faults sink.old) (W.faults sink.new) }
 {
@@ -103,12 +102,14 @@ fn answer_opened<S: Source, W: Sink, K: Keeper, C: Clock>(
     ensures answered { (call : Call) × AnswersForm (word_form form.entry) result.0 recorder.farm
         (streams (S.left source.old) (S.faults source.old) (W.written sink.old) (W.faults sink.old) (C.readings clock.old) (K.faults recorder.keeper))
         (streams (S.left source.new) (S.faults source.new) (W.written sink.new) (W.faults sink.new) (C.readings clock.new) (K.faults result.1)) call
-        (λ exchanges. GoesOnOver K.tells K.faults recorder.farm exchanges recorder.keeper result.1)
+        (λ exchanges. GoesOnOver K.commits K.tells K.holds K.left K.faults recorder.farm exchanges recorder.keeper result.1)
         (HoldsFarm (K.tells result.1) (K.holds result.1) (K.left result.1)) }
     ensures told { K.tells result.1 → K.tells recorder.keeper }
+    ensures opened { HoldsFarm (K.tells recorder.keeper) (K.holds recorder.keeper) (K.left recorder.keeper) recorder.farm }
     ensures read { result.0 ≡ Status.ReadFailed → HasRisen (S.faults source.old) (S.faults source.new) }
     ensures write { result.0 ≡ Status.WriteFailed → HasRisen (W.faults sink.old) (W.faults sink.new) }
 {
+    recorder.recorded();
     match form {
         Form::Demo | Form::Script { .. } => {
             answer_all(alloc, recorder, reader, source, sink, clock)
@@ -130,7 +131,7 @@ fn answer_all<S: Source, W: Sink, K: Keeper, C: Clock>(
     ensures answered { (call : Call) × AnswersAll result.0 recorder.farm
         (streams (S.left source.old) (S.faults source.old) (W.written sink.old) (W.faults sink.old) (C.readings clock.old) (K.faults recorder.keeper))
         (streams (S.left source.new) (S.faults source.new) (W.written sink.new) (W.faults sink.new) (C.readings clock.new) (K.faults result.1)) call
-        (λ exchanges. GoesOnOver K.tells K.faults recorder.farm exchanges recorder.keeper result.1)
+        (λ exchanges. GoesOnOver K.commits K.tells K.holds K.left K.faults recorder.farm exchanges recorder.keeper result.1)
         (HoldsFarm (K.tells result.1) (K.holds result.1) (K.left result.1)) }
     ensures told { K.tells result.1 → K.tells recorder.keeper }
     ensures read { result.0 ≡ Status.ReadFailed → HasRisen (S.faults source.old) (S.faults source.new) }

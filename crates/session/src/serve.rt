@@ -1,7 +1,7 @@
 //! A session: exchanges until one ends it.
 
 ghost use Rattle.std.specs.Prelude.{◌≡◌};
-ghost use Rattle.cue_io.specs.Faults.{HasRisen};
+ghost use Rattle.fault_counts.specs.Counts.{HasRisen};
 ghost use Rattle.cue_io.specs.Reader.{new_reader};
 ghost use Rattle.session.specs.Sessions.{Call, EndsSession, GoesOnOver, HasMoved, streams};
 ghost use Rattle.farm_lines.specs.declared.limits.TheConstants.{LINE_LIMIT};
@@ -27,7 +27,7 @@ pub fn serve<S: Source, W: Sink, K: Keeper, C: Clock>(
         (streams (S.left source.old) (S.faults source.old) (W.written sink.old) (W.faults sink.old) (C.readings clock.old) (K.faults recorder.old.keeper))
         (streams (S.left source.new) (S.faults source.new) (W.written sink.new) (W.faults sink.new) (C.readings clock.new) (K.faults recorder.new.keeper)) call
         × EndsSession result recorder.old.farm recorder.new.farm call (S.left source.new)
-        (λ exchanges. GoesOnOver K.tells K.faults recorder.old.farm exchanges recorder.old.keeper recorder.new.keeper) }
+        (λ exchanges. GoesOnOver K.commits K.tells K.holds K.left K.faults recorder.old.farm exchanges recorder.old.keeper recorder.new.keeper) }
     ensures read { result ≡ Exchanged.Read → HasRisen (S.faults source.old) (S.faults source.new) }
     ensures write { result ≡ Exchanged.Write → HasRisen (W.faults sink.old) (W.faults sink.new) }
 {

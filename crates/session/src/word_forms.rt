@@ -2,15 +2,12 @@
 
 ghost use Rattle.std.specs.Prelude.{◌≡◌, option_map};
 ghost use Rattle.std.specs.Option.{IfSome};
-ghost use Rattle.session.specs.Words.{IsWithin, form_of, load_form, word_form};
+ghost use Rattle.session.specs.Words.{IsWithin, form_of, load_form, script_form, word_form};
 
 use crate::number::read_number;
 use crate::words::Form;
 use farm_gen::MOST_LOAD;
 use farm_types::Text;
-
-// The store in memory.
-const MEMORY: &str = ":memory:";
 
 /// The form of the words. None comes exactly where they are invalid.
 pub fn form(words: &[Text]) -> Option<Form<'_>>
@@ -19,12 +16,23 @@ pub fn form(words: &[Text]) -> Option<Form<'_>>
 {
     match words {
         [word] if word.is("demo") => Some(Form::Demo),
-        [word, store] if word.is("script") && store.is(MEMORY) => Some(Form::Script {
-            store: store.as_str(),
-        }),
+        [word, store] if word.is("script") => script_form(store),
         [word, number] if word.is("load") => load_form(number.as_str()),
         _ => None,
     }
+}
+
+// The form of a session over that store. The empty word is none.
+fn script_form(store: &Text) -> Option<Form<'_>>
+    ensures value { option_map word_form result ≡ script_form store.now }
+    ensures within { IfSome result (λ form. IsWithin (word_form form)) }
+{
+    if store.is("") {
+        return None;
+    }
+    Some(Form::Script {
+        store: store.as_str(),
+    })
 }
 
 // The form of a load of that many frames a layer.

@@ -1,12 +1,16 @@
 -- A line that is within the limit or too long is answered.
-use Rattle.std.proofs.Common.{◌≡◌, ◌≤◌, ℕ, Bool, List, [], ◌∷◌, ◌++◌, length, Ok, ap, ◌∙◌, refl, subst, arith}
+use Rattle.std.proofs.Common.{◌≡◌, ◌≤◌, ℕ, List, [], ◌∷◌, ◌++◌, length, Ok, ap, ◌∙◌, refl, subst, arith}
 use Rattle.cue_io.specs.Reader.{Whole, Long, given_by}
 use Rattle.farm_lines.specs.declared.reply.Reply.TheVariants as reply
 use Rattle.farm_lines.specs.Reply.{reply_text}
 use Rattle.farm_keeper.proofs.KeepingLaws.{Continues-same}
-use Rattle.farm_keeper.specs.Keeping.{Continues}
+use Rattle.recorder.specs.Recording.{HasRecorded}
+use Rattle.recorder.specs.Telling.{GoesOn}
+use Rattle.recorder.proofs.Told.{tells_still}
 use Rattle.farm_types.specs.Farm.{Farm}
+use Rattle.line_answers.specs.LineAnswers.{Going}
 use Rattle.line_answers.specs.Lines.{shown}
+use Rattle.session.specs.Sessions.{WentOn}
 use Rattle.session.proofs.ExchangeLemmas.{step_answered, line_fits, answers_long, answers_whole}
 use Rattle.session.proofs.exchange.exchange.Goals as goal
 
@@ -30,11 +34,21 @@ returns-in-Ok-Bytes-clause-step g c =
       c.now-moment.ensures,
       step_answered c.send.result c.next.result (Whole c.in-Ok-Bytes.line.now) c.args.reader.now c.next.follows.lender-at-none (g.S.Source.left c.next.new.source)
           c.args.recorder.now.farm c.answer_line-reply.new.recorder.farm moves.took c.now-moment.result (shown c.answer_line-reply.result) sent.0
-          (Continues g.K.Keeper.tells g.K.Keeper.faults c.args.recorder.now.keeper c.answer_line-reply.new.recorder.keeper)
+          (WentOn g.K.Keeper.commits g.K.Keeper.tells g.K.Keeper.holds g.K.Keeper.left g.K.Keeper.faults c.args.recorder.now.farm c.args.recorder.now.keeper
+          c.answer_line-reply.new.recorder.keeper)
           (c.answer_line-reply.new.recorder.keeper ≡ c.args.recorder.now.keeper) (omega arith) is moves.goes moves.end
           (answers_whole c.in-Ok-Bytes.line.now c.args.recorder.now.farm c.answer_line-reply.new.recorder.farm c.now-moment.result (shown c.answer_line-reply.result)
-          (Continues g.K.Keeper.tells g.K.Keeper.faults c.args.recorder.now.keeper c.answer_line-reply.new.recorder.keeper)
-          (c.answer_line-reply.new.recorder.keeper ≡ c.args.recorder.now.keeper) c.answer_line-reply.ensures.answer c.answer_line-reply.ensures.same) sent.2,
+          (GoesOn g.K.Keeper.commits g.K.Keeper.tells g.K.Keeper.faults c.args.recorder.now.farm c.args.recorder.now.keeper c.answer_line-reply.new.recorder.keeper)
+          (WentOn g.K.Keeper.commits g.K.Keeper.tells g.K.Keeper.holds g.K.Keeper.left g.K.Keeper.faults c.args.recorder.now.farm c.args.recorder.now.keeper
+          c.answer_line-reply.new.recorder.keeper)
+          (c.answer_line-reply.new.recorder.keeper ≡ c.args.recorder.now.keeper)
+          (λ all done failed is goes. record {
+            on = goes;
+            recorded = λ told.
+                subst (λ (f : Farm). HasRecorded (g.K.Keeper.holds c.answer_line-reply.new.recorder.keeper) (g.K.Keeper.left c.answer_line-reply.new.recorder.keeper) f) is
+                (c.recorded.ensures told);
+          })
+          c.answer_line-reply.ensures.answer c.answer_line-reply.ensures.same) sent.2,
     )
 
 pub returns-in-Ok-TooLong-clause-step : goal.returns-in-Ok-TooLong-clause-step
@@ -44,7 +58,7 @@ returns-in-Ok-TooLong-clause-step g c =
     let sent = c.send-in-Ok-TooLong.ensures.sends in
     let f : Farm = c.args.recorder.now.farm in
     let k = c.args.recorder.now.keeper in
-    let goes : Bool → Type 0 = Continues g.K.Keeper.tells g.K.Keeper.faults k k in
+    let goes : Going = WentOn g.K.Keeper.commits g.K.Keeper.tells g.K.Keeper.holds g.K.Keeper.left g.K.Keeper.faults f k k in
     let text : List ℕ = reply_text reply.TooLong ++ 10 ∷ [] in (
       moves.took,
       sent.0,
@@ -55,5 +69,8 @@ returns-in-Ok-TooLong-clause-step g c =
       step_answered c.send-in-Ok-TooLong.result c.next.result Long c.args.reader.now c.next.follows.lender-at-none (g.S.Source.left c.next.new.source)
           f f moves.took c.now-moment-in-Ok-TooLong.result text sent.0 goes (k ≡ k) (omega arith) is moves.goes moves.end
           (answers_long f c.now-moment-in-Ok-TooLong.result text goes (k ≡ k) (λ line. c.lines_are_answered_by_what_they_ask.ensures f line c.now-moment-in-Ok-TooLong.result) refl
-          (Continues-same g.K.Keeper.tells g.K.Keeper.faults k) refl) sent.2,
+          (record {
+            on = record { keeper = Continues-same g.K.Keeper.tells g.K.Keeper.faults k; told = tells_still g.K.Keeper.commits f [] k };
+            recorded = c.recorded-in-Ok-TooLong.ensures;
+          }) refl) sent.2,
     )

@@ -20,7 +20,8 @@ returns-clause-answered g c =
     let after : ℕ → Streams = λ faults. streams (g.S.Source.left c.serve-ended.new.source) (g.S.Source.faults c.serve-ended.new.source) (g.W.Sink.written c.serve-ended.new.sink)
     (g.W.Sink.faults c.serve-ended.new.sink) (g.C.Clock.readings c.serve-ended.new.clock) faults in
     let holds : Farm → Type 0 = HoldsFarm (g.K.Keeper.tells c.close.result) (g.K.Keeper.holds c.close.result) (g.K.Keeper.left c.close.result) in
-    let goes_on : g.row.K.Denot → List Exchange → Type 0 = λ k ts. GoesOnOver g.K.Keeper.tells g.K.Keeper.faults first ts given k in (
+    let goes_on : g.row.K.Denot → List Exchange → Type 0 = λ k ts.
+    GoesOnOver g.K.Keeper.commits g.K.Keeper.tells g.K.Keeper.holds g.K.Keeper.left g.K.Keeper.faults first ts given k in (
       session.0,
       subst (λ (k : g.row.K.Denot). AnswersAll c.status.result first before (after (g.K.Keeper.faults k)) session.0 (goes_on k) holds) (sym c.close.ensures.value)
           (answers_all c.status.result c.serve-ended.result first c.serve-ended.new.recorder.farm before (after (g.K.Keeper.faults left)) session.0 (goes_on left) holds c.status.ensures
@@ -31,5 +32,6 @@ pub returns-clause-told : goal.returns-clause-told
 returns-clause-told g c =
     let session = c.serve-ended.ensures.ends in
     λ tells.
-    over_told g.K.Keeper.tells g.K.Keeper.faults c.args.recorder.farm session.0.exchanges c.args.recorder.keeper c.serve-ended.new.recorder.keeper session.2.keeper
+    over_told g.K.Keeper.commits g.K.Keeper.tells g.K.Keeper.holds g.K.Keeper.left g.K.Keeper.faults c.args.recorder.farm session.0.exchanges
+    c.args.recorder.keeper c.serve-ended.new.recorder.keeper session.2.keeper
     (subst g.K.Keeper.tells c.close.ensures.value tells)

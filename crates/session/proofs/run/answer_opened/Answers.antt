@@ -22,7 +22,9 @@ returns-in-Load-clause-answered g c =
     let faults_now = g.K.Keeper.faults c.answer_load.result.1 in
     let holds : Farm → Type 0
     = HoldsFarm (g.K.Keeper.tells c.answer_load.result.1) (g.K.Keeper.holds c.answer_load.result.1) (g.K.Keeper.left c.answer_load.result.1) in
-    let goes_on : List Exchange → Type 0 = λ ts. GoesOnOver g.K.Keeper.tells g.K.Keeper.faults c.args.recorder.farm ts c.args.recorder.keeper c.answer_load.result.1 in
+    let goes_on : List Exchange → Type 0 = λ ts.
+    GoesOnOver g.K.Keeper.commits g.K.Keeper.tells g.K.Keeper.holds g.K.Keeper.left g.K.Keeper.faults c.args.recorder.farm ts c.args.recorder.keeper
+    c.answer_load.result.1 in
     let before : Streams = streams left read_faults written write_faults readings faults in
     let after : Streams = streams left read_faults written_now write_faults_now readings faults_now in (
       told_call load.0 [],

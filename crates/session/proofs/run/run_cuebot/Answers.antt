@@ -36,8 +36,10 @@ returns-in-Opened-clause-call g c =
     (g.W.Sink.faults c.answer_opened.new.sink)
     (g.C.Clock.readings c.answer_opened.new.clock) (g.K.Keeper.faults c.answer_opened.result.1) in (
       opened_call c.now-moment.result session.0,
-      called_opened g.K.Keeper.tells g.K.Keeper.faults c.args.keeper c.in-Opened.recorder.keeper c.answer_opened.result.1 c.args.words.now c.answer_opened.result.0
-          c.now-moment.result c.in-Opened.recorder.farm session.0 before after (g.C.Clock.readings c.now-moment.new.self) _ _ _ _ _ opens.1 refl refl
+      called_opened g.K.Keeper.commits g.K.Keeper.tells g.K.Keeper.holds g.K.Keeper.left g.K.Keeper.faults c.args.keeper c.in-Opened.recorder.keeper
+          c.answer_opened.result.1 c.args.words.now c.answer_opened.result.0
+          c.now-moment.result c.in-Opened.recorder.farm session.0 before after (g.C.Clock.readings c.now-moment.new.self) _ _ _ _ _ opens.1
+          c.answer_opened.ensures.opened refl refl
           (word_form c.in-Some.form) (sym c.form.ensures.value ∙ ap (option_map word_form) c.in-Some.is)
           (opened_still (g.K.Keeper.tells c.in-Opened.recorder.keeper) (g.K.Keeper.tells c.answer_opened.result.1) (g.K.Keeper.holds c.args.keeper)
           (word_form c.in-Some.form) c.now-moment.result c.in-Opened.recorder.farm

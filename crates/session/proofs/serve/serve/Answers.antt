@@ -1,16 +1,15 @@
 -- Before the first exchange, after one more, and at the last.
 use Rattle.std.proofs.Common.{◌≡◌, [], ◌++◌, ◌<◌, ◌^◌, refl, sym, subst, arith}
 use Rattle.std.proofs.lemmas.List.Elements.{All-nil}
-use Rattle.cue_io.specs.Faults.{HasRisen-earlier}
+use Rattle.fault_counts.proofs.CountLaws.{HasRisen-earlier}
 use Rattle.cue_io.specs.History.{HasGiven, HasGiven-new}
 use Rattle.cue_io.specs.Input.{Takes-none}
 use Rattle.cue_io.specs.Output.{Adds-none}
 use Rattle.cue_io.specs.Reader.{Held}
 use Rattle.cue_io.specs.Readings.{Tells-none}
-use Rattle.farm_keeper.specs.Keeping.{Continues}
 use Rattle.farm_lines.specs.Transcript.{Exchange}
 use Rattle.farm_types.specs.Farm.{Farm}
-use Rattle.session.specs.Sessions.{Call, GoesOnOver, Streams, streams}
+use Rattle.session.specs.Sessions.{Call, GoesOnOver, Streams, WentOn, streams}
 use Rattle.session.proofs.KeeperLemmas.{over_more, over_still}
 use Rattle.session.proofs.SessionLemmas.{moved_more, served_went, served_ended}
 use Rattle.session.proofs.serve.serve.Goals as goal
@@ -47,15 +46,19 @@ exchanges-preserved g c =
     let after : Streams = streams (g.S.Source.left c.exchange.new.source) (g.S.Source.faults c.exchange.new.source) (g.W.Sink.written c.exchange.new.sink)
     (g.W.Sink.faults c.exchange.new.sink) (g.C.Clock.readings c.exchange.new.clock) (g.K.Keeper.faults c.exchange.new.recorder.keeper) in
     let first : Farm = c.args.recorder.now.farm in
+    let commits = g.K.Keeper.commits in
     let tells = g.K.Keeper.tells in
+    let holds = g.K.Keeper.holds in
+    let left = g.K.Keeper.left in
     let faults = g.K.Keeper.faults in
     let k = c.args.recorder.now.keeper in
     let k_mid = c.exchanges.recorder.keeper in
     let k_now = c.exchange.new.recorder.keeper in
     let more = served_went c.args.recorder.now.farm call c.exchanges.recorder.farm c.exchange.new.recorder.farm c.exchanges.reader c.exchange.new.reader
-    (g.S.Source.left c.exchanges.source) (g.S.Source.left c.exchange.new.source) step.0 step.1 step.2 (Continues tells faults k_mid k_now) (k_now ≡ k_mid)
-    (λ exchanges. GoesOnOver tells faults first exchanges k k_mid) (λ exchanges. GoesOnOver tells faults first exchanges k k_now)
-    (over_more tells faults first k k_mid k_now) (over_still tells faults first k k_mid k_now) now.served step.3 step.6 in (
+    (g.S.Source.left c.exchanges.source) (g.S.Source.left c.exchange.new.source) step.0 step.1 step.2 (WentOn commits tells holds left faults c.exchanges.recorder.farm k_mid k_now)
+    (k_now ≡ k_mid)
+    (λ exchanges. GoesOnOver commits tells holds left faults first exchanges k k_mid) (λ exchanges. GoesOnOver commits tells holds left faults first exchanges k k_now)
+    (over_more commits tells holds left faults first c.exchanges.recorder.farm k k_mid k_now) (over_still commits tells holds left faults first k k_mid k_now) now.served step.3 step.6 in (
       record { taken = call.taken ++ step.0; written = call.written ++ step.1; readings = call.readings ++ step.2; exchanges = more.0 },
       record {
         moved = moved_more before mid after call step.0 step.1 step.2 more.0 now.moved step.3 step.4 step.5;
@@ -77,15 +80,19 @@ returns-in_default g c =
     let after : Streams = streams (g.S.Source.left c.exchange.new.source) (g.S.Source.faults c.exchange.new.source) (g.W.Sink.written c.exchange.new.sink)
     (g.W.Sink.faults c.exchange.new.sink) (g.C.Clock.readings c.exchange.new.clock) (g.K.Keeper.faults c.exchange.new.recorder.keeper) in
     let first : Farm = c.args.recorder.now.farm in
+    let commits = g.K.Keeper.commits in
     let tells = g.K.Keeper.tells in
+    let holds = g.K.Keeper.holds in
+    let left = g.K.Keeper.left in
     let faults = g.K.Keeper.faults in
     let k = c.args.recorder.now.keeper in
     let k_mid = c.exchanges.recorder.keeper in
     let k_now = c.exchange.new.recorder.keeper in
     let ended = served_ended c.args.recorder.now.farm call c.exchanges.recorder.farm c.exchange.new.recorder.farm c.exchanges.reader c.exchange.new.reader
-    (g.S.Source.left c.exchanges.source) (g.S.Source.left c.exchange.new.source) step.0 step.1 step.2 (Continues tells faults k_mid k_now) (k_now ≡ k_mid)
-    (λ exchanges. GoesOnOver tells faults first exchanges k k_mid) (λ exchanges. GoesOnOver tells faults first exchanges k k_now)
-    (over_more tells faults first k k_mid k_now) (over_still tells faults first k k_mid k_now) now.served step.3 c.exchange.result c.in_default.not-Went step.6 in
+    (g.S.Source.left c.exchanges.source) (g.S.Source.left c.exchange.new.source) step.0 step.1 step.2 (WentOn commits tells holds left faults c.exchanges.recorder.farm k_mid k_now)
+    (k_now ≡ k_mid)
+    (λ exchanges. GoesOnOver commits tells holds left faults first exchanges k k_mid) (λ exchanges. GoesOnOver commits tells holds left faults first exchanges k k_now)
+    (over_more commits tells holds left faults first c.exchanges.recorder.farm k k_mid k_now) (over_still commits tells holds left faults first k k_mid k_now) now.served step.3 c.exchange.result c.in_default.not-Went step.6 in
     record {
       ends = (
         record { taken = call.taken ++ step.0; written = call.written ++ step.1; readings = call.readings ++ step.2; exchanges = ended.0 },

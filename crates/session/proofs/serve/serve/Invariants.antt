@@ -13,7 +13,8 @@ invariant-exchanges g l = (call : Call) × record {
       (g.K.Keeper.faults l.recorder.keeper))
       call;
   served : HasServed l.fn.recorder.farm call l.recorder.farm l.reader (g.S.Source.left l.source)
-      (λ exchanges. GoesOnOver g.K.Keeper.tells g.K.Keeper.faults l.fn.recorder.farm exchanges l.fn.recorder.keeper l.recorder.keeper);
+      (λ exchanges. GoesOnOver g.K.Keeper.commits g.K.Keeper.tells g.K.Keeper.holds g.K.Keeper.left g.K.Keeper.faults l.fn.recorder.farm exchanges l.fn.recorder.keeper
+      l.recorder.keeper);
   source : g.S.Source.faults l.fn.source ≤ g.S.Source.faults l.source;
   sink : g.W.Sink.faults l.fn.sink ≤ g.W.Sink.faults l.sink;
 }

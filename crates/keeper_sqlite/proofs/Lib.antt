@@ -1,0 +1,13 @@
+mod TextLemmas
+mod KeyLemmas
+mod LeftLemmas
+mod AnswerLemmas
+mod FoundLemmas
+mod PutLemmas
+mod DeleteLemmas
+mod StepLemmas
+mod HoldLemmas
+mod ReadLemmas
+mod CommitLemmas
+mod OverLemmas
+mod TableLemmas

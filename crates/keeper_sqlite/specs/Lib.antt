@@ -1,0 +1,3 @@
+pub mod Remains
+pub mod Table
+pub mod Told
