@@ -8,6 +8,14 @@ use case_text::{
 use farm_types::{Items, Text};
 use std::alloc::Global;
 
+/// Whether each read, each write and each call of the keeper fails in turn.
+#[derive(Clone, Copy, Debug, PartialEq, Eq)]
+pub struct InTurn {
+    pub reads: bool,
+    pub writes: bool,
+    pub keeper_calls: bool,
+}
+
 /// What a session is run over, and what it must write and answer.
 #[derive(Drop)]
 pub struct Case {
@@ -24,8 +32,8 @@ pub struct Case {
     pub rows: ToldRows,
     /// Which calls of the keeper fail, by their number from 1.
     pub failing_keeper_calls: Vec<u64>,
-    /// Whether the session is run again for each call of the keeper, which fails then.
-    pub is_in_turn: bool,
+    /// What the session is run again for, once for each call, which fails then.
+    pub in_turn: InTurn,
     /// The batch that the stop before the session left, of those that the session before was refused, by its number from 1.
     pub refused_batch: Option<u64>,
 }
@@ -43,20 +51,29 @@ impl Case {
             status: 0,
             rows: ToldRows::new(alloc),
             failing_keeper_calls: Vec::new(alloc),
-            is_in_turn: false,
+            in_turn: InTurn {
+                reads: false,
+                writes: false,
+                keeper_calls: false,
+            },
             refused_batch: None,
         }
     }
+}
 
-    // Sets which calls of the keeper fail: those of the numbers, or each one, in a session of its own.
-    fn set_failing_keeper_calls(&mut self, alloc: Global, value: &str) -> Result<(), LineFault> {
-        if value == "each in turn" {
-            self.is_in_turn = true;
-        } else {
-            self.failing_keeper_calls = numbers_of(alloc, value)?;
-        }
-        Ok(())
+// Takes which calls fail: those of the numbers, or each one, in a session of its own.
+fn take_failing(
+    alloc: Global,
+    value: &str,
+    fails: &mut Vec<u64>,
+    in_turn: &mut bool,
+) -> Result<(), LineFault> {
+    if value == "each in turn" {
+        *in_turn = true;
+    } else {
+        *fails = numbers_of(alloc, value)?;
     }
+    Ok(())
 }
 
 impl Told for Case {
@@ -86,12 +103,24 @@ impl Told for Case {
             "reads" => self.reads.most = most_bytes_of(value)?,
             "writes" => self.writes.most = most_bytes_of(value)?,
             "capacity" => self.writes.capacity = bytes_of(value)?,
-            "failing reads" => self.reads.fails = numbers_of(alloc, value)?,
-            "failing writes" => self.writes.fails = numbers_of(alloc, value)?,
+            "failing reads" => {
+                take_failing(alloc, value, &mut self.reads.fails, &mut self.in_turn.reads)?;
+            }
+            "failing writes" => {
+                take_failing(
+                    alloc,
+                    value,
+                    &mut self.writes.fails,
+                    &mut self.in_turn.writes,
+                )?;
+            }
             "clock" => self.clock = numbers_of(alloc, value)?,
             "status" => self.status = status_of(value)?,
             "rows after" => self.rows.set_after(value)?,
-            "failing keeper calls" => return self.set_failing_keeper_calls(alloc, value),
+            "failing keeper calls" => {
+                let fails = &mut self.failing_keeper_calls;
+                take_failing(alloc, value, fails, &mut self.in_turn.keeper_calls)?;
+            }
             "with refused batch" => self.refused_batch = Some(u64::from(number_of(value)?)),
             _ => return Err(LineFault::Malformed),
         }

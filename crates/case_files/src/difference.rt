@@ -5,6 +5,7 @@ use crate::ended::{Ended, run};
 use crate::in_turn::in_turn_difference;
 use crate::row_difference::rows_difference;
 use crate::store::{Left, rows_with};
+use crate::streams_in_turn::{reads_difference, writes_difference};
 use case_text::{line_difference, status_difference, take_lines, take_settings};
 use farm_keeper::Row;
 use farm_types::Items;
@@ -105,7 +106,28 @@ fn case_difference(
     if let Some(found) = rows_difference(alloc, &case.rows, rows, left.rows.as_slice())? {
         return Ok(Some(found));
     }
-    if case.is_in_turn {
+    turns_difference(alloc, case, rows, calls)
+}
+
+// Runs the session again for each call that is to fail in turn, where its keeper made so many calls.
+fn turns_difference(
+    alloc: Global,
+    case: &Case,
+    rows: &[Row],
+    calls: u64,
+) -> Result<Option<String>, AllocError> {
+    let turns = case.in_turn;
+    if turns.reads {
+        if let Some(found) = reads_difference(alloc, case, rows)? {
+            return Ok(Some(found));
+        }
+    }
+    if turns.writes {
+        if let Some(found) = writes_difference(alloc, case, rows)? {
+            return Ok(Some(found));
+        }
+    }
+    if turns.keeper_calls {
         return in_turn_difference(alloc, case, rows, calls);
     }
     Ok(None)

@@ -1,10 +1,10 @@
 //! A session whose keeper fails at each of its calls in turn.
 
 use crate::case::Case;
-use crate::ended::{Ended, run};
+use crate::ended::{Ended, run, run_again};
 use crate::pieces::{cut_before, first_other, line_at, without_line};
 use crate::row_difference::list_difference;
-use crate::store::{Left, rows_with};
+use crate::store::{Left, is_script, rows_with};
 use case_text::{line_difference, shown};
 use command_line::Status;
 use farm_keeper::Row;
@@ -70,8 +70,11 @@ fn unopened_difference(
     if let Some(found) = line_difference(alloc, "reply", &[], ended.sink.written())? {
         return Ok(Some(found));
     }
-    if let Some(found) = list_difference(alloc, rows, left.rows.as_slice())? {
-        return Ok(Some(found));
+    // Of the demonstration's rows those are there that came before the fault.
+    if is_script(case.words.as_slice()) {
+        if let Some(found) = list_difference(alloc, rows, left.rows.as_slice())? {
+            return Ok(Some(found));
+        }
     }
     stop_difference(alloc, case, left)
 }
@@ -133,7 +136,8 @@ fn refused_difference(
 ) -> Result<Option<String>, AllocError> {
     let requests = without_line(alloc, &case.requests, number)?;
     let replies = without_line(alloc, came, number)?;
-    same_difference(alloc, case, rows, &requests, &replies, left)
+    let mut ended = run(alloc, case, rows, &requests, &[])?;
+    same_difference(alloc, &mut ended, &replies, left)
 }
 
 // What differs of a session that is stopped behind the line of that number, and opened again for the other lines.
@@ -154,22 +158,20 @@ fn stopped_difference(
     if let Some(found) = stop_difference(alloc, case, &stop)? {
         return Ok(Some(found));
     }
-    if let Some(found) = same_difference(alloc, case, stop.rows.as_slice(), after, replies, left)? {
+    let mut ended = run_again(alloc, case, stop.rows.as_slice(), after)?;
+    if let Some(found) = same_difference(alloc, &mut ended, replies, left)? {
         return Ok(Some(format!(in alloc; "opened again {found}")?));
     }
     Ok(None)
 }
 
-// What differs of a session over these rows, which answers these replies and leaves what is told.
+// What differs of a session that has to answer these replies and to leave this.
 fn same_difference(
     alloc: Global,
-    case: &Case,
-    rows: &[Row],
-    requests: &[u8],
+    ended: &mut Ended,
     replies: &[u8],
     left: &Left,
 ) -> Result<Option<String>, AllocError> {
-    let mut ended = run(alloc, case, rows, requests, &[])?;
     if let Some(found) = line_difference(alloc, "reply", replies, ended.sink.written())? {
         return Ok(Some(found));
     }
@@ -197,6 +199,6 @@ fn stop_difference(alloc: Global, case: &Case, left: &Left) -> Result<Option<Str
 
 // Whether a session opens over the rows.
 fn is_farm(alloc: Global, case: &Case, rows: &[Row]) -> Result<bool, AllocError> {
-    let ended = run(alloc, case, rows, &[], &[])?;
+    let ended = run_again(alloc, case, rows, &[])?;
     Ok(ended.status == Status::Done)
 }

@@ -9,6 +9,7 @@ mod pieces;
 mod row_difference;
 mod sessions;
 mod store;
+mod streams_in_turn;
 mod told_rows;
 
 pub use sessions::run_sessions;

@@ -33,6 +33,17 @@ fn place_of(bytes: &[u8], number: usize) -> usize {
     bytes.len()
 }
 
+/// How many whole lines there are.
+pub fn lines_in(bytes: &[u8]) -> usize {
+    let mut lines: usize = 0;
+    for byte in bytes {
+        if *byte == b'\n' {
+            lines = lines.saturating_add(1);
+        }
+    }
+    lines
+}
+
 /// The lines without that of the number.
 pub fn without_line(alloc: Global, bytes: &[u8], number: usize) -> Result<Vec<u8>, AllocError> {
     let (front, rest) = cut_before(bytes, number);

@@ -62,6 +62,11 @@ pub fn keeper_of(
     }
 }
 
+/// Whether the words are those of a session over a store of rows.
+pub fn is_script(words: &[Text]) -> bool {
+    matches!(form(words), Some(Form::Script { .. }))
+}
+
 // A keeper of the rows, which its first call put.
 fn filled(alloc: Global, rows: &[Row], failing: &[u64]) -> Result<MemoryKeeper, AllocError>
     ensures { IfOk result (λ keeper. keeper.refused ≡ []) }

@@ -31,12 +31,27 @@ impl Moves {
 
     /// A source of these bytes, in reads of at least a byte.
     pub fn source(&self, alloc: Global, bytes: &[u8]) -> Result<MemorySource, AllocError> {
-        MemorySource::make(alloc, bytes, self.most.max(1), &self.fails)
+        self.failing_source(alloc, bytes, &self.fails)
+    }
+
+    /// The same, whose calls of these numbers fail.
+    pub fn failing_source(
+        &self,
+        alloc: Global,
+        bytes: &[u8],
+        fails: &[u64],
+    ) -> Result<MemorySource, AllocError> {
+        MemorySource::make(alloc, bytes, self.most.max(1), fails)
     }
 
     /// A sink.
     pub fn sink(&self, alloc: Global) -> Result<MemorySink, AllocError> {
-        MemorySink::make(alloc, self.most, self.capacity, &self.fails)
+        self.failing_sink(alloc, &self.fails)
+    }
+
+    /// The same, whose calls of these numbers fail.
+    pub fn failing_sink(&self, alloc: Global, fails: &[u64]) -> Result<MemorySink, AllocError> {
+        MemorySink::make(alloc, self.most, self.capacity, fails)
     }
 }
 
