@@ -1,33 +1,33 @@
 -- A depend is added behind all others.
-use Rattle.std.proofs.Common.{◌≡◌, ◌≢◌, ◌≤◌, ◌<◌, ◌^◌, ◌*◌, ℕ, zero, suc, ◌+◌, Bool, true, false, not, cond, eqb, List, [], ◌∷◌, ◌++◌, map, length, Some, refl, sym, ap, subst, ◌∙◌, ◌⊎◌, inl, inr, arith, length-append}
+use Rattle.std.proofs.Common.{◌≡◌, ◌≢◌, ◌≤◌, ◌<◌, ◌^◌, ◌*◌, ℕ, zero, suc, ◌+◌, Bool, true, false, cond, eqb, List, [], ◌∷◌, ◌++◌, map, length, Some, refl, sym, ap, subst, ◌∙◌, ◌⊎◌, inl, inr, arith, length-append}
 use Rattle.std.specs.Prelude.{◌&&◌, ◌||◌}
 use Rattle.std.specs.List.{slice_get, count_by, list_all, list_any, All}
 use Rattle.std.proofs.lemmas.Bool.{cases_Bool, eq-eqb, eqb-true, ltb-true, false≢true}
 use Rattle.std.proofs.lemmas.List.{length-map}
-use Rattle.std.proofs.lemmas.List.Sums.{count_by-le-length, length-filter, sum_by-cons, sum_by_push}
+use Rattle.std.proofs.lemmas.List.Sums.{count_by-le-length, length-filter, sum_by_push}
 use Rattle.std.proofs.lemmas.Option.{none-some, same_Some, slice_get-map, slice_get_within, get_or_from_slice_get}
 use Rattle.farm_types.specs.declared.depend.Group.{Group}
 use Rattle.farm_types.specs.declared.limits.TheConstants.{MOST_DEPENDS, MOST_GROUPS, SLOT_LIMIT}
-use Rattle.farm_types.specs.Depends.{waits_in}
 use Rattle.farm_types.specs.Sums.{total_at}
 use Rattle.farm_types.proofs.Changed.{appended_each}
 use Rattle.farm_types.proofs.Lists.{and_both}
 use Rattle.farm_types.proofs.Passes.{option_map-from}
 use Rattle.depend_graph.specs.Added.{count_for, held_in, is_lacking}
 use Rattle.depend_graph.specs.Aims.{aims_from}
-use Rattle.depend_graph.specs.Graph.{CanAdd, IsGroup, Watch, Watched, groups_left, holds, is_below, is_flagged, is_satisfied, unmet_in, unmet_of, watched}
+use Rattle.depend_graph.specs.Graph.{CanAdd, IsGroup, Watch, Watched, groups_left, is_below, is_flagged, unmet_in, unmet_of, watched}
 use Rattle.depend_graph.specs.Inside.{KeepsDepends, KeepsSums, there_of, watches}
 use Rattle.depend_graph.specs.Listed.{IsListed, KeepsCounts, ListedLists, aim_of, has_number, is_enough, is_there, is_unmet, watch_by, watched_with}
 use Rattle.depend_graph.specs.Marked.{marked_counts, marked_watch, marked_with}
 use Rattle.depend_graph.specs.Ways.{edge_lists, edges_in}
 use Rattle.depend_graph.specs.declared.links.Edge.{Edge}
 use Rattle.depend_graph.specs.declared.listed.Count.{Count}
-use Rattle.depend_graph.proofs.Counts.{count_by-cons, count_by-push, one_if}
+use Rattle.depend_graph.proofs.Counts.{count_by-cons, count_by-push}
+use Rattle.depend_graph.proofs.Fewer.{unmet_low}
 use Rattle.depend_graph.proofs.Held.{held_in_long, held_in_total}
 use Rattle.depend_graph.proofs.Targets.{are_done_by, edges_at, edges_counted, group_of_edge, target_of_edge, targets_in}
 use Rattle.depend_graph.proofs.Thinned.{there_left}
 use Rattle.depend_graph.proofs.Unchanged.{numbers_any}
-use Rattle.depend_graph.proofs.Watches.{satisfied_by}
+use Rattle.depend_graph.proofs.Watches.{satisfied_by, weight_of}
 
 -- ---- lists with one more behind
 
@@ -205,9 +205,6 @@ module _ (done : List Bool) (depend : ℕ) (gs : List Group) (ms : List Bool) (e
             places_within = omega (arith, length-append ds (added ∷ []), places);
           }
 
-      abbrev weight_of : Watch → ℕ
-      weight_of w = cond (is_satisfied w) 0 (length w.groups)
-
       weight_by : (b : Bool) → eqb added.unmet 0 ≡ b → cond b left (left + length gs) ≡ left + cond b 0 (length gs)
       weight_by true is = omega arith
       weight_by false is = refl
@@ -221,7 +218,7 @@ module _ (done : List Bool) (depend : ℕ) (gs : List Group) (ms : List Bool) (e
       push_sums =
           record {
             unmet_kept = λ s.
-                let low : (t : ℕ) → total_at unmet t + length gs ≤ 4294967295 = λ t. omega (arith, sums.unmet_kept t, unmet_low t, sums.left_kept, fits) in
+                let low : (t : ℕ) → total_at unmet t + length gs ≤ 4294967295 = λ t. omega (arith, sums.unmet_kept t, unmet_low t (watches ds), sums.left_kept, fits) in
                 held_in_total unmet gs added.counts s (group_at gs can.each) sums.unmet_counted low
                 ∙ (ap (λ n. n + unmet_in s (watch_by added)) (sums.unmet_kept s)
                 ∙ (sym (sum_by_push (unmet_in s) (watches ds) (watch_by added)) ∙ ap (λ (ws : List Watch). unmet_of ws s) (sym (watches_push ds added))));
@@ -236,23 +233,3 @@ module _ (done : List Bool) (depend : ℕ) (gs : List Group) (ms : List Bool) (e
           at_most : (b : Bool) → left + length gs ≤ MOST_GROUPS → cond b left (left + length gs) ≤ MOST_GROUPS
           at_most true fits = omega arith
           at_most false fits = fits
-
-          unmet_by : (s : ℕ) (d : ListedLists) → IsListed d → unmet_in s (watch_by d) ≤ weight_of (watch_by d)
-          unmet_by s d one = by_rest (cases_Bool (is_satisfied (watch_by d))) where
-            none_held : (ws : List Watched) → list_all (λ (w : Watched). w.met) ws ≡ true → count_by (holds s) ws ≡ 0
-            none_held [] all = refl
-            none_held (w ∷ ws) all =
-                let both = and_both w.met (list_all (λ (x : Watched). x.met) ws) all in
-                omega (arith, count_by-cons (holds s) w ws, ap (λ b. one_if (not b && waits_in s w.group)) both.0, none_held ws both.1)
-
-            by_rest : (is_satisfied (watch_by d) ≡ true) ⊎ (is_satisfied (watch_by d) ≡ false) → unmet_in s (watch_by d) ≤ weight_of (watch_by d)
-            by_rest (inl all) = omega (arith, none_held (watched_with d.groups d.counts) all)
-            by_rest (inr some) = omega (arith, count_by-le-length (holds s) (watched_with d.groups d.counts), ap (λ b. cond b 0 (length (watched_with d.groups d.counts))) some)
-
-          below : (s : ℕ) (xs : List ListedLists) → ((p : ℕ) (d : ListedLists) → slice_get xs p ≡ Some d → IsListed d) → unmet_of (watches xs) s ≤ groups_left (watches xs)
-          below s [] listed = omega arith
-          below s (x ∷ xs) listed =
-              omega (arith, sum_by-cons (unmet_in s) (watch_by x) (watches xs), sum_by-cons weight_of (watch_by x) (watches xs), unmet_by s x (listed 0 x refl), below s xs (λ p d at. listed (suc p) d at))
-
-          unmet_low : (s : ℕ) → unmet_of (watches ds) s ≤ groups_left (watches ds)
-          unmet_low s = below s ds depends.listed

@@ -16,7 +16,7 @@ use Rattle.depend_graph.specs.Flow.{Flow, flow_of}
 use Rattle.depend_graph.specs.Graph.{HasOpened, OpenedLists, Watch, Watched, completed, completed_in, has_opened, is_completed, is_flagged, nothing_opened, opened_between, unmet_of}
 use Rattle.depend_graph.specs.Inside.{KeepsDepends, KeepsSums, watches}
 use Rattle.depend_graph.specs.Kept.{is_left, KeepsFlow, Still, still_of}
-use Rattle.depend_graph.specs.Listed.{IsListed, KeepsCounts, ListedLists, is_enough, is_undone, watch_by, watched_by, watched_with}
+use Rattle.depend_graph.specs.Listed.{AllCounted, AllListed, ListedLists, is_enough, is_undone, watch_by, watched_by, watched_with}
 use Rattle.depend_graph.specs.Passing.{CountsPending, IsMarked, IsPassing, count_from, is_pending}
 use Rattle.depend_graph.specs.Ways.{IsLast, edge_lists, is_any, is_past}
 use Rattle.depend_graph.specs.declared.links.Edge.{Edge}
@@ -29,12 +29,6 @@ use Rattle.depend_graph.proofs.Ordered.{ordered}
 use Rattle.depend_graph.proofs.Still.{still_differ, still_empty, there_counted, there_still, still_pair}
 use Rattle.depend_graph.proofs.Targets.{are_done_by, edges_counted, targets_in}
 use Rattle.farm_types.specs.Depends.{are_done}
-
-abbrev pub all_listed : List ListedLists → Type 0
-all_listed ds = (p : ℕ) (d : ListedLists) → slice_get ds p ≡ Some d → IsListed d
-
-abbrev pub all_counted : List Bool → List ListedLists → Type 0
-all_counted done ds = (p : ℕ) (d : ListedLists) → slice_get ds p ≡ Some d → KeepsCounts done d
 
 -- ---- flags by slot
 
@@ -61,13 +55,13 @@ pending_is turned done flags slot o k p es on off =
 -- ---- the beginning
 
 module _ (done : List Bool) (slot : ℕ) (olds : List ListedLists) (first : Option EdgeAt) (last : IsLast (edge_lists olds) slot is_any first) where
-  pub start_counts : (turned : Bool → Bool) (flag : Bool) → turned false ≡ not flag → is_flagged done slot ≡ flag → all_counted done olds → CountsPending turned done slot first olds
+  pub start_counts : (turned : Bool → Bool) (flag : Bool) → turned false ≡ not flag → is_flagged done slot ≡ flag → AllCounted done olds → CountsPending turned done slot first olds
   start_counts turned flag is flagged counted p k d c at at_count =
       (counted p d at).undone_kept k c at_count
       ∙ sym (pending_is turned done done slot first k p d.edges
       (λ i e at_e on. ap turned (last.last p i e (edge_is olds p i d e at at_e) on refl) ∙ (is ∙ ap not (sym flagged ∙ ap (is_flagged done) (sym on)))) (λ e off. refl))
 
-  pub start_passing : (unmet : List ℕ) (left : ℕ) → is_flagged done slot ≡ false → all_listed olds → count_by is_left olds ≤ MOST_DEPENDS → KeepsSums unmet left olds → all_counted done olds
+  pub start_passing : (unmet : List ℕ) (left : ℕ) → is_flagged done slot ≡ false → AllListed olds → count_by is_left olds ≤ MOST_DEPENDS → KeepsSums unmet left olds → AllCounted done olds
       → IsPassing done slot olds first (flow_of olds unmet left nothing_opened)
   start_passing unmet left flagged listed within sums counted =
       record {
@@ -137,11 +131,11 @@ opened_all olds f unmet left opened kept sums rises moved same =
 
 -- ---- the end
 
-module _ (done : List Bool) (slot : ℕ) (olds : List ListedLists) (f : Flow) (pass : IsPassing done slot olds None f) (within : slot < length done) (listed : all_listed olds) where
+module _ (done : List Bool) (slot : ℕ) (olds : List ListedLists) (f : Flow) (pass : IsPassing done slot olds None f) (within : slot < length done) (listed : AllListed olds) where
   abbrev flags : List Bool
   flags = slice_set done slot true
 
-  pub end_counted : all_counted flags f.depends
+  pub end_counted : AllCounted flags f.depends
   end_counted p d at =
       record {
         undone_kept = λ k c at_count.

@@ -5,23 +5,22 @@ use Rattle.std.specs.List.{slice_get, slice_set, count_by, list_any, AllByRecurs
 use Rattle.std.proofs.Math.ListN.{length-set}
 use Rattle.std.proofs.lemmas.Bool.{eq-eqb, false≢true}
 use Rattle.std.proofs.lemmas.Option.{same_Some, slice_get_within}
-use Rattle.farm_types.specs.declared.depend.Group.{Group}
 use Rattle.farm_types.specs.declared.limits.TheConstants.{SLOT_LIMIT}
 use Rattle.farm_types.specs.Sums.{total_at}
 use Rattle.farm_types.proofs.Lists.{slice_get_below}
-use Rattle.depend_graph.specs.Flow.{IsEdgeAt, flow_of, passed_flow}
+use Rattle.depend_graph.specs.Flow.{AtEdge, AtTarget, IsEdgeAt, flow_of, passed_flow}
 use Rattle.depend_graph.specs.Graph.{GraphLists, HasMet, Watch, completed_in, is_flagged, is_mark, nothing_opened, unmet_of, was_met, was_satisfied, with_done}
 use Rattle.depend_graph.specs.Inside.{KeepsDepends, KeepsSums, watches}
 use Rattle.depend_graph.specs.Kept.{Still, still_of}
-use Rattle.depend_graph.specs.Listed.{ListedLists, is_enough}
+use Rattle.depend_graph.specs.Listed.{AllCounted, AllListed, ListedLists, is_enough}
 use Rattle.depend_graph.specs.Trial.{IsFollowing, IsHit, IsLaid, IsMetWhere, IsTried, IsUnderWay, MetLists, becomes_due, count_or, is_at, key_of, nothing_laid, nothing_met}
-use Rattle.depend_graph.specs.Ways.{IsEdge, IsLast, edge_lists, is_ahead_of, is_any}
+use Rattle.depend_graph.specs.Ways.{IsLast, KeepsNext, edge_lists, is_any}
 use Rattle.depend_graph.specs.declared.links.Edge.{Edge}
 use Rattle.depend_graph.specs.declared.links.EdgeAt.{EdgeAt}
 use Rattle.depend_graph.specs.declared.listed.Count.{Count}
 use Rattle.depend_graph.specs.declared.marks.Marks.{Marks}
 use Rattle.depend_graph.proofs.EdgeLists.{edge_lists-still}
-use Rattle.depend_graph.proofs.Finished.{all_counted, all_listed, completed_all, depends_kept, end_counted, flag_other, start_passing}
+use Rattle.depend_graph.proofs.Finished.{completed_all, depends_kept, end_counted, flag_other, start_passing}
 use Rattle.depend_graph.proofs.Gone.{few_left}
 use Rattle.depend_graph.proofs.Still.{still_at}
 use Rattle.depend_graph.proofs.Telling.{start_tells, tells_step}
@@ -55,13 +54,10 @@ module _ (olds : List ListedLists) (unmet : List ℕ) where
       abbrev place : IsEdgeAt following.flow.depends a
       place = place_there done slot news o a following.flow following.passing is
 
-      pub step_following : slot < length done → all_listed olds
-          → ((p i : ℕ) (e : Edge) → IsEdge (edge_lists olds) p i e → IsLast (edge_lists olds) e.slot (is_ahead_of p i) e.next) → (result : Option EdgeAt)
-          → ((d : ListedLists) (e : Edge) → slice_get olds a.depend ≡ Some d → slice_get d.edges a.edge ≡ Some e → result ≡ e.next)
-          → ((d : ListedLists) (e : Edge) (g : Group) (c : Count) → slice_get olds a.depend ≡ Some d → slice_get d.edges a.edge ≡ Some e → slice_get d.groups e.group ≡ Some g → slice_get d.counts e.group ≡ Some c
-          → IsHit (key_of a.depend e.group) g c over laid xs ys)
-          → ((d : ListedLists) (e : Edge) (g : Group) (c : Count) → slice_get olds a.depend ≡ Some d → slice_get d.edges a.edge ≡ Some e → slice_get d.groups e.group ≡ Some g → slice_get d.counts e.group ≡ Some c
-          → IsMetWhere (becomes_due g c (count_or c.undone (over (key_of a.depend e.group)))) a.depend d g m l)
+      pub step_following : slot < length done → AllListed olds
+          → KeepsNext (edge_lists olds) → (result : Option EdgeAt)
+          → AtEdge olds a (λ d e. result ≡ e.next) → AtTarget olds a (λ d e g c. IsHit (key_of a.depend e.group) g c over laid xs ys)
+          → AtTarget olds a (λ d e g c. IsMetWhere (becomes_due g c (count_or c.undone (over (key_of a.depend e.group)))) a.depend d g m l)
           → IsFollowing olds unmet done slot news result laid ys l
       step_following within listed next result next_is hit met =
           let w = place.place in
@@ -73,7 +69,7 @@ module _ (olds : List ListedLists) (unmet : List ℕ) where
           let lists = edge_lists-still olds news structure in
           let passing =
           way_passed done slot news o a following.flow following.passing is
-          (subst (λ (ls : List (List Edge)). (p i : ℕ) (e : Edge) → IsEdge ls p i e → IsLast ls e.slot (is_ahead_of p i) e.next) (sym lists) next) result
+          (subst (λ (ls : List (List Edge)). KeepsNext ls) (sym lists) next) result
           (λ d e at at_edge.
           let was = still_at olds following.flow.depends same a.depend d at in
           next_is was.0 e was.1 (ap (λ (s : Still). slice_get s.edges a.edge) was.2 ∙ at_edge))
@@ -84,11 +80,11 @@ module _ (olds : List ListedLists) (unmet : List ℕ) where
             passing = passing;
             agrees =
                 step_agrees olds unmet over laid xs ys following.flow following.agrees listed same a.depend x.group old.0 w.listed w.one c.0 w.count old.1 w.listed_there group_there c.1 w.count_there
-                (hit old.0 x w.one c.0 old.1 edge_there group_there c.1);
+                (hit old.0 x old.1 edge_there w.one c.0 group_there c.1);
             tells =
                 tells_step olds listed following.flow following.passing.flow.listed m l (over (key_of a.depend x.group)) a.depend x.group old.0 w.listed w.one c.0 w.count old.1 w.listed_there group_there c.1
                 w.group_there w.count_there (following.agrees.counts a.depend x.group old.0 w.listed w.one c.0 w.count old.1 w.listed_there group_there c.1 w.count_there)
-                (met old.0 x w.one c.0 old.1 edge_there group_there c.1) following.tells;
+                (met old.0 x old.1 edge_there w.one c.0 group_there c.1) following.tells;
           }
 
   -- ---- the end
@@ -169,7 +165,7 @@ module _ (olds : List ListedLists) (unmet : List ℕ) where
 
 -- ---- the graph as it is
 
-pub start_tried : (olds : List ListedLists) (unmet : List ℕ) (left : ℕ) (done : List Bool) → KeepsDepends olds → KeepsSums unmet left olds → all_counted done olds → length done ≡ SLOT_LIMIT
+pub start_tried : (olds : List ListedLists) (unmet : List ℕ) (left : ℕ) (done : List Bool) → KeepsDepends olds → KeepsSums unmet left olds → AllCounted done olds → length done ≡ SLOT_LIMIT
     → IsTried olds unmet nothing_laid [] nothing_met (record { done = done; depends = watches olds })
 start_tried olds unmet left done depends sums counted long =
     record {

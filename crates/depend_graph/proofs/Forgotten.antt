@@ -5,7 +5,6 @@ use Rattle.std.specs.List.{slice_get, slice_set, sum_by, filter}
 use Rattle.std.proofs.lemmas.Bool.{cases_Bool, eqb-true, false≢true}
 use Rattle.std.proofs.lemmas.List.Elements.{All-nil}
 use Rattle.std.proofs.lemmas.Option.{none-some, same_Some}
-use Rattle.farm_types.specs.declared.depend.Group.{Group}
 use Rattle.farm_types.specs.declared.limits.TheConstants.{MOST_GROUPS}
 use Rattle.farm_types.specs.Farm.{changed_at}
 use Rattle.farm_types.proofs.Changed.{changed_at_each, changed_at_is, length-changed_at}
@@ -14,11 +13,10 @@ use Rattle.depend_graph.specs.Added.{released_in}
 use Rattle.depend_graph.specs.Graph.{IsGroup, Watch, groups_left, is_not_named, is_satisfied, unmet_in}
 use Rattle.depend_graph.specs.Inside.{KeepsDepends, KeepsSums, there_of, watches}
 use Rattle.depend_graph.specs.Listed.{IsListed, KeepsCounts, ListedLists, emptied, has_number, is_there, watch_by, watched_with}
-use Rattle.depend_graph.specs.declared.listed.Count.{Count}
 use Rattle.depend_graph.proofs.AddedDepend.{group_at}
 use Rattle.depend_graph.proofs.Counts.{count_by-changed, one_if}
 use Rattle.depend_graph.proofs.Released.{released_in_long, released_in_total}
-use Rattle.depend_graph.proofs.Watches.{satisfied_by, watches_change}
+use Rattle.depend_graph.proofs.Watches.{length-watched, satisfied_by, watches_change, weight_of}
 
 -- ---- the depends that are left
 
@@ -101,14 +99,6 @@ module _ (ds : List ListedLists) (depends : KeepsDepends ds) (p : ℕ) (d : List
 
   -- ---- what is kept by slot
 
-  long_with : (gs : List Group) (cs : List Count) → length cs ≡ length gs → length (watched_with gs cs) ≡ length gs
-  long_with [] cs long = refl
-  long_with (g ∷ gs) [] long = absurd (omega arith)
-  long_with (g ∷ gs) (c ∷ cs) long = omega (arith, long_with gs cs (omega (arith, long)))
-
-  abbrev weight_of : Watch → ℕ
-  weight_of w = cond (is_satisfied w) 0 (length w.groups)
-
   -- a sum over all depends is less by that one's part
   less : (weight : Watch → ℕ) → weight (watch_by (emptied d)) ≡ 0 → sum_by weight (watches news) + weight (watch_by d) ≡ sum_by weight (watches ds)
   less weight none =
@@ -132,7 +122,7 @@ module _ (ds : List ListedLists) (depends : KeepsDepends ds) (p : ℕ) (d : List
       fewer false = omega (arith, sums.left_within)
 
       weight_is : (b : Bool) → is_satisfied (watch_by d) ≡ b → weight_of (watch_by d) ≡ cond b 0 (length d.groups)
-      weight_is b is = ap (λ c. cond c 0 (length (watched_with d.groups d.counts))) is ∙ ap (cond b 0) (long_with d.groups d.counts own.counted)
+      weight_is b is = ap (λ c. cond c 0 (length (watched_with d.groups d.counts))) is ∙ ap (cond b 0) (length-watched d.groups d.counts own.counted)
 
       by_test : (b : Bool) → is_satisfied (watch_by d) ≡ b → cond b left (left - length d.groups) ≡ groups_left (watches news)
       by_test true is = omega (arith, weight_is true is, less weight_of refl, sums.left_kept)

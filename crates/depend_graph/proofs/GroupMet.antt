@@ -1,5 +1,5 @@
 -- A group is met: what is kept by slot and what is listed as opened goes along.
-use Rattle.std.proofs.Common.{◌≡◌, ◌≢◌, ◌≤◌, ℕ, ◌+◌, ◌-◌, Bool, true, false, cond, eqb, ltb, List, [], ◌∷◌, ◌++◌, length, Some, refl, sym, ap, subst, ◌∙◌, ◌⊎◌, inl, inr, arith, length-append}
+use Rattle.std.proofs.Common.{◌≡◌, ◌≤◌, ℕ, ◌+◌, ◌-◌, Bool, true, false, cond, eqb, ltb, List, [], ◌∷◌, ◌++◌, length, Some, refl, sym, ap, subst, ◌∙◌, ◌⊎◌, inl, inr, arith, length-append}
 use Rattle.std.specs.Prelude.{◌&&◌, ◌||◌}
 use Rattle.std.specs.List.{slice_get, count_by, list_any}
 use Rattle.std.proofs.lemmas.Bool.{cases_Bool, eq-eqb, eqb-true, ne_eqb, lt-ltb, false≢true}
@@ -12,26 +12,16 @@ use Rattle.farm_types.specs.Sums.{total_at}
 use Rattle.farm_types.proofs.Changed.{changed_at_each, length-changed_at, places}
 use Rattle.farm_types.proofs.ChangedLists.{map-changed_at_kept}
 use Rattle.depend_graph.specs.Flow.{Flow, all_freed, is_last_of, met_at, met_count, met_flow, waiting_in}
-use Rattle.depend_graph.specs.Graph.{IsGroup, Watch, groups_left, has_opened, is_satisfied, unmet_in, unmet_of, was_satisfied}
+use Rattle.depend_graph.specs.Graph.{IsGroup, groups_left, has_opened, is_satisfied, unmet_in, unmet_of, was_satisfied}
 use Rattle.depend_graph.specs.Inside.{KeepsSums, watches}
 use Rattle.depend_graph.specs.Kept.{KeepsFlow, Still, is_left, still_of}
 use Rattle.depend_graph.specs.Listed.{IsListed, ListedLists, is_unmet, watch_by, watched_with}
 use Rattle.depend_graph.specs.declared.listed.Count.{Count}
 use Rattle.depend_graph.proofs.Counts.{count_by-changed, one_if}
 use Rattle.depend_graph.proofs.Freed.{freed_count, freed_room, freed_slots, freed_unmet, is_among, is_slot}
-use Rattle.depend_graph.proofs.Satisfied.{any-push, satisfied_step}
+use Rattle.depend_graph.proofs.Satisfied.{any_where, satisfied_step}
 use Rattle.depend_graph.proofs.Still.{still_at}
-use Rattle.depend_graph.proofs.Watches.{met_count_unmet, met_unmet_in, satisfied_by, watches_change}
-
-length-watched : (gs : List Group) (cs : List Count) → length cs ≡ length gs → length (watched_with gs cs) ≡ length gs
-length-watched [] [] same = refl
-length-watched [] (c ∷ cs) same = absurd (omega arith)
-length-watched (g ∷ gs) [] same = absurd (omega arith)
-length-watched (g ∷ gs) (c ∷ cs) same = omega (arith, length-watched gs cs (omega arith))
-
--- how many groups of a depend count as left
-abbrev weight_of : Watch → ℕ
-weight_of w = cond (is_satisfied w) 0 (length w.groups)
+use Rattle.depend_graph.proofs.Watches.{length-watched, met_unmet_in, satisfied_by, satisfied_then, unmet_before, unsatisfied, watches_change, weight_of}
 
 weight_by : (d : ListedLists) → IsListed d → weight_of (watch_by d) ≡ cond (eqb d.unmet 0) 0 (length d.groups)
 weight_by d one = ap (λ b. cond b 0 (length (watched_with d.groups d.counts))) (satisfied_by d one.counted one.unmet_kept) ∙ ap (cond (eqb d.unmet 0) 0) (length-watched d.groups d.counts one.counted)
@@ -88,7 +78,7 @@ module _ (olds : List ListedLists) (f : Flow) (kept : KeepsFlow olds f) (q k : �
 
     -- one group fewer of the depend is unmet
     was_unmet : count_by is_unmet (changed_at d.counts k met_count) + 1 ≡ d.unmet
-    was_unmet = met_count_unmet d k g c at_group at_count unmet ∙ sym one.unmet_kept
+    was_unmet = unmet_before d k g c at_group at_count unmet one
 
     met_listed : IsListed (met_at k d)
     met_listed =
@@ -107,13 +97,10 @@ module _ (olds : List ListedLists) (f : Flow) (kept : KeepsFlow olds f) (q k : �
         (λ p x apart at_x. kept.listed p x at_x)
 
     not_satisfied : is_satisfied (watch_by d) ≡ false
-    not_satisfied = satisfied_by d one.counted one.unmet_kept ∙ ne_eqb d.unmet 0 (λ none. absurd (omega (arith, was_unmet)))
+    not_satisfied = unsatisfied d k g c at_group at_count unmet one
 
     now_satisfied : is_satisfied (watch_by (met_at k d)) ≡ eqb d.unmet 1
-    now_satisfied = satisfied_by (met_at k d) met_listed.counted met_listed.unmet_kept ∙ by_last (places d.unmet 1) where
-      by_last : (d.unmet ≡ 1) ⊎ (d.unmet ≢ 1) → eqb (d.unmet - 1) 0 ≡ eqb d.unmet 1
-      by_last (inl last) = eq-eqb (d.unmet - 1) 0 (omega arith) ∙ sym (eq-eqb d.unmet 1 last)
-      by_last (inr more) = ne_eqb (d.unmet - 1) 0 (λ none. more (omega (arith, was_unmet))) ∙ sym (ne_eqb d.unmet 1 more)
+    now_satisfied = satisfied_then d k g c at_group at_count unmet one
 
     -- ---- sums
 
@@ -161,20 +148,9 @@ module _ (olds : List ListedLists) (f : Flow) (kept : KeepsFlow olds f) (q k : �
       by_old (inl was) = absurd (false≢true (sym not_satisfied ∙ kept.stays_satisfied q old.0 d old.1 at was))
       by_old (inr not_yet) = not_yet
 
-    listed_any : (b : Bool) (n : ℕ) → list_any (λ m. eqb m n) (cond b (f.opened.satisfied ++ d.depend ∷ []) f.opened.satisfied) ≡ (list_any (λ m. eqb m n) f.opened.satisfied || (eqb d.depend n && b))
-    listed_any true n = any-push f.opened.satisfied d.depend n ∙ ap (λ b. list_any (λ m. eqb m n) f.opened.satisfied || b) (with_true (eqb d.depend n)) where
-      with_true : (b : Bool) → b ≡ (b && true)
-      with_true true = refl
-      with_true false = refl
-    listed_any false n = without (list_any (λ m. eqb m n) f.opened.satisfied) (eqb d.depend n) where
-      without : (a b : Bool) → a ≡ (a || (b && false))
-      without true b = refl
-      without false true = refl
-      without false false = refl
-
     opened_depends : (n : ℕ) → list_any (λ m. eqb m n) (cond (is_last_of d) (f.opened.satisfied ++ d.depend ∷ []) f.opened.satisfied) ≡ was_satisfied (watches olds) (watches news) n
     opened_depends n =
-        listed_any (eqb d.unmet 1) n
+        any_where (eqb d.unmet 1) f.opened.satisfied d.depend n
         ∙ (ap (λ b. b || (eqb d.depend n && eqb d.unmet 1)) (kept.satisfied n)
         ∙ (ap (λ m. was_satisfied (watches olds) (watches f.depends) n || (eqb m n && eqb d.unmet 1)) (sym (ap (λ (x : Still). x.depend) old.2))
         ∙ (ap (λ b. was_satisfied (watches olds) (watches f.depends) n || (eqb old.0.depend n && b)) (sym now_satisfied)

@@ -9,6 +9,7 @@ pub mod Counts
 pub mod Dropped
 pub mod EdgeLists
 pub mod Edited
+pub mod Fewer
 pub mod Finished
 pub mod FlowKept
 pub mod Following
@@ -24,6 +25,7 @@ pub mod Made
 pub mod Marked
 pub mod Moved
 pub mod NothingOpens
+pub mod OnWay
 pub mod Ordered
 pub mod Passed
 pub mod Pending
@@ -34,6 +36,7 @@ pub mod Satisfied
 pub mod Standing
 pub mod Steps
 pub mod Still
+pub mod Tallied
 pub mod Targets
 pub mod Telling
 pub mod Thinned

@@ -4,46 +4,28 @@ use Rattle.std.specs.Prelude.{◌||◌}
 use Rattle.std.specs.Cmp.Derive.{both_true}
 use Rattle.std.specs.List.{slice_get, slice_set, count_by, list_any}
 use Rattle.std.proofs.lemmas.Bool.{cases_Bool, eqb-false, eqb-true, false≢true}
-use Rattle.std.proofs.lemmas.Option.{same_Some, slice_get_within}
+use Rattle.std.proofs.lemmas.Option.{same_Some}
 use Rattle.farm_types.specs.declared.depend.Group.{Group}
 use Rattle.farm_types.specs.Farm.{changed_at, for_some}
 use Rattle.farm_types.proofs.Changed.{changed_at_same, slice_get-set_other, slice_get-set_same}
 use Rattle.farm_types.proofs.ChangesInTurn.{changed_at_twice}
 use Rattle.farm_types.proofs.Lists.{and_both, slice_get_below}
-use Rattle.depend_graph.specs.Flow.{Flow, IsEdgeAt, fewer, is_due, lowered, lowered_flow, met_at, met_count, met_flow, passed_flow}
+use Rattle.depend_graph.specs.Flow.{Flow, fewer, is_due, lowered, lowered_flow, met_at, met_count, met_flow, passed_flow}
 use Rattle.depend_graph.specs.Graph.{is_completed, is_flagged}
 use Rattle.depend_graph.specs.Kept.{KeepsFlow, Still, still_of}
-use Rattle.depend_graph.specs.Listed.{IsListed, ListedLists, is_enough, is_undone}
+use Rattle.depend_graph.specs.Listed.{ListedLists, is_enough, is_undone}
 use Rattle.depend_graph.specs.Passing.{CountsPending, IsMarked, IsPassing, MeetsAll, OnlyCompletes, count_from, is_pending}
 use Rattle.depend_graph.specs.Ways.{IsEdge, IsEdgeOf, IsLast, edge_lists, is_ahead_of, is_past}
 use Rattle.depend_graph.specs.declared.links.Edge.{Edge}
 use Rattle.depend_graph.specs.declared.links.EdgeAt.{EdgeAt}
 use Rattle.depend_graph.specs.declared.listed.Count.{Count}
 use Rattle.depend_graph.proofs.CountFrom.{count_from-by, count_from-less}
-use Rattle.depend_graph.proofs.EdgeLists.{edge_found, edge_is, edge_lists-still, edges_listed}
 use Rattle.depend_graph.proofs.FlowKept.{recount_kept}
 use Rattle.depend_graph.proofs.GroupMet.{met_kept}
-use Rattle.depend_graph.proofs.Pending.{pending_falls, pending_other}
+use Rattle.depend_graph.proofs.OnWay.{counts_on, listed_before, of_slot, there_before}
+use Rattle.depend_graph.proofs.Pending.{pending_falls}
 use Rattle.depend_graph.proofs.Recounted.{IsElsewhere, IsHere, recounted}
-use Rattle.depend_graph.proofs.Targets.{are_done_by, edges_counted, enough_fewer, group_of_edge, target_of_edge, targets_in}
-
--- ---- where a way has come to an edge, that edge and its group are there
-
-pub edge_at : (ds : List ListedLists) → ((p : ℕ) (d : ListedLists) → slice_get ds p ≡ Some d → IsListed d) → (slot : ℕ) (a : EdgeAt) → IsEdgeOf (edge_lists ds) slot a → IsEdgeAt ds a
-edge_at ds listed slot a on =
-    let d = edge_found ds a.depend a.edge on.edge on.there in
-    let one = listed a.depend d.0 d.1 in
-    let g = group_of_edge d.0.edges d.0.groups one.aims a.edge on.edge d.2 in
-    let c = slice_get_below d.0.counts on.edge.group (omega (arith, slice_get_within d.0.groups on.edge.group g.0 g.1, one.counted)) in
-    record {
-      edge = on.edge;
-      place = record { listed = d.0; one = g.0; count = c.0; listed_there = d.1; group_there = g.1; count_there = c.1 };
-      edge_there = d.2;
-    }
-
-pub edge_place : (olds : List ListedLists) (f : Flow) (kept : KeepsFlow olds f) (slot : ℕ) (a : EdgeAt) → IsEdgeOf (edge_lists olds) slot a → IsEdgeAt f.depends a
-edge_place olds f kept slot a on =
-    edge_at f.depends kept.listed slot a (subst (λ (ls : List (List Edge)). IsEdgeOf ls slot a) (sym (edge_lists-still olds f.depends kept.structure)) on)
+use Rattle.depend_graph.proofs.Targets.{are_done_by, edges_counted, enough_fewer, target_of_edge, targets_in}
 
 -- ---- what becomes of the depend
 
@@ -77,21 +59,14 @@ module _ (done : List Bool) (slot : ℕ) (olds : List ListedLists) (a : EdgeAt) 
     (at : slice_get f.depends a.depend ≡ Some d) (at_edge : slice_get d.edges a.edge ≡ Some x) (at_group : slice_get d.groups x.group ≡ Some g) (at_count : slice_get d.counts x.group ≡ Some c)
     (last : (slot_is : x.slot ≡ slot) → IsLast (edge_lists olds) slot (is_ahead_of a.depend a.edge) x.next)
   where
-    lists : List (List Edge)
-    lists = edge_lists olds
-
-    same_lists : edge_lists f.depends ≡ edge_lists olds
-    same_lists = edge_lists-still olds f.depends pass.flow.structure
+    on_way : IsEdgeOf (edge_lists olds) slot a
+    on_way = pass.on_way a refl
 
     there : IsEdge (edge_lists olds) a.depend a.edge x
-    there = subst (λ (ls : List (List Edge)). IsEdge ls a.depend a.edge x) same_lists (edge_is f.depends a.depend a.edge d x at at_edge)
+    there = there_before slot olds f.depends pass.flow.structure a on_way d x at at_edge
 
     on : x.slot ≡ slot
-    on =
-        let one = pass.on_way a refl in
-        let lists_same : there.edges ≡ one.there.edges = same_Some there.edges one.there.edges (sym there.listed ∙ one.there.listed) in
-        let same : x ≡ one.edge = same_Some x one.edge (sym there.there ∙ (ap (λ (es : List Edge). slice_get es a.edge) lists_same ∙ one.there.there)) in
-        ap (λ (e : Edge). e.slot) same ∙ one.slot_is
+    on = of_slot slot olds f.depends pass.flow.structure a on_way d x at at_edge
 
     goes_on : IsLast (edge_lists olds) slot (is_ahead_of a.depend a.edge) x.next
     goes_on = last on
@@ -121,11 +96,8 @@ module _ (done : List Bool) (slot : ℕ) (olds : List ListedLists) (a : EdgeAt) 
     was : c.undone ≡ count_from (is_pending not done slot (Some a) x.group a.depend) 0 d.edges
     was = pass.counts a.depend x.group d c at at_count
 
-    listed_here : slice_get (edge_lists olds) a.depend ≡ Some d.edges
-    listed_here = subst (λ (ls : List (List Edge)). slice_get ls a.depend ≡ Some d.edges) same_lists (edges_listed f.depends a.depend d at)
-
     falls : c.undone - 1 ≡ count_from (is_pending not done slot x.next x.group a.depend) 0 d.edges
-    falls = omega (arith, was, pending_falls not done (edge_lists olds) slot a x there on x.next goes_on d.edges listed_here refl refl)
+    falls = omega (arith, was, pending_falls not done (edge_lists olds) slot a x there on x.next goes_on d.edges (listed_before slot olds f.depends pass.flow.structure a on_way d x at at_edge) refl refl)
 
     -- a count of the new depends: that of the group, or another one
     case : (p m : ℕ) (e : ListedLists) (n : Count) → slice_get new.depends p ≡ Some e → slice_get e.counts m ≡ Some n
@@ -135,18 +107,7 @@ module _ (done : List Bool) (slot : ℕ) (olds : List ListedLists) (a : EdgeAt) 
         (ap (λ (ds : List ListedLists). slice_get ds p) (sym new_depends) ∙ at_e) at_n
 
     new_counts : CountsPending not done slot x.next new.depends
-    new_counts p m e n at_e at_n = by_case (case p m e n at_e at_n) where
-      by_case : (IsHere a.depend x.group p m d e c n (turned due)) ⊎ (IsElsewhere f.depends a.depend x.group p m e n) → n.undone ≡ count_from (is_pending not done slot x.next m p) 0 e.edges
-      by_case (inl here) =
-          ap (λ (y : Count). y.undone) here.count_is
-          ∙ (falls
-          ∙ (ap (λ (s : Still). count_from (is_pending not done slot x.next x.group a.depend) 0 s.edges) here.still
-          ∙ λ i. count_from (is_pending not done slot x.next (sym here.group i) (sym here.place i)) 0 e.edges))
-      by_case (inr other) =
-          pass.counts p m other.was n other.was_there other.count_there
-          ∙ (ap (λ (s : Still). count_from (is_pending not done slot (Some a) m p) 0 s.edges) other.still
-          ∙ pending_other not done (edge_lists olds) slot a x there on x.next goes_on p m e.edges
-          (subst (λ (ls : List (List Edge)). slice_get ls p ≡ Some e.edges) same_lists (edges_listed f.depends p other.was other.was_there ∙ ap (λ (s : Still). Some s.edges) other.still)) other.apart)
+    new_counts p m e n at_e at_n = counts_on slot olds f.depends pass.flow.structure a on_way d x at at_edge not done pass.counts goes_on c (turned due) falls p m e n (case p m e n at_e at_n)
 
     group_same : (e : ListedLists) (y : Group) → still_of d ≡ still_of e → slice_get e.groups x.group ≡ Some y → g ≡ y
     group_same e y still at_y = same_Some g y (sym at_group ∙ (ap (λ (s : Still). slice_get s.groups x.group) still ∙ at_y))

@@ -1,47 +1,33 @@
 -- The way goes on from an edge, and the target's group lacks one more.
-use Rattle.std.proofs.Common.{◌≡◌, ◌<◌, ℕ, ◌+◌, ◌-◌, ◌^◌, Bool, true, false, not, List, map, length, Option, Some, None, refl, sym, ap, subst, ◌∙◌, ◌⊎◌, inl, inr, arith}
+use Rattle.std.proofs.Common.{◌≡◌, ◌<◌, ℕ, ◌+◌, ◌-◌, ◌^◌, Bool, true, false, not, List, length, Option, Some, None, refl, sym, ap, subst, ◌∙◌, ◌⊎◌, inl, inr, arith}
 use Rattle.std.specs.List.{slice_get, slice_set}
-use Rattle.std.proofs.lemmas.Option.{same_Some, slice_get_within}
+use Rattle.std.proofs.lemmas.Option.{slice_get_within}
 use Rattle.farm_types.specs.Farm.{changed_at}
 use Rattle.farm_types.proofs.ChangedLists.{map-changed_at_kept}
-use Rattle.farm_types.proofs.Lists.{slice_get_below}
 use Rattle.depend_graph.specs.Flow.{IsEdgeAt, more, raised}
 use Rattle.depend_graph.specs.Graph.{is_flagged}
 use Rattle.depend_graph.specs.Inside.{KeepsDepends}
 use Rattle.depend_graph.specs.Kept.{Still, still_of}
-use Rattle.depend_graph.specs.Listed.{ListedLists, is_enough}
+use Rattle.depend_graph.specs.Listed.{AllCounted, AllListed, ListedLists, is_enough}
 use Rattle.depend_graph.specs.Passing.{CountsPending, IsReopening, MeetsAll, count_from, is_pending, same}
-use Rattle.depend_graph.specs.Ways.{IsEdge, IsEdgeOf, IsLast, edge_lists, is_ahead_of, is_any}
+use Rattle.depend_graph.specs.Ways.{IsEdge, IsEdgeOf, IsLast, KeepsNext, edge_lists, is_ahead_of, is_any}
 use Rattle.depend_graph.specs.declared.links.Edge.{Edge}
 use Rattle.depend_graph.specs.declared.links.EdgeAt.{EdgeAt}
 use Rattle.depend_graph.specs.declared.listed.Count.{Count}
 use Rattle.depend_graph.proofs.CountFrom.{count_from-within}
-use Rattle.depend_graph.proofs.EdgeLists.{edge_found, edge_is, edge_lists-still, edges_listed}
-use Rattle.depend_graph.proofs.Finished.{all_counted, all_listed, flag_other, flag_set, length_still, pending_is, start_counts}
+use Rattle.depend_graph.proofs.EdgeLists.{edge_found}
+use Rattle.depend_graph.proofs.Finished.{flag_other, flag_set, length_still, pending_is, start_counts}
 use Rattle.depend_graph.proofs.FlowKept.{recount_each, watches_same}
-use Rattle.depend_graph.proofs.Pending.{pending_other, pending_rises}
+use Rattle.depend_graph.proofs.OnWay.{counts_on, edge_standing, listed_before, of_slot, there_before}
+use Rattle.depend_graph.proofs.Pending.{pending_rises}
 use Rattle.depend_graph.proofs.Recounted.{IsElsewhere, IsHere, recounted}
 use Rattle.depend_graph.proofs.Steps.{steps_fall, steps_left}
 use Rattle.depend_graph.proofs.Still.{still_differ, still_empty, there_counted, there_still}
-use Rattle.depend_graph.proofs.Targets.{enough_fewer, group_of_edge}
-
--- the edge that the way has come to, with its group
-edge_standing : (olds news : List ListedLists) → map still_of news ≡ map still_of olds → all_listed news → (slot : ℕ) (a : EdgeAt) → IsEdgeOf (edge_lists olds) slot a → IsEdgeAt news a
-edge_standing olds news structure listed slot a on =
-    let there = subst (λ (ls : List (List Edge)). IsEdge ls a.depend a.edge on.edge) (sym (edge_lists-still olds news structure)) on.there in
-    let d = edge_found news a.depend a.edge on.edge there in
-    let one = listed a.depend d.0 d.1 in
-    let g = group_of_edge d.0.edges d.0.groups one.aims a.edge on.edge d.2 in
-    let c = slice_get_below d.0.counts on.edge.group (omega (arith, slice_get_within d.0.groups on.edge.group g.0 g.1, one.counted)) in
-    record {
-      edge = on.edge;
-      place = record { listed = d.0; one = g.0; count = c.0; listed_there = d.1; group_there = g.1; count_there = c.1 };
-      edge_there = d.2;
-    }
+use Rattle.depend_graph.proofs.Targets.{enough_fewer}
 
 -- ---- the beginning
 
-pub start_reopening : (done : List Bool) (slot : ℕ) (olds : List ListedLists) (first : Option EdgeAt) → IsLast (edge_lists olds) slot is_any first → is_flagged done slot ≡ true → all_listed olds → all_counted done olds
+pub start_reopening : (done : List Bool) (slot : ℕ) (olds : List ListedLists) (first : Option EdgeAt) → IsLast (edge_lists olds) slot is_any first → is_flagged done slot ≡ true → AllListed olds → AllCounted done olds
     → IsReopening done slot olds first olds
 start_reopening done slot olds first last flagged listed counted =
     record {
@@ -62,30 +48,23 @@ module _ (done : List Bool) (slot : ℕ) (olds news : List ListedLists) (o : Opt
   pub standing : IsEdgeAt news a
   standing = edge_standing olds news at_o.structure at_o.listed slot a (at_a.on_way a refl)
 
-  module _ (next : (p i : ℕ) (e : Edge) → IsEdge (edge_lists olds) p i e → IsLast (edge_lists olds) e.slot (is_ahead_of p i) e.next) where
-    same_lists : edge_lists news ≡ edge_lists olds
-    same_lists = edge_lists-still olds news at_o.structure
-
+  module _ (next : KeepsNext (edge_lists olds)) where
     module _ (d : ListedLists) (x : Edge) (at : slice_get news a.depend ≡ Some d) (at_edge : slice_get d.edges a.edge ≡ Some x) where
+      on_way : IsEdgeOf (edge_lists olds) slot a
+      on_way = at_a.on_way a refl
+
       there : IsEdge (edge_lists olds) a.depend a.edge x
-      there = subst (λ (ls : List (List Edge)). IsEdge ls a.depend a.edge x) same_lists (edge_is news a.depend a.edge d x at at_edge)
+      there = there_before slot olds news at_o.structure a on_way d x at at_edge
 
       on : x.slot ≡ slot
-      on =
-          let one = at_a.on_way a refl in
-          let lists_same : there.edges ≡ one.there.edges = same_Some there.edges one.there.edges (sym there.listed ∙ one.there.listed) in
-          let one_edge : x ≡ one.edge = same_Some x one.edge (sym there.there ∙ (ap (λ (es : List Edge). slice_get es a.edge) lists_same ∙ one.there.there)) in
-          ap (λ (e : Edge). e.slot) one_edge ∙ one.slot_is
+      on = of_slot slot olds news at_o.structure a on_way d x at at_edge
 
       goes_on : IsLast (edge_lists olds) slot (is_ahead_of a.depend a.edge) x.next
       goes_on = subst (λ (s : ℕ). IsLast (edge_lists olds) s (is_ahead_of a.depend a.edge) x.next) on (next a.depend a.edge x there)
 
-      listed_here : slice_get (edge_lists olds) a.depend ≡ Some d.edges
-      listed_here = subst (λ (ls : List (List Edge)). slice_get ls a.depend ≡ Some d.edges) same_lists (edges_listed news a.depend d at)
-
       module _ (c : Count) (at_count : slice_get d.counts x.group ≡ Some c) where
         rises : c.undone + 1 ≡ count_from (is_pending same done slot x.next x.group a.depend) 0 d.edges
-        rises = omega (arith, at_a.counts a.depend x.group d c at at_count, pending_rises same done (edge_lists olds) slot a x there on x.next goes_on d.edges listed_here refl refl)
+        rises = omega (arith, at_a.counts a.depend x.group d c at at_count, pending_rises same done (edge_lists olds) slot a x there on x.next goes_on d.edges (listed_before slot olds news at_o.structure a on_way d x at at_edge) refl refl)
 
         -- the count can be raised
         pub raised_fits : c.undone < 2 ^ 32 - 1
@@ -96,18 +75,7 @@ module _ (done : List Bool) (slot : ℕ) (olds news : List ListedLists) (o : Opt
         case p m e n at_e at_n = recounted news a.depend x.group d c (raised x.group) more at at_count refl refl p m e n at_e at_n
 
         raised_counts : CountsPending same done slot x.next (changed_at news a.depend (raised x.group))
-        raised_counts p m e n at_e at_n = by_case (case p m e n at_e at_n) where
-          by_case : (IsHere a.depend x.group p m d e c n more) ⊎ (IsElsewhere news a.depend x.group p m e n) → n.undone ≡ count_from (is_pending same done slot x.next m p) 0 e.edges
-          by_case (inl here) =
-              ap (λ (y : Count). y.undone) here.count_is
-              ∙ (rises
-              ∙ (ap (λ (s : Still). count_from (is_pending same done slot x.next x.group a.depend) 0 s.edges) here.still
-              ∙ λ i. count_from (is_pending same done slot x.next (sym here.group i) (sym here.place i)) 0 e.edges))
-          by_case (inr other) =
-              at_a.counts p m other.was n other.was_there other.count_there
-              ∙ (ap (λ (s : Still). count_from (is_pending same done slot (Some a) m p) 0 s.edges) other.still
-              ∙ pending_other same done (edge_lists olds) slot a x there on x.next goes_on p m e.edges
-              (subst (λ (ls : List (List Edge)). slice_get ls p ≡ Some e.edges) same_lists (edges_listed news p other.was other.was_there ∙ ap (λ (s : Still). Some s.edges) other.still)) other.apart)
+        raised_counts p m e n at_e at_n = counts_on slot olds news at_o.structure a on_way d x at at_edge same done at_a.counts goes_on c more rises p m e n (case p m e n at_e at_n)
 
         raised_meets : MeetsAll (changed_at news a.depend (raised x.group))
         raised_meets p m e y n at_e at_y at_n enough = by_case (case p m e n at_e at_n) where
@@ -147,7 +115,7 @@ module _ (done : List Bool) (slot : ℕ) (olds news : List ListedLists) (o : Opt
       last_there : IsLast (edge_lists olds) slot (is_ahead_of a.depend a.edge) standing.edge.next
       last_there = goes_on standing.place.listed standing.edge standing.place.listed_there standing.edge_there
 
-      pub reopen_falls : all_listed olds → steps_left result < steps_left o
+      pub reopen_falls : AllListed olds → steps_left result < steps_left o
       reopen_falls listed =
           subst (λ (w : Option EdgeAt). steps_left result < steps_left w) (sym is)
           (steps_fall a result (λ n at_n. last_there.wanted_one n (sym result_is ∙ at_n))
@@ -159,7 +127,7 @@ module _ (done : List Bool) (slot : ℕ) (olds news : List ListedLists) (o : Opt
 -- ---- the end
 
 module _ (done : List Bool) (slot : ℕ) (olds news : List ListedLists) (pass : IsReopening done slot olds None news) where
-  pub reopened_counted : slot < length done → all_counted (slice_set done slot false) news
+  pub reopened_counted : slot < length done → AllCounted (slice_set done slot false) news
   reopened_counted within = λ p d at.
       record {
         undone_kept = λ k c at_count.

@@ -42,12 +42,25 @@ satisfied_step (x ∷ xs) (y ∷ ys) (suc q) change old new n at_old at no_old n
     ∙ (ap (cond (became_satisfied n (watch_by x) (watch_by y)) true) (satisfied_step xs ys q change old new n at_old at no_old no_new)
     ∙ or_later (became_satisfied n (watch_by x) (watch_by y)) (was_satisfied (watches xs) (watches ys) n) (eqb old.depend n && is_satisfied (watch_by (change new))))
 
-pub any-push : (xs : List ℕ) (y n : ℕ) → list_any (λ m. eqb m n) (xs ++ y ∷ []) ≡ (list_any (λ m. eqb m n) xs || eqb y n)
-any-push [] y n = last (eqb y n) where
+-- ---- one more in a list
+
+pub any_last : {X : Type 0} (test : X → Bool) (xs : List X) (y : X) → list_any test (xs ++ y ∷ []) ≡ (list_any test xs || test y)
+any_last test [] y = last (test y) where
   last : (b : Bool) → (b || false) ≡ (false || b)
   last true = refl
   last false = refl
-any-push (x ∷ xs) y n = ap (λ b. eqb x n || b) (any-push xs y n) ∙ by_head (eqb x n) (list_any (λ m. eqb m n) xs) (eqb y n) where
+any_last test (x ∷ xs) y = ap (λ b. test x || b) (any_last test xs y) ∙ by_head (test x) (list_any test xs) (test y) where
   by_head : (a b c : Bool) → (a || (b || c)) ≡ ((a || b) || c)
   by_head true b c = refl
   by_head false b c = refl
+
+pub any_where : (b : Bool) (xs : List ℕ) (x n : ℕ) → list_any (λ m. eqb m n) (cond b (xs ++ x ∷ []) xs) ≡ (list_any (λ m. eqb m n) xs || (eqb x n && b))
+any_where true xs x n = any_last (λ m. eqb m n) xs x ∙ ap (λ b. list_any (λ m. eqb m n) xs || b) (with_true (eqb x n)) where
+  with_true : (b : Bool) → b ≡ (b && true)
+  with_true true = refl
+  with_true false = refl
+any_where false xs x n = without (list_any (λ m. eqb m n) xs) (eqb x n) where
+  without : (a b : Bool) → a ≡ (a || (b && false))
+  without true b = refl
+  without false true = refl
+  without false false = refl

@@ -1,25 +1,24 @@
 -- What a trial tells of the groups that would be met, and of the depends that would be satisfied.
-use Rattle.std.proofs.Common.{◌≡◌, ◌≢◌, ℕ, zero, suc, ◌+◌, ◌-◌, Bool, true, false, not, cond, eqb, List, [], ◌∷◌, ◌++◌, Option, Some, refl, sym, ap, subst, ◌∙◌, ◌⊎◌, inl, inr, arith}
+use Rattle.std.proofs.Common.{◌≡◌, ℕ, zero, suc, ◌-◌, Bool, true, false, not, cond, eqb, List, [], ◌∷◌, ◌++◌, Option, Some, refl, sym, ap, subst, ◌∙◌}
 use Rattle.std.specs.Prelude.{◌&&◌, ◌||◌}
-use Rattle.std.specs.List.{slice_get, count_by, list_any}
-use Rattle.std.proofs.lemmas.Bool.{eq-eqb, ne_eqb, false≢true}
+use Rattle.std.specs.List.{slice_get, list_any}
+use Rattle.std.proofs.lemmas.Bool.{false≢true}
 use Rattle.std.proofs.lemmas.Option.{none-some, same_Some}
 use Rattle.farm_types.specs.declared.depend.Group.{Group}
 use Rattle.farm_types.specs.Farm.{changed_at}
-use Rattle.farm_types.proofs.Changed.{changed_at_each, changed_at_same, length-changed_at, places}
+use Rattle.farm_types.proofs.Changed.{changed_at_each, changed_at_same}
 use Rattle.farm_types.proofs.ChangedLists.{changed_at_suc}
 use Rattle.farm_types.proofs.Lists.{and_both}
 use Rattle.depend_graph.specs.Flow.{Flow, fewer, is_due, lowered, lowered_flow, met_at, met_count, met_flow, passed_flow}
-use Rattle.depend_graph.specs.Graph.{Watch, Watched, becomes_met, is_mark, is_satisfied, met_between, was_met, was_satisfied}
+use Rattle.depend_graph.specs.Graph.{Watch, Watched, becomes_met, is_mark, met_between, was_met, was_satisfied}
 use Rattle.depend_graph.specs.Inside.{watches}
-use Rattle.depend_graph.specs.Listed.{IsListed, ListedLists, is_enough, is_unmet, mark_for, watch_by, watched_by, watched_with}
+use Rattle.depend_graph.specs.Listed.{AllListed, ListedLists, is_enough, mark_for, watched_by, watched_with}
 use Rattle.depend_graph.specs.Trial.{IsLaid, IsMet, IsMetWhere, MetLists, Tells, becomes_due, count_or, nothing_met}
 use Rattle.depend_graph.specs.declared.listed.Count.{Count}
-use Rattle.depend_graph.proofs.Finished.{all_listed}
 use Rattle.depend_graph.proofs.FlowKept.{never_became, never_satisfied, recount_each, watches_same}
-use Rattle.depend_graph.proofs.Satisfied.{any-push, or_later, satisfied_step}
+use Rattle.depend_graph.proofs.Satisfied.{any_last, any_where, or_later, satisfied_step}
 use Rattle.depend_graph.proofs.Tried.{due_by}
-use Rattle.depend_graph.proofs.Watches.{met_count_unmet, satisfied_by}
+use Rattle.depend_graph.proofs.Watches.{satisfied_then, unsatisfied}
 
 -- ---- one group is met
 
@@ -76,44 +75,6 @@ met_step (x ∷ xs) (y ∷ ys) (suc q) k old new g h o c n position at_old at at
     ∙ (ap (cond here true) (met_step xs ys q k old new g h o c n position at_old at at_g at_o at_h at_c isnt)
     ∙ or_later here (was_met (watches xs) (watches ys) n position) (eqb old.depend n && eqb g.position position))
 
--- ---- one more in a list
-
-any_last : {X : Type 0} (test : X → Bool) (xs : List X) (y : X) → list_any test (xs ++ y ∷ []) ≡ (list_any test xs || test y)
-any_last test [] y = last (test y) where
-  last : (b : Bool) → (b || false) ≡ (false || b)
-  last true = refl
-  last false = refl
-any_last test (x ∷ xs) y = ap (λ b. test x || b) (any_last test xs y) ∙ by_head (test x) (list_any test xs) (test y) where
-  by_head : (a b c : Bool) → (a || (b || c)) ≡ ((a || b) || c)
-  by_head true b c = refl
-  by_head false b c = refl
-
-any_where : (b : Bool) (xs : List ℕ) (x n : ℕ) → list_any (λ m. eqb m n) (cond b (xs ++ x ∷ []) xs) ≡ (list_any (λ m. eqb m n) xs || (eqb x n && b))
-any_where true xs x n = any-push xs x n ∙ ap (λ b. list_any (λ m. eqb m n) xs || b) (with_true (eqb x n)) where
-  with_true : (b : Bool) → b ≡ (b && true)
-  with_true true = refl
-  with_true false = refl
-any_where false xs x n = without (list_any (λ m. eqb m n) xs) (eqb x n) where
-  without : (a b : Bool) → a ≡ (a || (b && false))
-  without true b = refl
-  without false true = refl
-  without false false = refl
-
--- ---- a depend with a group that isn't met
-
-module _ (d : ListedLists) (one : IsListed d) (k : ℕ) (g : Group) (c : Count) (at : slice_get d.groups k ≡ Some g) (at_count : slice_get d.counts k ≡ Some c) (unmet : c.met ≡ false) where
-  was_unmet : count_by is_unmet (changed_at d.counts k met_count) + 1 ≡ d.unmet
-  was_unmet = met_count_unmet d k g c at at_count unmet ∙ sym one.unmet_kept
-
-  unsatisfied : is_satisfied (watch_by d) ≡ false
-  unsatisfied = satisfied_by d one.counted one.unmet_kept ∙ ne_eqb d.unmet 0 (λ none. absurd (omega (arith, was_unmet)))
-
-  satisfied_then : is_satisfied (watch_by (met_at k d)) ≡ eqb d.unmet 1
-  satisfied_then = satisfied_by (met_at k d) (length-changed_at d.counts k met_count ∙ one.counted) (omega (arith, was_unmet)) ∙ by_last (places d.unmet 1) where
-    by_last : (d.unmet ≡ 1) ⊎ (d.unmet ≢ 1) → eqb (d.unmet - 1) 0 ≡ eqb d.unmet 1
-    by_last (inl last) = eq-eqb (d.unmet - 1) 0 (omega arith) ∙ sym (eq-eqb d.unmet 1 last)
-    by_last (inr more) = ne_eqb (d.unmet - 1) 0 (λ none. more (omega (arith, was_unmet))) ∙ sym (ne_eqb d.unmet 1 more)
-
 -- ---- what is told
 
 module _ (olds : List ListedLists) where
@@ -128,7 +89,7 @@ module _ (olds : List ListedLists) where
         satisfied = λ n. tells.satisfied n ∙ ap (λ (ws : List Watch). was_satisfied (watches olds) ws n) (sym same);
       }
 
-  module _ (ds : List ListedLists) (old_listed : all_listed olds) (listed : all_listed ds) (m l : MetLists) (p k : ℕ) (d e : ListedLists) (g h : Group) (c n : Count) (at_d : slice_get olds p ≡ Some d)
+  module _ (ds : List ListedLists) (old_listed : AllListed olds) (listed : AllListed ds) (m l : MetLists) (p k : ℕ) (d e : ListedLists) (g h : Group) (c n : Count) (at_d : slice_get olds p ≡ Some d)
       (at_e : slice_get ds p ≡ Some e) (at_g : slice_get d.groups k ≡ Some g) (at_c : slice_get d.counts k ≡ Some c) (at_h : slice_get e.groups k ≡ Some h) (at_n : slice_get e.counts k ≡ Some n)
       (unmet_c : c.met ≡ false) (unmet_n : n.met ≡ false) (hit : IsMet p d g m l) (tells : Tells olds m ds)
     where
@@ -154,8 +115,8 @@ module _ (olds : List ListedLists) where
                 ap (list_any (λ j. eqb j i)) (hit.satisfied ∙ ap (λ (j : ℕ). cond (eqb j 1) (m.satisfied ++ d.depend ∷ []) m.satisfied) (sym left_here))
                 ∙ (any_where (eqb e.unmet 1) m.satisfied d.depend i
                 ∙ (ap (λ b. b || (eqb d.depend i && eqb e.unmet 1)) (tells.satisfied i)
-                ∙ (ap (λ b. was_satisfied (watches olds) (watches ds) i || (eqb d.depend i && b)) (sym (satisfied_then e (listed p e at_e) k h n at_h at_n unmet_n))
-                ∙ sym (satisfied_step olds ds p (met_at k) d e i at_d at_e (unsatisfied d (old_listed p d at_d) k g c at_g at_c unmet_c) (unsatisfied e (listed p e at_e) k h n at_h at_n unmet_n)))));
+                ∙ (ap (λ b. was_satisfied (watches olds) (watches ds) i || (eqb d.depend i && b)) (sym (satisfied_then e k h n at_h at_n unmet_n (listed p e at_e)))
+                ∙ sym (satisfied_step olds ds p (met_at k) d e i at_d at_e (unsatisfied d k g c at_g at_c unmet_c (old_listed p d at_d)) (unsatisfied e k h n at_h at_n unmet_n (listed p e at_e))))));
           }
 
   unmarked : (b : Bool) → not b ≡ true → b ≡ false
@@ -167,7 +128,7 @@ module _ (olds : List ListedLists) where
   was_unmarked false enough isnt = refl
 
   -- one target of a group fewer is undone
-  module _ (old_listed : all_listed olds) (f : Flow) (listed : all_listed f.depends) (m l : MetLists) (o : Option ℕ) (p k : ℕ) (d e : ListedLists) (g : Group) (c n : Count)
+  module _ (old_listed : AllListed olds) (f : Flow) (listed : AllListed f.depends) (m l : MetLists) (o : Option ℕ) (p k : ℕ) (d e : ListedLists) (g : Group) (c n : Count)
       (at_d : slice_get olds p ≡ Some d) (at_e : slice_get f.depends p ≡ Some e) (at_g : slice_get d.groups k ≡ Some g) (at_c : slice_get d.counts k ≡ Some c) (at_h : slice_get e.groups k ≡ Some g)
       (at_n : slice_get e.counts k ≡ Some n) (before : IsLaid o g c n) (hit : IsMetWhere (becomes_due g c (count_or c.undone o)) p d g m l) (tells : Tells olds m f.depends)
     where

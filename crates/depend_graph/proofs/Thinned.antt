@@ -16,6 +16,7 @@ use Rattle.depend_graph.proofs.Gone.{gone_by}
 use Rattle.depend_graph.specs.Listed.{ListedLists, has_number, is_there, mark_for, watch_by, watched_with}
 use Rattle.depend_graph.specs.declared.listed.Count.{Count}
 use Rattle.depend_graph.specs.declared.marks.Marks.{Marks}
+use Rattle.depend_graph.proofs.Watches.{weight_of}
 
 -- those with a mark
 abbrev pub thinned : List Bool → List Watch → List Watch
@@ -37,9 +38,6 @@ thinned_sum weight none (b ∷ bs) (w ∷ ws) empty = by_mark b refl (thinned_su
 
 none_unmet : (s : ℕ) (w : Watch) → w.groups ≡ [] → unmet_in s w ≡ 0
 none_unmet s w none = ap (λ (ws : List Watched). count_by (holds s) ws) none
-
-abbrev weight_of : Watch → ℕ
-weight_of w = cond (is_satisfied w) 0 (length w.groups)
 
 none_left : (w : Watch) → w.groups ≡ [] → weight_of w ≡ 0
 none_left w none = ap (λ (ws : List Watched). cond (list_all is_met ws) 0 (length ws)) none

@@ -10,11 +10,10 @@ use Rattle.farm_types.specs.Sums.{total_at}
 use Rattle.farm_types.proofs.Changed.{places}
 use Rattle.depend_graph.specs.Flow.{Flow, Waiting, all_freed, fewer, freed, is_due, lowered, lowered_flow, met_flow, passed_flow}
 use Rattle.depend_graph.specs.Kept.{still_of}
-use Rattle.depend_graph.specs.Listed.{ListedLists, is_enough}
+use Rattle.depend_graph.specs.Listed.{AllListed, ListedLists, is_enough}
 use Rattle.depend_graph.specs.Trial.{Agrees, IsHit, IsLaid, becomes_due, count_or, is_at, key_of}
 use Rattle.depend_graph.specs.declared.listed.Count.{Count}
 use Rattle.depend_graph.proofs.Counts.{count_by-cons, one_if, total_at-changed_other, total_at-changed_same}
-use Rattle.depend_graph.proofs.Finished.{all_listed}
 use Rattle.depend_graph.proofs.Passed.{flow_depends, stepped, stepped_counts, stepped_still, turned}
 use Rattle.depend_graph.proofs.Recounted.{IsElsewhere, IsHere, recounted}
 use Rattle.depend_graph.proofs.Targets.{enough_fewer}
@@ -64,7 +63,7 @@ due_by false false enough_now = refl
 
 -- ---- one target of a group fewer is undone
 
-module _ (olds : List ListedLists) (unmet : List ℕ) (over laid : ℕ → Option ℕ) (xs ys : List ℕ) (f : Flow) (agrees : Agrees olds unmet over xs f.depends f.unmet) (listed : all_listed olds)
+module _ (olds : List ListedLists) (unmet : List ℕ) (over laid : ℕ → Option ℕ) (xs ys : List ℕ) (f : Flow) (agrees : Agrees olds unmet over xs f.depends f.unmet) (listed : AllListed olds)
     (structure : map still_of f.depends ≡ map still_of olds) (p k : ℕ) (d e : ListedLists) (g : Group) (c n : Count) (at_d : slice_get olds p ≡ Some d) (at_e : slice_get f.depends p ≡ Some e)
     (at_g : slice_get d.groups k ≡ Some g) (at_c : slice_get d.counts k ≡ Some c) (at_n : slice_get e.counts k ≡ Some n) (hit : IsHit (key_of p k) g c over laid xs ys)
   where

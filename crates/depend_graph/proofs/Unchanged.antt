@@ -10,9 +10,9 @@ use Rattle.farm_types.proofs.Lists.{and_both}
 use Rattle.depend_graph.specs.Graph.{GraphLists, HasOpened, OpenedLists, Watch, completed, completed_in, has_opened, is_completed, is_flagged, nothing_opened, numbers_from, opened_between, with_done}
 use Rattle.farm_types.specs.declared.limits.TheConstants.{SLOT_LIMIT}
 use Rattle.depend_graph.specs.Inside.{there_of, watches}
-use Rattle.depend_graph.specs.Listed.{ListedLists, has_number, is_enough, is_there, watch_by, watched_by}
+use Rattle.depend_graph.specs.Listed.{AllCounted, AllListed, ListedLists, has_number, is_enough, is_there, watch_by, watched_by}
 use Rattle.depend_graph.specs.declared.listed.Count.{Count}
-use Rattle.depend_graph.proofs.Finished.{all_counted, all_listed, watched_changed, watches_changed}
+use Rattle.depend_graph.proofs.Finished.{watched_changed, watches_changed}
 use Rattle.depend_graph.proofs.FlowKept.{never_opened, never_satisfied}
 use Rattle.depend_graph.proofs.Thinned.{mapped_there}
 use Rattle.depend_graph.proofs.Targets.{are_done_by, edges_counted, targets_in}
@@ -35,7 +35,7 @@ flag_stays done slot flag same = flag_same done slot flag same
 
 -- ---- a group whose targets are done is met already
 
-module _ (done : List Bool) (slot : ℕ) (ds : List ListedLists) (listed : all_listed ds) (counted : all_counted done ds) where
+module _ (done : List Bool) (slot : ℕ) (ds : List ListedLists) (listed : AllListed ds) (counted : AllCounted done ds) where
   watched_stays : (g : Group) (c : Count) → (is_completed done slot g ≡ true → c.met ≡ true) → watched_by g c ≡ completed done slot (watched_by g c)
   watched_stays g c met = by_done (cases_Bool (is_completed done slot g)) where
     by_done : (is_completed done slot g ≡ true) ⊎ (is_completed done slot g ≡ false) → watched_by g c ≡ completed done slot (watched_by g c)
@@ -62,7 +62,7 @@ module _ (done : List Bool) (slot : ℕ) (ds : List ListedLists) (listed : all_l
   all_stay = watches_changed (completed_in done slot) ds ds refl one_stays
 
 -- a frame that is so already
-pub done_already : (done : List Bool) (slot : ℕ) (ds : List ListedLists) → all_listed ds → all_counted done ds → (flag : Bool) → slice_set done slot flag ≡ done
+pub done_already : (done : List Bool) (slot : ℕ) (ds : List ListedLists) → AllListed ds → AllCounted done ds → (flag : Bool) → slice_set done slot flag ≡ done
     → ◌≡◌ {A = GraphLists} (record { done = done; depends = watches ds }) (with_done (record { done = done; depends = watches ds }) slot flag)
 done_already done slot ds listed counted true same =
     (λ i. record { done = done; depends = all_stay done slot ds listed counted i })
@@ -70,7 +70,7 @@ done_already done slot ds listed counted true same =
 done_already done slot ds listed counted false same = λ i. record { done = sym same i; depends = watches ds }
 
 -- and so it is with those that weren't forgotten
-pub done_there : (done : List Bool) (slot : ℕ) (ds : List ListedLists) → all_listed ds → all_counted done ds → (flag : Bool) → slice_set done slot flag ≡ done
+pub done_there : (done : List Bool) (slot : ℕ) (ds : List ListedLists) → AllListed ds → AllCounted done ds → (flag : Bool) → slice_set done slot flag ≡ done
     → ◌≡◌ {A = GraphLists} (record { done = done; depends = watches (there_of ds) }) (with_done (record { done = done; depends = watches (there_of ds) }) slot flag)
 done_there done slot ds listed counted true same =
     (λ i. record { done = done; depends = mapped_there ds ds refl (completed_in done slot) (all_stay done slot ds listed counted) i })

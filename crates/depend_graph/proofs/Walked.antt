@@ -3,26 +3,30 @@ use Rattle.std.proofs.Common.{◌≡◌, ◌<◌, ℕ, Bool, true, List, length,
 use Rattle.std.specs.List.{slice_get}
 use Rattle.std.proofs.lemmas.Bool.{eqb-true, lt-ltb}
 use Rattle.std.proofs.lemmas.Option.{slice_get_within}
-use Rattle.farm_types.specs.declared.depend.Group.{Group}
 use Rattle.farm_types.specs.declared.limits.TheConstants.{MOST_DEPENDS}
-use Rattle.depend_graph.specs.Flow.{Flow, IsEdgeAt, is_last_of, passed_flow}
+use Rattle.depend_graph.specs.Flow.{AtEdge, Flow, HasPassed, HasRoomAt, IsEdgeAt, is_last_of, passed_flow}
 use Rattle.depend_graph.specs.Kept.{KeepsFlow, is_left}
 use Rattle.depend_graph.specs.Listed.{IsListed, ListedLists}
 use Rattle.depend_graph.specs.Passing.{IsPassing}
-use Rattle.depend_graph.specs.Ways.{IsEdge, IsLast, edge_lists, is_ahead_of}
+use Rattle.depend_graph.specs.Ways.{IsEdge, IsLast, KeepsNext, edge_lists, is_ahead_of}
 use Rattle.depend_graph.specs.declared.links.Edge.{Edge}
 use Rattle.depend_graph.specs.declared.links.EdgeAt.{EdgeAt}
-use Rattle.depend_graph.specs.declared.listed.Count.{Count}
 use Rattle.depend_graph.proofs.EdgeLists.{edge_found, edge_is, edge_lists-still}
-use Rattle.depend_graph.proofs.Passed.{edge_place, passed}
+use Rattle.depend_graph.proofs.OnWay.{edge_standing}
+use Rattle.depend_graph.proofs.Passed.{passed}
 use Rattle.depend_graph.proofs.Steps.{steps_fall, steps_left}
 use Rattle.depend_graph.proofs.Targets.{count_by-there}
 
 -- there is room for the number of a depend that is about to be satisfied
-pub satisfied_fits : (olds : List ListedLists) (f : Flow) → KeepsFlow olds f → (q : ℕ) (d : ListedLists) → slice_get f.depends q ≡ Some d → is_last_of d ≡ true → length f.opened.satisfied < MOST_DEPENDS
+satisfied_fits : (olds : List ListedLists) (f : Flow) → KeepsFlow olds f → (q : ℕ) (d : ListedLists) → slice_get f.depends q ≡ Some d → is_last_of d ≡ true → length f.opened.satisfied < MOST_DEPENDS
 satisfied_fits olds f kept q d at last =
     let one : d.unmet ≡ 1 = eqb-true d.unmet 1 last in
     omega (arith, kept.satisfied_room, count_by-there is_left f.depends q d at (lt-ltb 0 d.unmet (omega arith)))
+
+-- so there is room for all that opens where one of its groups is met
+pub room_at : (olds : List ListedLists) (f : Flow) → KeepsFlow olds f → (q : ℕ) → HasRoomAt f q
+room_at olds f kept q =
+    record { within = λ d at. (kept.listed q d at).groups_within; slots = kept.slots_room; satisfied = λ d at last. satisfied_fits olds f kept q d at last }
 
 -- the way goes on from an edge to one before it
 pub way_falls : (olds : List ListedLists) (a : EdgeAt) (e : Edge) → IsLast (edge_lists olds) e.slot (is_ahead_of a.depend a.edge) e.next → ((p : ℕ) (d : ListedLists) → slice_get olds p ≡ Some d → IsListed d)
@@ -39,10 +43,10 @@ module _ (done : List Bool) (slot : ℕ) (olds : List ListedLists) (o : Option E
   at_a = subst (λ (x : Option EdgeAt). IsPassing done slot olds x f) is at_o
 
   pub place_there : IsEdgeAt f.depends a
-  place_there = edge_place olds f at_o.flow slot a (at_a.on_way a refl)
+  place_there = edge_standing olds f.depends at_o.flow.structure at_o.flow.listed slot a (at_a.on_way a refl)
 
-  module _ (next : (p i : ℕ) (e : Edge) → IsEdge (edge_lists olds) p i e → IsLast (edge_lists olds) e.slot (is_ahead_of p i) e.next) (result : Option EdgeAt)
-      (next_is : (d : ListedLists) (e : Edge) → slice_get f.depends a.depend ≡ Some d → slice_get d.edges a.edge ≡ Some e → result ≡ e.next)
+  module _ (next : KeepsNext (edge_lists olds)) (result : Option EdgeAt)
+      (next_is : AtEdge f.depends a (λ d e. result ≡ e.next))
     where
       edge_there : IsEdge (edge_lists olds) a.depend a.edge place_there.edge
       edge_there =
@@ -62,13 +66,11 @@ module _ (done : List Bool) (slot : ℕ) (olds : List ListedLists) (o : Option E
           (passed done slot olds a f at_a within w.listed x w.one w.count w.listed_there p.edge_there w.group_there w.count_there
           (λ on. subst (λ (s : ℕ). IsLast (edge_lists olds) s (is_ahead_of a.depend a.edge) x.next) on (next a.depend a.edge x edge_there)))
 
-      pub step_passed : slot < length done → (new : Flow)
-          → ((d : ListedLists) (e : Edge) (g : Group) (c : Count) → slice_get f.depends a.depend ≡ Some d → slice_get d.edges a.edge ≡ Some e → slice_get d.groups e.group ≡ Some g → slice_get d.counts e.group ≡ Some c → new ≡ passed_flow a.depend e.group d g c f)
-          → IsPassing done slot olds result new
+      pub step_passed : slot < length done → (new : Flow) → HasPassed a f new → IsPassing done slot olds result new
       step_passed within new new_is =
           let w = place_there.place in
           subst (λ (g : Flow). IsPassing done slot olds result g)
-          (sym (new_is w.listed place_there.edge w.one w.count w.listed_there place_there.edge_there w.group_there w.count_there)) (way_passed within)
+          (sym (new_is w.listed place_there.edge w.listed_there place_there.edge_there w.one w.count w.group_there w.count_there)) (way_passed within)
 
       pub step_falls : ((p : ℕ) (d : ListedLists) → slice_get olds p ≡ Some d → IsListed d) → steps_left result < steps_left o
       step_falls listed =

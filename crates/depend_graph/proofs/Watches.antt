@@ -1,18 +1,18 @@
 -- What a group that is met changes of the depend that it stands for.
-use Rattle.std.proofs.Common.{◌≡◌, ℕ, zero, suc, ◌+◌, Bool, true, false, not, eqb, List, [], ◌∷◌, length, Some, refl, sym, ap, subst, ◌∙◌, arith}
+use Rattle.std.proofs.Common.{◌≡◌, ◌≢◌, ℕ, zero, suc, ◌+◌, ◌-◌, Bool, true, false, not, cond, eqb, List, [], ◌∷◌, length, Some, refl, sym, ap, subst, ◌∙◌, ◌⊎◌, inl, inr, arith}
 use Rattle.std.specs.Prelude.{◌&&◌}
 use Rattle.std.specs.List.{slice_get, count_by, list_all, sum_by}
-use Rattle.std.proofs.lemmas.Bool.{ne_eqb}
+use Rattle.std.proofs.lemmas.Bool.{eq-eqb, ne_eqb}
 use Rattle.std.proofs.lemmas.Option.{none-some, same_Some}
 use Rattle.farm_types.specs.declared.depend.Group.{Group}
 use Rattle.farm_types.specs.Depends.{waits_in}
 use Rattle.farm_types.specs.Farm.{changed_at}
-use Rattle.farm_types.proofs.Changed.{changed_at_sum}
+use Rattle.farm_types.proofs.Changed.{changed_at_sum, length-changed_at, places}
 use Rattle.farm_types.proofs.ChangedLists.{changed_at_suc}
 use Rattle.depend_graph.specs.Flow.{met_at, met_count}
 use Rattle.depend_graph.specs.Graph.{Watch, Watched, holds, is_met, is_satisfied, unmet_in}
 use Rattle.depend_graph.specs.Inside.{watches}
-use Rattle.depend_graph.specs.Listed.{ListedLists, is_unmet, watch_by, watched_by, watched_with}
+use Rattle.depend_graph.specs.Listed.{IsListed, ListedLists, is_unmet, watch_by, watched_by, watched_with}
 use Rattle.depend_graph.specs.declared.listed.Count.{Count}
 use Rattle.depend_graph.proofs.Counts.{count_by-changed, count_by-cons, one_if, sum_by-mapped}
 
@@ -67,6 +67,15 @@ satisfied_is (y ∷ ys) (z ∷ zs) same = by_mark z.met refl (satisfied_is ys zs
 pub satisfied_by : (d : ListedLists) → length d.counts ≡ length d.groups → d.unmet ≡ count_by is_unmet d.counts → is_satisfied (watch_by d) ≡ eqb d.unmet 0
 satisfied_by d counted kept = satisfied_is d.groups d.counts counted ∙ ap (λ n. eqb n 0) (sym kept)
 
+-- how many groups of a depend count as left
+abbrev pub weight_of : Watch → ℕ
+weight_of w = cond (is_satisfied w) 0 (length w.groups)
+
+pub length-watched : (gs : List Group) (cs : List Count) → length cs ≡ length gs → length (watched_with gs cs) ≡ length gs
+length-watched [] cs same = refl
+length-watched (g ∷ gs) [] same = absurd (omega arith)
+length-watched (g ∷ gs) (c ∷ cs) same = omega (arith, length-watched gs cs (omega (arith, same)))
+
 -- ---- a group is met
 
 module _ (d : ListedLists) (k : ℕ) (g : Group) (c : Count) (at : slice_get d.groups k ≡ Some g) (at_count : slice_get d.counts k ≡ Some c) (unmet : c.met ≡ false) where
@@ -83,3 +92,17 @@ module _ (d : ListedLists) (k : ℕ) (g : Group) (c : Count) (at : slice_get d.g
       let e = count_by-changed is_unmet d.counts k met_count c at_count in
       let was : one_if (is_unmet c) ≡ 1 = ap (λ m. one_if (not m)) unmet in
       omega arith
+
+  -- of a depend that keeps its counts
+  module _ (one : IsListed d) where
+    pub unmet_before : count_by is_unmet (changed_at d.counts k met_count) + 1 ≡ d.unmet
+    unmet_before = met_count_unmet ∙ sym one.unmet_kept
+
+    pub unsatisfied : is_satisfied (watch_by d) ≡ false
+    unsatisfied = satisfied_by d one.counted one.unmet_kept ∙ ne_eqb d.unmet 0 (λ none. absurd (omega (arith, unmet_before)))
+
+    pub satisfied_then : is_satisfied (watch_by (met_at k d)) ≡ eqb d.unmet 1
+    satisfied_then = satisfied_by (met_at k d) (length-changed_at d.counts k met_count ∙ one.counted) (omega (arith, unmet_before)) ∙ by_last (places d.unmet 1) where
+      by_last : (d.unmet ≡ 1) ⊎ (d.unmet ≢ 1) → eqb (d.unmet - 1) 0 ≡ eqb d.unmet 1
+      by_last (inl last) = eq-eqb (d.unmet - 1) 0 (omega arith) ∙ sym (eq-eqb d.unmet 1 last)
+      by_last (inr more) = ne_eqb (d.unmet - 1) 0 (λ none. more (omega (arith, unmet_before))) ∙ sym (ne_eqb d.unmet 1 more)

@@ -1,13 +1,16 @@
 -- What changes while groups are met.
-use Rattle.std.specs.Prelude.{ℕ, ◌≡◌, ◌==◌, ◌&&◌, ◌+◌, ◌-◌, Bool, true, not, List, [], ◌∷◌, ◌++◌, fold, length, nat_lt, slice_get, Some, if◌then◌else◌}
+use Rattle.std.specs.Prelude.{ℕ, ◌≡◌, ◌==◌, ◌&&◌, ◌+◌, ◌-◌, ◌<◌, ◌≤◌, Bool, true, not, Some, if◌then◌else◌}
+use Rattle.std.specs.Prelude.{List, [], ◌∷◌, ◌++◌, count_by, fold, length, nat_lt, slice_get}
 use Rattle.farm_types.specs.declared.depend.Group.{Group}
+use Rattle.farm_types.specs.declared.limits.TheConstants.{MOST_DEPENDS, MOST_GROUPS, SLOT_LIMIT}
 use Rattle.farm_types.specs.Farm.{changed_at}
 use Rattle.farm_types.specs.Sums.{total_at}
 use Rattle.depend_graph.specs.Graph.{OpenedLists}
-use Rattle.depend_graph.specs.Listed.{ListedLists, is_enough}
+use Rattle.depend_graph.specs.Listed.{ListedLists, OfGroup, is_enough}
 use Rattle.depend_graph.specs.declared.links.Edge.{Edge}
 use Rattle.depend_graph.specs.declared.links.EdgeAt.{EdgeAt}
 use Rattle.depend_graph.specs.declared.listed.Count.{Count}
+use Rattle.depend_graph.specs.declared.tally.Tally.{Tally}
 
 -- ---- one depend
 
@@ -55,6 +58,18 @@ all_freed w waiters = fold freed w waiters
 abbrev pub is_positive : ℕ → Bool
 is_positive n = nat_lt 0 n
 
+-- the slots of those who wait are listed where they open
+abbrev pub slots_opened : List ℕ → OpenedLists → List ℕ → OpenedLists
+slots_opened unmet opened waiters = record opened { slots = (all_freed (waiting_of unmet opened.slots) waiters).slots }
+
+-- the last of the depend's groups that wasn't met
+abbrev pub is_last_of : ListedLists → Bool
+is_last_of d = d.unmet == 1
+
+-- and the depend is listed where that is met
+abbrev pub depend_opened : ListedLists → OpenedLists → OpenedLists
+depend_opened d opened = record opened { satisfied = if is_last_of d then opened.satisfied ++ d.depend ∷ [] else opened.satisfied }
+
 -- ---- the whole
 
 pub record Flow : Type 0 where
@@ -66,12 +81,11 @@ pub record Flow : Type 0 where
 abbrev pub flow_of : List ListedLists → List ℕ → ℕ → OpenedLists → Flow
 flow_of depends unmet left opened = record { depends = depends; unmet = unmet; left = left; opened = opened }
 
+abbrev pub flow_in : Tally → OpenedLists → Flow
+flow_in t opened = flow_of t.depends.items t.unmet.items t.left opened
+
 abbrev pub waiting_in : Flow → Waiting
 waiting_in f = waiting_of f.unmet f.opened.slots
-
--- the last of the depend's groups that wasn't met
-abbrev pub is_last_of : ListedLists → Bool
-is_last_of d = d.unmet == 1
 
 -- the group at a place of the depend at a place is met, with those who wait in it
 abbrev pub met_flow : ℕ → ℕ → ListedLists → Group → Flow → Flow
@@ -114,3 +128,43 @@ pub record IsEdgeAt (depends : List ListedLists) (at : EdgeAt) : Type 0 where
   pub edge : Edge
   pub place : IsGroupAt depends at.depend edge.group
   pub edge_there : slice_get place.listed.edges at.edge ≡ Some edge
+
+-- what holds of the depend at a place
+abbrev pub AtDepend : List ListedLists → ℕ → (ListedLists → Type 0) → Type 0
+AtDepend depends place P = (d : ListedLists) → slice_get depends place ≡ Some d → P d
+
+-- of a group of it, and of the group's count
+abbrev pub AtGroup : List ListedLists → ℕ → ℕ → (ListedLists → Group → Count → Type 0) → Type 0
+AtGroup depends place group P = AtDepend depends place (λ d. OfGroup d group (P d))
+
+-- of the edge that is named
+abbrev pub AtEdge : List ListedLists → EdgeAt → (ListedLists → Edge → Type 0) → Type 0
+AtEdge depends at P = (d : ListedLists) (e : Edge) → slice_get depends at.depend ≡ Some d → slice_get d.edges at.edge ≡ Some e → P d e
+
+-- and of its group
+abbrev pub AtTarget : List ListedLists → EdgeAt → (ListedLists → Edge → Group → Count → Type 0) → Type 0
+AtTarget depends at P = AtEdge depends at (λ d e. OfGroup d e.group (P d e))
+
+-- ---- one flow and the next
+
+-- the group at a place of the depend at a place is met
+abbrev pub HasMetGroup : ℕ → ℕ → Flow → Flow → Type 0
+HasMetGroup place group f new = AtGroup f.depends place group (λ d g c. new ≡ met_flow place group d g f)
+
+-- where it isn't met yet and lacks no target
+abbrev pub HasMetDue : ℕ → ℕ → Flow → Flow → Type 0
+HasMetDue place group f new = AtGroup f.depends place group (λ d g c. new ≡ due_flow place group d g c f)
+
+-- where it isn't met yet
+abbrev pub HasMetUnmet : ℕ → ℕ → Flow → Flow → Type 0
+HasMetUnmet place group f new = AtGroup f.depends place group (λ d g c. new ≡ (if c.met then f else met_flow place group d g f))
+
+-- the way has passed the edge that is named, whose group lacks one fewer
+abbrev pub HasPassed : EdgeAt → Flow → Flow → Type 0
+HasPassed at f new = AtTarget f.depends at (λ d e g c. new ≡ passed_flow at.depend e.group d g c f)
+
+-- there is room for all that opens where a group of the depend at a place is met
+pub record HasRoomAt (f : Flow) (place : ℕ) : Type 0 where
+  pub within : AtDepend f.depends place (λ d. length d.groups ≤ MOST_GROUPS)
+  pub slots : length f.opened.slots + count_by is_positive f.unmet ≤ SLOT_LIMIT
+  pub satisfied : AtDepend f.depends place (λ d. is_last_of d ≡ true → length f.opened.satisfied < MOST_DEPENDS)

@@ -155,7 +155,8 @@ met_between position (old ∷ olds) (new ∷ news) = if becomes_met position old
 abbrev pub was_met : List Watch → List Watch → ℕ → ℕ → Bool
 was_met [] news depend position = false
 was_met (old ∷ olds) [] depend position = false
-was_met (old ∷ olds) (new ∷ news) depend position = if old.depend == depend && met_between position old.groups new.groups then true else was_met olds news depend position
+was_met (old ∷ olds) (new ∷ news) depend position =
+    if old.depend == depend && met_between position old.groups new.groups then true else was_met olds news depend position
 
 abbrev pub is_mark : ℕ → ℕ → MetRow → Bool
 is_mark depend position m = m.depend == depend && m.position == position

@@ -6,7 +6,7 @@ use Rattle.farm_types.specs.declared.limits.TheConstants.{MOST_DEPENDS, SLOT_LIM
 use Rattle.depend_graph.specs.Flow.{Flow, is_positive}
 use Rattle.depend_graph.specs.Graph.{has_opened, is_satisfied, unmet_of, was_satisfied}
 use Rattle.depend_graph.specs.Inside.{KeepsSums, watches}
-use Rattle.depend_graph.specs.Listed.{IsListed, ListedLists, watch_by}
+use Rattle.depend_graph.specs.Listed.{AllListed, ListedLists, watch_by}
 use Rattle.depend_graph.specs.declared.links.Edge.{Edge}
 
 -- what no change of counts changes of a depend
@@ -26,10 +26,11 @@ is_left d = nat_lt 0 d.unmet
 -- The depends are the old ones but for what is met, which only grows. What is kept by slot, and what is listed as opened, fits them.
 pub record KeepsFlow (olds : List ListedLists) (f : Flow) : Type 0 where
   pub structure : map still_of f.depends ≡ map still_of olds
-  pub listed : (p : ℕ) (d : ListedLists) → slice_get f.depends p ≡ Some d → IsListed d
+  pub listed : AllListed f.depends
   pub sums : KeepsSums f.unmet f.left f.depends
   pub fewer : (slot : ℕ) → unmet_of (watches f.depends) slot ≤ unmet_of (watches olds) slot
-  pub stays_satisfied : (p : ℕ) (d e : ListedLists) → slice_get olds p ≡ Some d → slice_get f.depends p ≡ Some e → is_satisfied (watch_by d) ≡ true → is_satisfied (watch_by e) ≡ true
+  pub stays_satisfied : (p : ℕ) (d e : ListedLists) → slice_get olds p ≡ Some d → slice_get f.depends p ≡ Some e → is_satisfied (watch_by d) ≡ true
+      → is_satisfied (watch_by e) ≡ true
   pub slots : (slot : ℕ) → count_by (λ n. n == slot) f.opened.slots ≡ (if has_opened (watches olds) (watches f.depends) slot then 1 else 0)
   pub slots_room : length f.opened.slots + count_by is_positive f.unmet ≤ SLOT_LIMIT
   pub satisfied : (depend : ℕ) → list_any (λ n. n == depend) f.opened.satisfied ≡ was_satisfied (watches olds) (watches f.depends) depend

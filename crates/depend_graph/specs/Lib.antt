@@ -16,4 +16,5 @@ pub mod Passing
 pub mod Spare
 pub mod SpareInside
 pub mod Trial
+pub mod Tries
 pub mod Ways

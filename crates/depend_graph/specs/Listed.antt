@@ -64,6 +64,10 @@ is_enough g undone = if g.any then nat_lt undone (length g.targets) else undone 
 abbrev pub is_unmet : Count → Bool
 is_unmet c = not c.met
 
+-- what holds of the group at a place of it, and of the group's count
+abbrev pub OfGroup : ListedLists → ℕ → (Group → Count → Type 0) → Type 0
+OfGroup d group P = (g : Group) (c : Count) → slice_get d.groups group ≡ Some g → slice_get d.counts group ≡ Some c → P g c
+
 -- ---- what always holds of it
 
 -- a count for each group, and an edge for each target, so many that 32 bits count them
@@ -78,4 +82,15 @@ pub record IsListed (d : ListedLists) : Type 0 where
 -- the counts are those of the targets that aren't done, and a group that lacks none is met
 pub record KeepsCounts (done : List Bool) (d : ListedLists) : Type 0 where
   pub undone_kept : (k : ℕ) (c : Count) → slice_get d.counts k ≡ Some c → c.undone ≡ count_by (is_undone done k) d.edges
-  pub met_kept : (k : ℕ) (g : Group) (c : Count) → slice_get d.groups k ≡ Some g → slice_get d.counts k ≡ Some c → is_enough g c.undone ≡ true → c.met ≡ true
+  pub met_kept : (k : ℕ) → OfGroup d k (λ g c. is_enough g c.undone ≡ true → c.met ≡ true)
+
+-- it is so with each depend
+abbrev pub AllListed : List ListedLists → Type 0
+AllListed depends = (p : ℕ) (d : ListedLists) → slice_get depends p ≡ Some d → IsListed d
+
+abbrev pub AllCounted : List Bool → List ListedLists → Type 0
+AllCounted done depends = (p : ℕ) (d : ListedLists) → slice_get depends p ≡ Some d → KeepsCounts done d
+
+-- whatever the flags are, the counts stay those of the targets
+abbrev pub StayCounted : List ListedLists → List ListedLists → Type 0
+StayCounted olds news = (done : List Bool) → AllCounted done olds → AllCounted done news

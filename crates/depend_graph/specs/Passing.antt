@@ -5,7 +5,7 @@ use Rattle.depend_graph.specs.Flow.{Flow}
 use Rattle.depend_graph.specs.Graph.{is_completed, is_flagged}
 use Rattle.depend_graph.specs.Inside.{watches}
 use Rattle.depend_graph.specs.Kept.{KeepsFlow, still_of}
-use Rattle.depend_graph.specs.Listed.{IsListed, KeepsCounts, ListedLists, is_enough}
+use Rattle.depend_graph.specs.Listed.{AllListed, ListedLists, StayCounted, is_enough}
 use Rattle.depend_graph.specs.Ways.{IsEdgeOf, edge_lists, is_past}
 use Rattle.depend_graph.specs.declared.links.Edge.{Edge}
 use Rattle.depend_graph.specs.declared.links.EdgeAt.{EdgeAt}
@@ -23,12 +23,14 @@ count_from test i (e ∷ es) = (if test i e then 1 else 0) + count_from test (i 
 -- the counts are those of the edges that count as undone
 abbrev pub CountsPending : (Bool → Bool) → List Bool → ℕ → Option EdgeAt → List ListedLists → Type 0
 CountsPending turned done slot at depends =
-    (p k : ℕ) (d : ListedLists) (c : Count) → slice_get depends p ≡ Some d → slice_get d.counts k ≡ Some c → c.undone ≡ count_from (is_pending turned done slot at k p) 0 d.edges
+    (p k : ℕ) (d : ListedLists) (c : Count) → slice_get depends p ≡ Some d → slice_get d.counts k ≡ Some c
+    → c.undone ≡ count_from (is_pending turned done slot at k p) 0 d.edges
 
 -- each group that lacks none is met
 abbrev pub MeetsAll : List ListedLists → Type 0
 MeetsAll depends =
-    (p k : ℕ) (d : ListedLists) (g : Group) (c : Count) → slice_get depends p ≡ Some d → slice_get d.groups k ≡ Some g → slice_get d.counts k ≡ Some c → is_enough g c.undone ≡ true → c.met ≡ true
+    (p k : ℕ) (d : ListedLists) (g : Group) (c : Count) → slice_get depends p ≡ Some d → slice_get d.groups k ≡ Some g → slice_get d.counts k ≡ Some c
+    → is_enough g c.undone ≡ true → c.met ≡ true
 
 -- a group's mark is the old one, or it is met since its targets are done
 pub record IsMarked (done : List Bool) (slot : ℕ) (g : Group) (old new : Count) : Type 0 where
@@ -37,8 +39,8 @@ pub record IsMarked (done : List Bool) (slot : ℕ) (g : Group) (old new : Count
 
 abbrev pub OnlyCompletes : List Bool → ℕ → List ListedLists → List ListedLists → Type 0
 OnlyCompletes done slot olds news =
-    (p k : ℕ) (d e : ListedLists) (g : Group) (old new : Count) → slice_get olds p ≡ Some d → slice_get news p ≡ Some e → slice_get e.groups k ≡ Some g → slice_get d.counts k ≡ Some old
-    → slice_get e.counts k ≡ Some new → IsMarked done slot g old new
+    (p k : ℕ) (d e : ListedLists) (g : Group) (old new : Count) → slice_get olds p ≡ Some d → slice_get news p ≡ Some e
+    → slice_get e.groups k ≡ Some g → slice_get d.counts k ≡ Some old → slice_get e.counts k ≡ Some new → IsMarked done slot g old new
 
 -- the slot is done, and so far as its edges are past, the counts and marks tell so
 pub record IsPassing (done : List Bool) (slot : ℕ) (olds : List ListedLists) (at : Option EdgeAt) (f : Flow) : Type 0 where
@@ -55,7 +57,7 @@ same b = b
 pub record IsReopening (done : List Bool) (slot : ℕ) (olds : List ListedLists) (at : Option EdgeAt) (news : List ListedLists) : Type 0 where
   pub structure : map still_of news ≡ map still_of olds
   pub watches_same : watches news ≡ watches olds
-  pub listed : (p : ℕ) (d : ListedLists) → slice_get news p ≡ Some d → IsListed d
+  pub listed : AllListed news
   pub counts : CountsPending same done slot at news
   pub meets : MeetsAll news
   pub on_way : (a : EdgeAt) → at ≡ Some a → IsEdgeOf (edge_lists olds) slot a
@@ -64,5 +66,5 @@ pub record IsReopening (done : List Bool) (slot : ℕ) (olds : List ListedLists)
 pub record IsDropping (olds : List ListedLists) (place count : ℕ) (f : Flow) : Type 0 where
   pub flow : KeepsFlow olds f
   pub elsewhere : (p : ℕ) → p ≢ place → slice_get f.depends p ≡ slice_get olds p
-  pub counts : (done : List Bool) → ((p : ℕ) (d : ListedLists) → slice_get olds p ≡ Some d → KeepsCounts done d) → (p : ℕ) (d : ListedLists) → slice_get f.depends p ≡ Some d → KeepsCounts done d
+  pub counts : StayCounted olds f.depends
   pub all_met : (k : ℕ) (d : ListedLists) (c : Count) → slice_get f.depends place ≡ Some d → slice_get d.counts k ≡ Some c → k < count → c.met ≡ true

@@ -7,10 +7,10 @@ use Rattle.farm_types.specs.Sums.{total_at}
 use Rattle.std.specs.Prelude.{nat_eq}
 use Rattle.std.specs.List.{AllByRecursion, IsDistinct, list_any}
 use Rattle.depend_graph.specs.Flow.{Flow}
-use Rattle.depend_graph.specs.Graph.{GraphLists, is_flagged, is_mark, was_met, was_satisfied, with_all_done}
+use Rattle.depend_graph.specs.Graph.{GraphLists, Watch, is_flagged, is_mark, opened_between, unmet_of, was_met, was_satisfied, with_all_done}
 use Rattle.depend_graph.specs.Inside.{KeepsDepends, KeepsSums, watches}
 use Rattle.depend_graph.specs.Kept.{still_of}
-use Rattle.depend_graph.specs.Listed.{KeepsCounts, ListedLists, is_enough, mark_for}
+use Rattle.depend_graph.specs.Listed.{AllCounted, ListedLists, is_enough, mark_for}
 use Rattle.depend_graph.specs.Passing.{IsPassing}
 use Rattle.depend_graph.specs.declared.links.EdgeAt.{EdgeAt}
 use Rattle.depend_graph.specs.declared.listed.Count.{Count}
@@ -60,6 +60,13 @@ pub record IsFreed (slot count : ℕ) (old new : ℕ → Option ℕ) (slots news
   pub counts : IsLowered slot count old new
   pub listed : news ≡ (if count_or count (old slot) == 1 then slots ++ slot ∷ [] else slots)
 
+-- The slots of the frames that open: they waited in so many unmet groups, and now do in one fewer for each time that they are freed.
+abbrev pub AreOpened : List ℕ → List ℕ → List ℕ → Type 0
+AreOpened unmet freed slots =
+    (olds news : List Watch) → ((slot : ℕ) → unmet_of olds slot ≡ total_at unmet slot)
+    → ((slot : ℕ) → unmet_of news slot ≡ total_at unmet slot - count_by (is_at slot) freed)
+    → slots ≡ opened_between olds news
+
 -- ---- what is met
 
 -- by the places of depends how many of their groups aren't met, where that isn't as in the graph; the marks of the groups that would be met; and the
@@ -96,9 +103,10 @@ pub record IsLaid (over : Option ℕ) (g : Group) (old new : Count) : Type 0 whe
   pub undone : new.undone ≡ count_or old.undone over
   pub met : new.met ≡ (old.met || is_enough g new.undone)
 
-pub record Agrees (olds : List ListedLists) (unmet : List ℕ) (over : ℕ → Option ℕ) (freed : List ℕ) (news : List ListedLists) (unmet_then : List ℕ) : Type 0 where
-  pub counts : (p k : ℕ) (d e : ListedLists) (g : Group) (old new : Count) → slice_get olds p ≡ Some d → slice_get news p ≡ Some e → slice_get d.groups k ≡ Some g → slice_get d.counts k ≡ Some old
-      → slice_get e.counts k ≡ Some new → IsLaid (over (key_of p k)) g old new
+pub record Agrees (olds : List ListedLists) (unmet : List ℕ) (over : ℕ → Option ℕ) (freed : List ℕ) (news : List ListedLists) (unmet_then : List ℕ)
+    : Type 0 where
+  pub counts : (p k : ℕ) (d e : ListedLists) (g : Group) (old new : Count) → slice_get olds p ≡ Some d → slice_get news p ≡ Some e
+      → slice_get d.groups k ≡ Some g → slice_get d.counts k ≡ Some old → slice_get e.counts k ≡ Some new → IsLaid (over (key_of p k)) g old new
   pub unmet_read : (slot : ℕ) → total_at unmet_then slot ≡ total_at unmet slot - count_by (is_at slot) freed
 
 -- the counts and the freed are those of that graph
@@ -110,20 +118,22 @@ pub record IsTried (olds : List ListedLists) (unmet : List ℕ) (over : ℕ → 
   pub structure : map still_of news ≡ map still_of olds
   pub depends : KeepsDepends news
   pub sums : KeepsSums unmet_then left_then news
-  pub counts : (p : ℕ) (d : ListedLists) → slice_get news p ≡ Some d → KeepsCounts g.done d
+  pub counts : AllCounted g.done news
   pub done_counted : length g.done ≡ SLOT_LIMIT
   pub agrees : Agrees olds unmet over freed news unmet_then
   pub tells : Tells olds m news
 
 -- on the way along the edges of a slot that would be done, where these are the depends at the way's beginning
-pub record IsFollowing (olds : List ListedLists) (unmet : List ℕ) (done : List Bool) (slot : ℕ) (news : List ListedLists) (at : Option EdgeAt) (over : ℕ → Option ℕ) (freed : List ℕ) (m : MetLists) : Type 0 where
+pub record IsFollowing (olds : List ListedLists) (unmet : List ℕ) (done : List Bool) (slot : ℕ) (news : List ListedLists) (at : Option EdgeAt)
+    (over : ℕ → Option ℕ) (freed : List ℕ) (m : MetLists) : Type 0 where
   pub flow : Flow
   pub passing : IsPassing done slot news at flow
   pub agrees : Agrees olds unmet over freed flow.depends flow.unmet
   pub tells : Tells olds m flow.depends
 
 -- the graph that it would be once the first of these frames are done, which is on its way to that in which all are
-pub record IsUnderWay (olds : List ListedLists) (unmet : List ℕ) (over : ℕ → Option ℕ) (freed : List ℕ) (m : MetLists) (slots : List ℕ) (last : GraphLists) : Type 0 where
+pub record IsUnderWay (olds : List ListedLists) (unmet : List ℕ) (over : ℕ → Option ℕ) (freed : List ℕ) (m : MetLists) (slots : List ℕ) (last : GraphLists)
+    : Type 0 where
   pub graph : GraphLists
   pub tried : IsTried olds unmet over freed m graph
   pub leads : with_all_done graph slots ≡ last

@@ -60,10 +60,14 @@ abbrev pub IsPrevOf : List (Option EdgeAt) → List (List Edge) → ℕ → (ℕ
 IsPrevOf first lists slot wanted p i None = slice_get first slot ≡ Some (Some (place_at p i))
 IsPrevOf first lists slot wanted p i (Some at) = IsNextOf lists slot wanted p i at
 
+-- from each edge the way goes on to the last one of its slot before it
+abbrev pub KeepsNext : List (List Edge) → Type 0
+KeepsNext lists = (p i : ℕ) (e : Edge) → IsEdge lists p i e → IsLast lists e.slot (is_ahead_of p i) e.next
+
 -- at each slot stands its last edge, at each edge the one of the same slot before it, and where that edge's place stands
 pub record KeepsWays (first : List (Option EdgeAt)) (lists : List (List Edge)) : Type 0 where
   pub first_kept : (slot : ℕ) (o : Option EdgeAt) → slice_get first slot ≡ Some o → IsLast lists slot is_any o
-  pub next_kept : (p i : ℕ) (e : Edge) → IsEdge lists p i e → IsLast lists e.slot (is_ahead_of p i) e.next
+  pub next_kept : KeepsNext lists
   pub prev_kept : (p i : ℕ) (e : Edge) → IsEdge lists p i e → IsPrevOf first lists e.slot is_any p i e.prev
 
 -- ---- the ways along some of the edges

@@ -38,15 +38,15 @@ impl Graph {
         requires can { CanAdd self.old depend groups }
         ensures { self.new ≡ with_marked self.old depend groups marks.now }
     {
-        make_room(&mut self.first, &mut self.depends);
+        make_room(&mut self.first, &mut self.tally.depends);
         let GraphSpare { mut counts, edges } = spare;
         count_all(&mut counts, groups.as_slice(), self.done.as_slice());
         mark_all(&mut counts, marks);
-        hold_all(&mut self.unmet, groups.as_slice(), counts.as_slice());
+        hold_all(&mut self.tally.unmet, groups.as_slice(), counts.as_slice());
         let unmet = unmet_among(counts.as_slice());
-        self.left = raised_left(self.left, unmet, groups.len());
-        let place = self.depends.len() as u32;
-        self.depends.push_reserved(Listed {
+        self.tally.left = raised_left(self.tally.left, unmet, groups.len());
+        let place = self.tally.depends.len() as u32;
+        self.tally.depends.push_reserved(Listed {
             depend,
             groups,
             counts,
@@ -54,7 +54,7 @@ impl Graph {
             unmet,
             gone: false,
         });
-        link(&mut self.first, &mut self.depends, place);
+        link(&mut self.first, &mut self.tally.depends, place);
     }
 }
 

@@ -3,8 +3,7 @@
 ghost use Rattle.std.specs.Prelude.{◌≡◌, ◌<◌, false, length, not, slice_get, slice_set, Some, true};
 ghost use Rattle.depend_graph.specs.Graph.{HasOpened, has_depend, is_flagged, with_done, without_depend};
 
-use crate::completing::complete;
-use crate::dropping::{meet_all, place_of};
+use crate::dropping::place_of;
 use crate::graph::{Graph, is_flagged_at};
 use crate::links::EdgeAt;
 use crate::opened::Opened;
@@ -23,18 +22,10 @@ impl Graph {
         }
         let first = first_of(self.first.as_slice(), slot);
         if !done {
-            reopen(&mut self.done, first, &mut self.depends, slot);
+            reopen(&mut self.done, first, &mut self.tally.depends, slot);
             return;
         }
-        complete(
-            &mut self.done,
-            first,
-            &mut self.depends,
-            &mut self.unmet,
-            &mut self.left,
-            opened,
-            slot,
-        );
+        self.tally.complete(&mut self.done, first, opened, slot);
     }
 
     /// All groups of the depend are met, and `opened` tells what that opened. It takes no memory.
@@ -44,14 +35,8 @@ impl Graph {
         ensures opened { HasOpened self.old.depends self.new.depends opened.new }
     {
         opened.clear();
-        let place = place_of(self.depends.as_slice(), depend);
-        meet_all(
-            &mut self.depends,
-            &mut self.unmet,
-            &mut self.left,
-            opened,
-            place,
-        );
+        let place = place_of(self.tally.depends.as_slice(), depend);
+        self.tally.meet_all(opened, place);
     }
 }
 

@@ -6,6 +6,7 @@ ghost use Rattle.farm_types.specs.declared.limits.TheConstants.{MOST_DEPENDS};
 
 use crate::graph::Graph;
 use crate::listed::Listed;
+use crate::tally::Tally;
 use farm_types::{Group, Items, MOST_DEPENDS};
 use std::alloc::{AllocError, Global};
 
@@ -16,13 +17,25 @@ impl Graph {
     {
         Ok(Graph {
             done: Vec::from_slice(alloc, self.done.as_slice())?,
-            unmet: Vec::from_slice(alloc, self.unmet.as_slice())?,
             first: Vec::from_slice(alloc, self.first.as_slice())?,
-            depends: copy_depends(alloc, self.depends.as_slice())?,
-            left: self.left,
+            tally: copy_tally(alloc, &self.tally)?,
             alloc,
         })
     }
+}
+
+// An equal tally, with room for as many depends as there may be, and as many empty places.
+fn copy_tally(alloc: Global, tally: &Tally) -> Result<Tally, AllocError>
+    ensures depends { IfOk result (λ copy. copy.depends.items ≡ tally.now.depends.items) }
+    ensures unmet { IfOk result (λ copy. copy.unmet.items ≡ tally.now.unmet.items) }
+    ensures left { IfOk result (λ copy. copy.left ≡ tally.now.left) }
+    ensures capacity { IfOk result (λ copy. 2 * MOST_DEPENDS ≤ vec_capacity copy.depends) }
+{
+    Ok(Tally {
+        depends: copy_depends(alloc, tally.depends.as_slice())?,
+        unmet: Vec::from_slice(alloc, tally.unmet.as_slice())?,
+        left: tally.left,
+    })
 }
 
 // Equal depends, with room for as many as there may be, and as many empty places.

@@ -1,14 +1,15 @@
 //! The graph.
 
-ghost use Rattle.std.specs.Prelude.{◌≡◌, ◌≤◌, IfOk, None, replicate};
+ghost use Rattle.std.specs.Prelude.{◌≡◌, ◌≤◌, [], IfOk, None, replicate};
 ghost use Rattle.std.specs.List.{list_all, list_any};
 ghost use Rattle.farm_types.specs.Depends.{are_done};
 ghost use Rattle.depend_graph.specs.Graph.{groups_left, is_flagged, no_graph, unmet_of};
+ghost use Rattle.depend_graph.specs.Inside.{KeepsTally};
 ghost use Rattle.farm_types.specs.declared.limits.TheConstants.{MOST_GROUPS, SLOT_LIMIT};
 
 use crate::links::EdgeAt;
-use crate::listed::Listed;
 use crate::opens::unmet_at;
+use crate::tally::Tally;
 use farm_types::{Group, MOST_DEPENDS, SLOT_LIMIT, Slot};
 use std::alloc::{AllocError, Global};
 use std::marker::Model;
@@ -19,10 +20,8 @@ use std::marker::Model;
 #[derive(Debug, Drop)]
 pub struct Graph {
     pub(crate) done: Vec<bool>,
-    pub(crate) unmet: Vec<u32>,
     pub(crate) first: Vec<Option<EdgeAt>>,
-    pub(crate) depends: Vec<Listed>,
-    pub(crate) left: u32,
+    pub(crate) tally: Tally,
     pub(crate) alloc: Global,
 }
 
@@ -45,10 +44,8 @@ impl Graph {
     {
         Ok(Graph {
             done: vec![in alloc; false; SLOT_LIMIT as usize]?,
-            unmet: vec![in alloc; 0; SLOT_LIMIT as usize]?,
             first: no_edges(alloc)?,
-            depends: Vec::with_capacity(alloc, 2 * MOST_DEPENDS as usize)?,
-            left: 0,
+            tally: no_tally(alloc)?,
             alloc,
         })
     }
@@ -57,7 +54,7 @@ impl Graph {
     pub fn unmet(&self, slot: Slot) -> u32
         ensures { result ≡ unmet_of self.now.depends slot }
     {
-        unmet_at(self.unmet.as_slice(), slot)
+        unmet_at(self.tally.unmet.as_slice(), slot)
     }
 
     /// Whether the frame is done.
@@ -79,8 +76,20 @@ impl Graph {
         ensures value { result ≡ groups_left self.now.depends }
         ensures within { result ≤ MOST_GROUPS }
     {
-        self.left
+        self.tally.left
     }
+}
+
+// No depends, with room for as many as there may be, and as many empty places.
+fn no_tally(alloc: Global) -> Result<Tally, AllocError>
+    ensures none { IfOk result (λ t. t.depends.items ≡ []) }
+    ensures kept { IfOk result KeepsTally }
+{
+    Ok(Tally {
+        depends: Vec::with_capacity(alloc, 2 * MOST_DEPENDS as usize)?,
+        unmet: vec![in alloc; 0; SLOT_LIMIT as usize]?,
+        left: 0,
+    })
 }
 
 // No edge for each slot.

@@ -25,6 +25,8 @@ mod reopening;
 mod reserving;
 mod room;
 mod spare;
+mod tally;
+mod trial;
 mod trying;
 mod unlinking;
 

@@ -1,14 +1,13 @@
 //! The edges of a depend are put on the ways of their slots.
 
-ghost use Rattle.std.specs.Prelude.{◌≡◌, ◌<◌, ◌+◌, ◌^◌, ℕ, Some, length, map, slice_get, slice_set};
+ghost use Rattle.std.specs.Prelude.{◌≡◌, ◌<◌, ◌+◌, ◌^◌, Some, length, map, slice_set};
 ghost use Rattle.std.specs.Vec.{vec_capacity};
 ghost use Rattle.farm_types.specs.declared.limits.TheConstants.{SLOT_LIMIT};
 ghost use Rattle.depend_graph.specs.Bare.{bare_of, changed_edge, with_next, with_prev};
-ghost use Rattle.depend_graph.specs.Flow.{IsEdgeAt};
+ghost use Rattle.depend_graph.specs.Flow.{AtDepend, AtEdge, IsEdgeAt};
 ghost use Rattle.depend_graph.specs.Linking.{IsLinked};
-ghost use Rattle.depend_graph.specs.Listed.{IsListed, ListedLists};
+ghost use Rattle.depend_graph.specs.Listed.{AllListed};
 ghost use Rattle.depend_graph.specs.Ways.{KeepsWaysOf, edge_lists, is_ahead_of};
-ghost use Rattle.depend_graph.specs.declared.links.Edge.{Edge};
 
 use crate::changing::first_of;
 use crate::flow::edge_in;
@@ -19,7 +18,7 @@ use farm_types::Slot;
 /// The edges of the depend at a place go to the front of their slots' ways, where all edges of those before it are on them.
 pub(crate) fn link(first: &mut Vec<Option<EdgeAt>>, depends: &mut Vec<Listed>, place: u32)
     requires place { place < length depends.old.items }
-    requires listed { (p : ℕ) (d : ListedLists) → slice_get depends.old.items p ≡ Some d → IsListed d }
+    requires listed { AllListed depends.old.items }
     requires first { length first.old.items ≡ SLOT_LIMIT }
     requires ways { KeepsWaysOf (is_ahead_of place 0) first.old.items (edge_lists depends.old.items) }
     ensures bare { map bare_of depends.new.items ≡ map bare_of depends.old.items }
@@ -40,8 +39,8 @@ pub(crate) fn link(first: &mut Vec<Option<EdgeAt>>, depends: &mut Vec<Listed>, p
 /// How many edges the depend at a place has.
 pub(crate) fn edge_count_at(depends: &[Listed], place: u32) -> u32
     requires place { place < length depends.now }
-    requires within { (d : ListedLists) → slice_get depends.now place ≡ Some d → length d.edges < 2 ^ 32 }
-    ensures { (d : ListedLists) → slice_get depends.now place ≡ Some d → result ≡ length d.edges }
+    requires within { AtDepend depends.now place (λ d. length d.edges < 2 ^ 32) }
+    ensures { AtDepend depends.now place (λ d. result ≡ length d.edges) }
 {
     edge_count_of(&depends[place as usize])
 }
@@ -57,8 +56,8 @@ fn edge_count_of(listed: &Listed) -> u32
 // The edge goes to the front of its slot's way.
 fn link_one(first: &mut Vec<Option<EdgeAt>>, depends: &mut Vec<Listed>, at: EdgeAt)
     requires there { IsEdgeAt depends.old.items at }
-    requires slot { (e : Edge) (d : ListedLists) → slice_get depends.old.items at.depend ≡ Some d → slice_get d.edges at.edge ≡ Some e → e.slot < length first.old.items }
-    ensures linked { (e : Edge) (d : ListedLists) → slice_get depends.old.items at.depend ≡ Some d → slice_get d.edges at.edge ≡ Some e → IsLinked at e.slot first.old.items first.new.items depends.old.items depends.new.items }
+    requires slot { AtEdge depends.old.items at (λ d e. e.slot < length first.old.items) }
+    ensures linked { AtEdge depends.old.items at (λ d e. IsLinked at e.slot first.old.items first.new.items depends.old.items depends.new.items) }
     ensures capacity { vec_capacity depends.new ≡ vec_capacity depends.old }
 {
     let edge = edge_in(depends.as_slice(), at);

@@ -7,7 +7,7 @@ ghost use Rattle.farm_types.specs.declared.depend.Group.{Group};
 ghost use Rattle.farm_types.specs.Farm.{changed_at};
 ghost use Rattle.depend_graph.specs.Flow.{is_due, lowered, met_at, raised};
 ghost use Rattle.depend_graph.specs.Bare.{edge_changed, with_next, with_prev};
-ghost use Rattle.depend_graph.specs.Listed.{IsListed, emptied, is_enough, is_there, mark_for, watched_by, watched_with};
+ghost use Rattle.depend_graph.specs.Listed.{IsListed, OfGroup, emptied, is_enough, is_there, mark_for, watched_by, watched_with};
 ghost use Rattle.depend_graph.specs.MetAt.{has_mark, is_met_at};
 ghost use Rattle.depend_graph.specs.Trial.{becomes_due};
 ghost use Rattle.depend_graph.specs.declared.listed.Count.{Count};
@@ -144,7 +144,7 @@ impl Listed {
     pub(crate) fn becomes_due(&self, group: u32, lacked: u32) -> bool
         requires groups { group < length self.now.groups }
         requires counts { group < length self.now.counts }
-        ensures { (g : Group) (c : Count) → slice_get self.now.groups group ≡ Some g → slice_get self.now.counts group ≡ Some c → result ≡ becomes_due g c lacked }
+        ensures { OfGroup self.now group (λ g c. result ≡ becomes_due g c lacked) }
     {
         let count = count_of(self.counts.as_slice(), group);
         becomes_due_by(&self.groups.as_slice()[group as usize], count, lacked)
@@ -154,7 +154,7 @@ impl Listed {
     pub(crate) fn is_due(&self, group: u32) -> bool
         requires groups { group < length self.now.groups }
         requires counts { group < length self.now.counts }
-        ensures { (g : Group) (c : Count) → slice_get self.now.groups group ≡ Some g → slice_get self.now.counts group ≡ Some c → result ≡ is_due g c }
+        ensures { OfGroup self.now group (λ g c. result ≡ is_due g c) }
     {
         let count = count_of(self.counts.as_slice(), group);
         is_due_by(&self.groups.as_slice()[group as usize], count)

@@ -24,11 +24,16 @@ impl Graph {
         if done.is_empty() {
             return Ok(Items::new(alloc));
         }
-        if self.left == 0 {
+        if self.tally.left == 0 {
             return Ok(Items::new(alloc));
         }
-        let freed = freed_by(alloc, self.first.as_slice(), self.depends.as_slice(), done)?;
-        opened_by(alloc, self.unmet.as_slice(), freed.as_slice())
+        let freed = freed_by(
+            alloc,
+            self.first.as_slice(),
+            self.tally.depends.as_slice(),
+            done,
+        )?;
+        opened_by(alloc, self.tally.unmet.as_slice(), freed.as_slice())
     }
 
     /// What would be met if these frames were done. Nothing changes.
@@ -37,26 +42,31 @@ impl Graph {
         requires undone { All (λ slot. is_flagged self.now.done slot ≡ false) done.now }
         ensures { IfOk result (λ marks. HasMet self.now.depends (with_all_done self.now done.now).depends marks) }
     {
-        met_by(alloc, self.first.as_slice(), self.depends.as_slice(), done)
+        met_by(
+            alloc,
+            self.first.as_slice(),
+            self.tally.depends.as_slice(),
+            done,
+        )
     }
 
     /// The marks that the depend's groups have once they are met, in order, whether they are met yet or not, and none where the depend isn't there.
     pub fn marks_of(&self, alloc: Global, depend: DependNo) -> Result<Items<MetRow>, AllocError>
         ensures { IfOk result (λ marks. marks ≡ map (group_mark depend) (groups_at self.now.depends depend)) }
     {
-        let Some(place) = find_place(self.depends.as_slice(), depend) else {
+        let Some(place) = find_place(self.tally.depends.as_slice(), depend) else {
             return Ok(Items::new(alloc));
         };
-        self.depends[place as usize].marks(alloc)
+        self.tally.depends[place as usize].marks(alloc)
     }
 
     /// Whether a group of the depend at that position is marked: it is met, and another group of the depend isn't.
     pub fn is_marked(&self, depend: DependNo, position: u32) -> bool
         ensures { result ≡ has_mark position (groups_at self.now.depends depend) }
     {
-        match find_place(self.depends.as_slice(), depend) {
+        match find_place(self.tally.depends.as_slice(), depend) {
             None => false,
-            Some(place) => self.depends[place as usize].is_marked(position),
+            Some(place) => self.tally.depends[place as usize].is_marked(position),
         }
     }
 
@@ -70,8 +80,8 @@ impl Graph {
         ensures { IfOk result (λ slots. slots ≡ opened_between self.now.depends (without_depend self.now depend).depends) }
     {
         let mut freed = Vec::new(alloc);
-        let place = place_of(self.depends.as_slice(), depend);
-        free_left(&self.depends[place as usize], &mut freed)?;
-        opened_by(alloc, self.unmet.as_slice(), freed.as_slice())
+        let place = place_of(self.tally.depends.as_slice(), depend);
+        free_left(&self.tally.depends[place as usize], &mut freed)?;
+        opened_by(alloc, self.tally.unmet.as_slice(), freed.as_slice())
     }
 }

@@ -1,11 +1,10 @@
 //! Which frames would open, once those are known who would be freed.
 
-ghost use Rattle.std.specs.Prelude.{◌≡◌, ◌-◌, ◌≤◌, ℕ, List, count_by, length, nat_eq, IfOk, OnOk};
+ghost use Rattle.std.specs.Prelude.{◌≡◌, ◌≤◌, length, nat_eq, IfOk, OnOk};
 ghost use Rattle.indexmap.specs.IndexMap.{get};
 ghost use Rattle.farm_types.specs.declared.limits.TheConstants.{SLOT_LIMIT};
 ghost use Rattle.farm_types.specs.Sums.{total_at};
-ghost use Rattle.depend_graph.specs.Graph.{Watch, opened_between, unmet_of};
-ghost use Rattle.depend_graph.specs.Trial.{IsFreed, is_at};
+ghost use Rattle.depend_graph.specs.Trial.{AreOpened, IsFreed};
 
 use crate::over::lower;
 use farm_types::{Items, Slot};
@@ -19,7 +18,7 @@ pub(crate) fn opened_by(
     freed: &[Slot],
 ) -> Result<Items<Slot>, AllocError>
     requires { length unmet.now ≤ SLOT_LIMIT }
-    ensures { IfOk result (λ slots. (olds news : List Watch) → ((slot : ℕ) → unmet_of olds slot ≡ total_at unmet.now slot) → ((slot : ℕ) → unmet_of news slot ≡ total_at unmet.now slot - count_by (is_at slot) freed.now) → slots ≡ opened_between olds news) }
+    ensures { IfOk result (λ slots. AreOpened unmet.now freed.now slots) }
 {
     let mut waiting = IndexMap::new(alloc);
     let mut slots = Vec::new(alloc);

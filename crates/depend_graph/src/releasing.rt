@@ -1,10 +1,10 @@
 //! Those who wait in a depend's unmet groups, as it is forgotten.
 
-ghost use Rattle.std.specs.Prelude.{◌≡◌, ◌==◌, ◌-◌, ◌<◌, ◌≤◌, ℕ, Some, if◌then◌else◌, length, slice_get};
+ghost use Rattle.std.specs.Prelude.{◌≡◌, ◌==◌, ◌-◌, ◌<◌, ◌≤◌, if◌then◌else◌, length};
 ghost use Rattle.farm_types.specs.declared.depend.Group.{Group};
 ghost use Rattle.farm_types.specs.declared.limits.TheConstants.{MOST_GROUPS};
 ghost use Rattle.depend_graph.specs.Added.{all_released, released, released_in};
-ghost use Rattle.depend_graph.specs.Listed.{ListedLists};
+ghost use Rattle.depend_graph.specs.Flow.{AtDepend};
 
 use crate::listed::{Count, Listed};
 use farm_types::{Group, Slot};
@@ -12,8 +12,8 @@ use farm_types::{Group, Slot};
 /// Those who wait in the unmet groups of the depend at a place wait in them no more.
 pub(crate) fn release_at(unmet: &mut Vec<u32>, depends: &[Listed], place: u32)
     requires place { place < length depends.now }
-    requires counted { (d : ListedLists) → slice_get depends.now place ≡ Some d → length d.counts ≡ length d.groups }
-    ensures { (d : ListedLists) → slice_get depends.now place ≡ Some d → unmet.new.items ≡ released_in unmet.old.items d.groups d.counts }
+    requires counted { AtDepend depends.now place (λ d. length d.counts ≡ length d.groups) }
+    ensures { AtDepend depends.now place (λ d. unmet.new.items ≡ released_in unmet.old.items d.groups d.counts) }
 {
     release(unmet, &depends[place as usize]);
 }
@@ -67,8 +67,8 @@ fn release_waiter(unmet: &mut Vec<u32>, waiter: &Slot)
 /// How many groups are left without those of the depend at a place, which counts where some of them aren't met.
 pub(crate) fn left_without(left: u32, depends: &[Listed], place: u32) -> u32
     requires place { place < length depends.now }
-    requires within { (d : ListedLists) → slice_get depends.now place ≡ Some d → length d.groups ≤ MOST_GROUPS }
-    ensures { (d : ListedLists) → slice_get depends.now place ≡ Some d → result ≡ (if d.unmet == 0 then left else left - length d.groups) }
+    requires within { AtDepend depends.now place (λ d. length d.groups ≤ MOST_GROUPS) }
+    ensures { AtDepend depends.now place (λ d. result ≡ (if d.unmet == 0 then left else left - length d.groups)) }
 {
     left_without_one(left, &depends[place as usize])
 }

@@ -1,12 +1,11 @@
 //! A frame isn't done any more: the groups that it is a target of.
 
-ghost use Rattle.std.specs.Prelude.{◌≡◌, ◌<◌, ℕ, Some, false, length, map, slice_get, slice_set, true};
+ghost use Rattle.std.specs.Prelude.{◌≡◌, ◌<◌, false, length, map, slice_set, true};
 ghost use Rattle.std.specs.Vec.{vec_capacity};
 ghost use Rattle.depend_graph.specs.Graph.{is_flagged};
 ghost use Rattle.depend_graph.specs.Inside.{KeepsDepends, watches};
-ghost use Rattle.depend_graph.specs.Listed.{KeepsCounts, ListedLists, is_there};
-ghost use Rattle.depend_graph.specs.Ways.{IsEdge, IsLast, edge_lists, is_ahead_of, is_any};
-ghost use Rattle.depend_graph.specs.declared.links.Edge.{Edge};
+ghost use Rattle.depend_graph.specs.Listed.{AllCounted, is_there};
+ghost use Rattle.depend_graph.specs.Ways.{IsLast, KeepsNext, edge_lists, is_any};
 
 use crate::flow::pass_back;
 use crate::links::EdgeAt;
@@ -23,15 +22,15 @@ pub(crate) fn reopen(
     requires slot { slot < length done.old.items }
     requires done { is_flagged done.old.items slot ≡ true }
     requires first { IsLast (edge_lists depends.old.items) slot is_any first }
-    requires next { (p i : ℕ) (e : Edge) → IsEdge (edge_lists depends.old.items) p i e → IsLast (edge_lists depends.old.items) e.slot (is_ahead_of p i) e.next }
+    requires next { KeepsNext (edge_lists depends.old.items) }
     requires depends { KeepsDepends depends.old.items }
-    requires counts { (p : ℕ) (d : ListedLists) → slice_get depends.old.items p ≡ Some d → KeepsCounts done.old.items d }
+    requires counts { AllCounted done.old.items depends.old.items }
     ensures done { done.new.items ≡ slice_set done.old.items slot false }
     ensures watches { watches depends.new.items ≡ watches depends.old.items }
     ensures edges { edge_lists depends.new.items ≡ edge_lists depends.old.items }
     ensures there { map is_there depends.new.items ≡ map is_there depends.old.items }
     ensures depends { KeepsDepends depends.new.items }
-    ensures counts { (p : ℕ) (d : ListedLists) → slice_get depends.new.items p ≡ Some d → KeepsCounts (slice_set done.old.items slot false) d }
+    ensures counts { AllCounted (slice_set done.old.items slot false) depends.new.items }
     ensures capacity { vec_capacity depends.new ≡ vec_capacity depends.old }
 {
     let mut next = first;

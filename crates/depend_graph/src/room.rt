@@ -1,11 +1,11 @@
 //! Places that forgotten depends left empty are closed up.
 
-ghost use Rattle.std.specs.Prelude.{◌≡◌, ◌*◌, ◌<◌, ℕ, List, Bool, None, Option, Some, count_by, filter, length, map, slice_get};
+ghost use Rattle.std.specs.Prelude.{◌≡◌, ◌*◌, ◌<◌, ℕ, List, None, Option, Some, count_by, filter, length, map, slice_get};
 ghost use Rattle.std.specs.Vec.{vec_capacity};
 ghost use Rattle.farm_types.specs.declared.limits.TheConstants.{MOST_DEPENDS, SLOT_LIMIT};
 ghost use Rattle.depend_graph.specs.Bare.{bare_of};
 ghost use Rattle.depend_graph.specs.Inside.{KeepsDepends, KeepsSums, there_of, watches};
-ghost use Rattle.depend_graph.specs.Listed.{IsListed, KeepsCounts, ListedLists, is_there};
+ghost use Rattle.depend_graph.specs.Listed.{AllListed, StayCounted, is_there};
 ghost use Rattle.depend_graph.specs.Ways.{KeepsWays, edge_lists};
 ghost use Rattle.depend_graph.specs.declared.links.EdgeAt.{EdgeAt};
 
@@ -24,7 +24,7 @@ pub(crate) fn make_room(first: &mut Vec<Option<EdgeAt>>, depends: &mut Vec<Liste
     ensures watches { watches (there_of depends.new.items) ≡ watches (there_of depends.old.items) }
     ensures depends { KeepsDepends depends.new.items }
     ensures sums { (unmet : List ℕ) (left : ℕ) → KeepsSums unmet left depends.old.items → KeepsSums unmet left depends.new.items }
-    ensures counts { (done : List Bool) → ((p : ℕ) (d : ListedLists) → slice_get depends.old.items p ≡ Some d → KeepsCounts done d) → (p : ℕ) (d : ListedLists) → slice_get depends.new.items p ≡ Some d → KeepsCounts done d }
+    ensures counts { StayCounted depends.old.items depends.new.items }
     ensures ways { KeepsWays first.new.items (edge_lists depends.new.items) }
     ensures first { length first.new.items ≡ SLOT_LIMIT }
     ensures capacity { vec_capacity depends.new ≡ vec_capacity depends.old }
@@ -46,7 +46,7 @@ fn leave_out(depends: &mut Vec<Listed>)
 
 // The ways are made anew.
 fn link_all(first: &mut Vec<Option<EdgeAt>>, depends: &mut Vec<Listed>)
-    requires listed { (p : ℕ) (d : ListedLists) → slice_get depends.old.items p ≡ Some d → IsListed d }
+    requires listed { AllListed depends.old.items }
     requires first { length first.old.items ≡ SLOT_LIMIT }
     requires places { length depends.old.items < 2 * MOST_DEPENDS }
     ensures bare { map bare_of depends.new.items ≡ map bare_of depends.old.items }

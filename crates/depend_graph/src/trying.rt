@@ -1,30 +1,23 @@
 //! What would become of the graph if frames were done, or a depend was dropped: counts are laid over its own, and those who would be freed are listed.
 
-ghost use Rattle.std.specs.Prelude.{◌≡◌, ◌++◌, ◌-◌, ◌<◌, ◌≤◌, [], ℕ, List, count_by, false, if◌then◌else◌, length, nat_eq, Some, slice_get, true, All, IfOk, OnOk};
+ghost use Rattle.std.specs.Prelude.{◌≡◌, ◌++◌, ◌<◌, ◌≤◌, [], if◌then◌else◌, length, nat_eq, IfOk, OnOk};
 ghost use Rattle.std.specs.List.{IsDistinct};
-ghost use Rattle.indexmap.specs.IndexMap.{get};
-ghost use Rattle.farm_types.specs.declared.depend.Group.{Group};
 ghost use Rattle.farm_types.specs.declared.limits.TheConstants.{MOST_GROUPS, SLOT_LIMIT};
-ghost use Rattle.farm_types.specs.Sums.{total_at};
-ghost use Rattle.depend_graph.specs.Flow.{IsEdgeAt};
-ghost use Rattle.depend_graph.specs.Graph.{GraphLists, HasMet, is_flagged, unmet_of, with_all_done, with_done};
-ghost use Rattle.depend_graph.specs.Inside.{KeepsDepends, watches};
-ghost use Rattle.depend_graph.specs.Listed.{ListedLists};
-ghost use Rattle.depend_graph.specs.Meeting.{met_lists};
-ghost use Rattle.depend_graph.specs.Trial.{IsHit, IsMetWhere, IsTried, becomes_due, count_or, is_at, key_of, nothing_laid, nothing_met, waiters_left};
-ghost use Rattle.depend_graph.specs.Ways.{IsEdge, IsLast, KeepsWays, edge_lists, is_ahead_of, is_any};
-ghost use Rattle.depend_graph.specs.declared.links.Edge.{Edge};
-ghost use Rattle.depend_graph.specs.declared.listed.Count.{Count};
+ghost use Rattle.depend_graph.specs.Flow.{AtEdge, AtTarget, IsEdgeAt};
+ghost use Rattle.depend_graph.specs.Inside.{KeepsDepends};
+ghost use Rattle.depend_graph.specs.Listed.{OfGroup};
+ghost use Rattle.depend_graph.specs.Trial.{waiters_left};
+ghost use Rattle.depend_graph.specs.Tries.{FreesAll, Hits, MarksAll, MeetsBy, TriesAll, TriesDone};
+ghost use Rattle.depend_graph.specs.Ways.{IsLast, KeepsNext, KeepsWays, edge_lists, is_any};
 
 use crate::changing::first_of;
 use crate::flow::edge_in;
 use crate::links::EdgeAt;
 use crate::listed::Listed;
 use crate::marks::Marks;
-use crate::meeting::Meeting;
 use crate::over::{key_of, lower};
+use crate::trial::Trial;
 use farm_types::Slot;
-use indexmap::IndexMap;
 use std::alloc::{AllocError, Global};
 
 /// Those who would be freed if these frames were done, one after the other: each as often as it would be.
@@ -38,13 +31,11 @@ pub(crate) fn freed_by(
     requires first_counted { length first.now ≡ SLOT_LIMIT }
     requires ways { KeepsWays first.now (edge_lists depends.now) }
     requires depends { KeepsDepends depends.now }
-    ensures { IfOk result (λ freed. (unmet : List ℕ) (g : GraphLists) → All (λ slot. is_flagged g.done slot ≡ false) done.now → IsTried depends.now unmet nothing_laid [] nothing_met g → (slot : ℕ) → unmet_of (with_all_done g done.now).depends slot ≡ total_at unmet slot - count_by (is_at slot) freed.items) }
+    ensures { IfOk result (λ freed. FreesAll depends.now done.now freed.items) }
 {
-    let mut lacking = IndexMap::new(alloc);
-    let mut freed = Vec::new(alloc);
-    let mut meeting = Meeting::new(alloc);
-    try_all(first, depends, &mut lacking, &mut freed, &mut meeting, done)?;
-    Ok(freed)
+    let mut trial = Trial::new(alloc);
+    try_all(first, depends, &mut trial, done)?;
+    Ok(trial.freed())
 }
 
 /// What would be met if these frames were done, one after the other.
@@ -58,32 +49,28 @@ pub(crate) fn met_by(
     requires first_counted { length first.now ≡ SLOT_LIMIT }
     requires ways { KeepsWays first.now (edge_lists depends.now) }
     requires depends { KeepsDepends depends.now }
-    ensures { IfOk result (λ marks. (unmet : List ℕ) (g : GraphLists) → All (λ slot. is_flagged g.done slot ≡ false) done.now → IsTried depends.now unmet nothing_laid [] nothing_met g → HasMet (watches depends.now) (with_all_done g done.now).depends marks) }
+    ensures { IfOk result (λ marks. MarksAll depends.now done.now marks) }
 {
-    let mut lacking = IndexMap::new(alloc);
-    let mut freed = Vec::new(alloc);
-    let mut meeting = Meeting::new(alloc);
-    try_all(first, depends, &mut lacking, &mut freed, &mut meeting, done)?;
-    Ok(meeting.marks())
+    let mut trial = Trial::new(alloc);
+    try_all(first, depends, &mut trial, done)?;
+    Ok(trial.marks())
 }
 
 // The frames would be done, one after the other.
 fn try_all(
     first: &[Option<EdgeAt>],
     depends: &[Listed],
-    lacking: &mut IndexMap<u64, u32>,
-    freed: &mut Vec<Slot>,
-    meeting: &mut Meeting,
+    trial: &mut Trial,
     done: &[Slot],
 ) -> Result<(), AllocError>
     requires differ { IsDistinct nat_eq done.now }
     requires first_counted { length first.now ≡ SLOT_LIMIT }
     requires ways { KeepsWays first.now (edge_lists depends.now) }
     requires depends { KeepsDepends depends.now }
-    ensures { OnOk result ((unmet : List ℕ) (g : GraphLists) → All (λ slot. is_flagged g.done slot ≡ false) done.now → IsTried depends.now unmet (get nat_eq lacking.old) freed.old.items (met_lists meeting.old) g → IsTried depends.now unmet (get nat_eq lacking.new) freed.new.items (met_lists meeting.new) (with_all_done g done.now)) }
+    ensures { OnOk result (TriesAll depends.now done.now trial.old trial.new) }
 {
     for slot in done {
-        try_done(first, depends, lacking, freed, meeting, *slot)?;
+        try_done(first, depends, trial, *slot)?;
     }
     Ok(())
 }
@@ -92,94 +79,67 @@ fn try_all(
 fn try_done(
     first: &[Option<EdgeAt>],
     depends: &[Listed],
-    lacking: &mut IndexMap<u64, u32>,
-    freed: &mut Vec<Slot>,
-    meeting: &mut Meeting,
+    trial: &mut Trial,
     slot: Slot,
 ) -> Result<(), AllocError>
     requires first_counted { length first.now ≡ SLOT_LIMIT }
     requires ways { KeepsWays first.now (edge_lists depends.now) }
     requires depends { KeepsDepends depends.now }
-    ensures { OnOk result ((unmet : List ℕ) (g : GraphLists) → is_flagged g.done slot ≡ false → IsTried depends.now unmet (get nat_eq lacking.old) freed.old.items (met_lists meeting.old) g → IsTried depends.now unmet (get nat_eq lacking.new) freed.new.items (met_lists meeting.new) (with_done g slot true)) }
+    ensures { OnOk result (TriesDone depends.now slot trial.old trial.new) }
 {
     if slot.0 as usize >= first.len() {
         return Ok(());
     }
-    try_way(
-        depends,
-        first_of(first, slot),
-        lacking,
-        freed,
-        meeting,
-        slot,
-    )
+    try_way(depends, first_of(first, slot), trial, slot)
 }
 
 // Along the slot's way each group would lack one fewer, and those that would lack none be met.
 fn try_way(
     depends: &[Listed],
     first: Option<EdgeAt>,
-    lacking: &mut IndexMap<u64, u32>,
-    freed: &mut Vec<Slot>,
-    meeting: &mut Meeting,
+    trial: &mut Trial,
     slot: Slot,
 ) -> Result<(), AllocError>
     requires slot { slot < SLOT_LIMIT }
     requires first { IsLast (edge_lists depends.now) slot is_any first }
-    requires next { (p i : ℕ) (e : Edge) → IsEdge (edge_lists depends.now) p i e → IsLast (edge_lists depends.now) e.slot (is_ahead_of p i) e.next }
+    requires next { KeepsNext (edge_lists depends.now) }
     requires depends { KeepsDepends depends.now }
-    ensures { OnOk result ((unmet : List ℕ) (g : GraphLists) → is_flagged g.done slot ≡ false → IsTried depends.now unmet (get nat_eq lacking.old) freed.old.items (met_lists meeting.old) g → IsTried depends.now unmet (get nat_eq lacking.new) freed.new.items (met_lists meeting.new) (with_done g slot true)) }
+    ensures { OnOk result (TriesDone depends.now slot trial.old trial.new) }
 {
     let mut next = first;
     while let Some(at) = next {
-        next = try_edge(depends, lacking, freed, meeting, at)?;
+        next = try_edge(depends, trial, at)?;
     }
     Ok(())
 }
 
 // The target of an edge would be done. The result is where the way goes on.
-fn try_edge(
-    depends: &[Listed],
-    lacking: &mut IndexMap<u64, u32>,
-    freed: &mut Vec<Slot>,
-    meeting: &mut Meeting,
-    at: EdgeAt,
-) -> Result<Option<EdgeAt>, AllocError>
+fn try_edge(depends: &[Listed], trial: &mut Trial, at: EdgeAt) -> Result<Option<EdgeAt>, AllocError>
     requires there { IsEdgeAt depends.now at }
-    ensures next { IfOk result (λ next. (d : ListedLists) (e : Edge) → slice_get depends.now at.depend ≡ Some d → slice_get d.edges at.edge ≡ Some e → next ≡ e.next) }
-    ensures hit { OnOk result ((d : ListedLists) (e : Edge) (g : Group) (c : Count) → slice_get depends.now at.depend ≡ Some d → slice_get d.edges at.edge ≡ Some e → slice_get d.groups e.group ≡ Some g → slice_get d.counts e.group ≡ Some c → IsHit (key_of at.depend e.group) g c (get nat_eq lacking.old) (get nat_eq lacking.new) freed.old.items freed.new.items) }
-    ensures met { OnOk result ((d : ListedLists) (e : Edge) (g : Group) (c : Count) → slice_get depends.now at.depend ≡ Some d → slice_get d.edges at.edge ≡ Some e → slice_get d.groups e.group ≡ Some g → slice_get d.counts e.group ≡ Some c → IsMetWhere (becomes_due g c (count_or c.undone (get nat_eq lacking.old (key_of at.depend e.group)))) at.depend d g (met_lists meeting.old) (met_lists meeting.new)) }
+    ensures next { IfOk result (λ next. AtEdge depends.now at (λ d e. next ≡ e.next)) }
+    ensures hit { OnOk result (AtTarget depends.now at (λ d e g c. Hits at.depend e.group g c trial.old trial.new)) }
+    ensures met { OnOk result (AtTarget depends.now at (λ d e g c. MeetsBy at.depend e.group d g c trial.old trial.new)) }
 {
     let edge = edge_in(depends, at);
-    hit(
-        &depends[at.depend as usize],
-        lacking,
-        freed,
-        meeting,
-        at.depend,
-        edge.group,
-    )?;
+    hit(&depends[at.depend as usize], trial, at.depend, edge.group)?;
     Ok(edge.next)
 }
 
 // One target of the group would be done, and those who wait in it freed where it would be met by that.
-fn hit(
-    listed: &Listed,
-    lacking: &mut IndexMap<u64, u32>,
-    freed: &mut Vec<Slot>,
-    meeting: &mut Meeting,
-    place: u32,
-    group: u32,
-) -> Result<(), AllocError>
+fn hit(listed: &Listed, trial: &mut Trial, place: u32, group: u32) -> Result<(), AllocError>
     requires groups { group < length listed.now.groups }
     requires counts { group < length listed.now.counts }
-    ensures hit { OnOk result ((g : Group) (c : Count) → slice_get listed.now.groups group ≡ Some g → slice_get listed.now.counts group ≡ Some c → IsHit (key_of place group) g c (get nat_eq lacking.old) (get nat_eq lacking.new) freed.old.items freed.new.items) }
-    ensures met { OnOk result ((g : Group) (c : Count) → slice_get listed.now.groups group ≡ Some g → slice_get listed.now.counts group ≡ Some c → IsMetWhere (becomes_due g c (count_or c.undone (get nat_eq lacking.old (key_of place group)))) place listed.now g (met_lists meeting.old) (met_lists meeting.new)) }
+    ensures hit { OnOk result (OfGroup listed.now group (λ g c. Hits place group g c trial.old trial.new)) }
+    ensures met { OnOk result (OfGroup listed.now group (λ g c. MeetsBy place group listed.now g c trial.old trial.new)) }
 {
-    let lacked = lower(lacking, key_of(place, group), listed.undone(group))?;
+    let lacked = lower(
+        &mut trial.lacking,
+        key_of(place, group),
+        listed.undone(group),
+    )?;
     if listed.becomes_due(group, lacked) {
-        freed.extend_from_slice(listed.waiters(group))?;
-        meeting.meet(listed, place, group)?;
+        trial.freed.extend_from_slice(listed.waiters(group))?;
+        trial.meeting.meet(listed, place, group)?;
     }
     Ok(())
 }
@@ -200,7 +160,7 @@ pub(crate) fn free_left(listed: &Listed, freed: &mut Vec<Slot>) -> Result<(), Al
 fn free_group(listed: &Listed, freed: &mut Vec<Slot>, group: u32) -> Result<(), AllocError>
     requires groups { group < length listed.now.groups }
     requires counts { group < length listed.now.counts }
-    ensures { OnOk result ((g : Group) (c : Count) → slice_get listed.now.groups group ≡ Some g → slice_get listed.now.counts group ≡ Some c → freed.new.items ≡ freed.old.items ++ (if c.met then [] else g.waiters)) }
+    ensures { OnOk result (OfGroup listed.now group (λ g c. freed.new.items ≡ freed.old.items ++ (if c.met then [] else g.waiters))) }
 {
     if listed.is_met(group) {
         return Ok(());

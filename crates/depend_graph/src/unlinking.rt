@@ -1,14 +1,13 @@
 //! The edges of a depend are taken off the ways of their slots.
 
-ghost use Rattle.std.specs.Prelude.{◌≡◌, ◌<◌, ℕ, Some, length, map, slice_get};
+ghost use Rattle.std.specs.Prelude.{◌≡◌, ◌<◌, length, map};
 ghost use Rattle.std.specs.Vec.{vec_capacity};
 ghost use Rattle.farm_types.specs.declared.limits.TheConstants.{SLOT_LIMIT};
 ghost use Rattle.depend_graph.specs.Bare.{bare_of};
-ghost use Rattle.depend_graph.specs.Flow.{IsEdgeAt};
+ghost use Rattle.depend_graph.specs.Flow.{AtDepend, AtEdge, IsEdgeAt};
 ghost use Rattle.depend_graph.specs.Linking.{first_without, unlinked_in};
-ghost use Rattle.depend_graph.specs.Listed.{IsListed, ListedLists};
+ghost use Rattle.depend_graph.specs.Listed.{AllListed};
 ghost use Rattle.depend_graph.specs.Ways.{KeepsWays, KeepsWaysOf, edge_lists, is_outside};
-ghost use Rattle.depend_graph.specs.declared.links.Edge.{Edge};
 
 use crate::flow::edge_in;
 use crate::linking::{edge_count_at, set_first, set_next_in, set_prev_in};
@@ -19,12 +18,12 @@ use farm_types::Slot;
 /// The edges of the depend at a place are taken off the ways of their slots.
 pub(crate) fn unlink(first: &mut Vec<Option<EdgeAt>>, depends: &mut Vec<Listed>, place: u32)
     requires place { place < length depends.old.items }
-    requires listed { (p : ℕ) (d : ListedLists) → slice_get depends.old.items p ≡ Some d → IsListed d }
+    requires listed { AllListed depends.old.items }
     requires first { length first.old.items ≡ SLOT_LIMIT }
     requires ways { KeepsWays first.old.items (edge_lists depends.old.items) }
     ensures bare { map bare_of depends.new.items ≡ map bare_of depends.old.items }
     ensures first { length first.new.items ≡ SLOT_LIMIT }
-    ensures ways { (d : ListedLists) → slice_get depends.old.items place ≡ Some d → KeepsWaysOf (is_outside place (length d.edges)) first.new.items (edge_lists depends.new.items) }
+    ensures ways { AtDepend depends.old.items place (λ d. KeepsWaysOf (is_outside place (length d.edges)) first.new.items (edge_lists depends.new.items)) }
     ensures capacity { vec_capacity depends.new ≡ vec_capacity depends.old }
 {
     let count = edge_count_at(depends.as_slice(), place);
@@ -40,9 +39,9 @@ pub(crate) fn unlink(first: &mut Vec<Option<EdgeAt>>, depends: &mut Vec<Listed>,
 // The edge is taken off its slot's way.
 fn unlink_one(first: &mut Vec<Option<EdgeAt>>, depends: &mut Vec<Listed>, at: EdgeAt)
     requires there { IsEdgeAt depends.old.items at }
-    requires slot { (e : Edge) (d : ListedLists) → slice_get depends.old.items at.depend ≡ Some d → slice_get d.edges at.edge ≡ Some e → e.slot < length first.old.items }
-    ensures first { (e : Edge) (d : ListedLists) → slice_get depends.old.items at.depend ≡ Some d → slice_get d.edges at.edge ≡ Some e → first.new.items ≡ first_without e.slot e.prev e.next first.old.items }
-    ensures depends { (e : Edge) (d : ListedLists) → slice_get depends.old.items at.depend ≡ Some d → slice_get d.edges at.edge ≡ Some e → depends.new.items ≡ unlinked_in e depends.old.items }
+    requires slot { AtEdge depends.old.items at (λ d e. e.slot < length first.old.items) }
+    ensures first { AtEdge depends.old.items at (λ d e. first.new.items ≡ first_without e.slot e.prev e.next first.old.items) }
+    ensures depends { AtEdge depends.old.items at (λ d e. depends.new.items ≡ unlinked_in e depends.old.items) }
     ensures capacity { vec_capacity depends.new ≡ vec_capacity depends.old }
 {
     let edge = edge_in(depends.as_slice(), at);

@@ -10,7 +10,7 @@ use Rattle.depend_graph.proofs.flow.pass_back.Goals as goal
 pub raise_in-requires : goal.raise_in-requires
 raise_in-requires c = λ d n at at_count.
     let read = c.edge_in-edge.ensures d (ap (λ (ds : List ListedLists). slice_get ds c.args.at.depend) c.as_slice.ensures.value ∙ at) in
-    c.requires.room d c.edge_in-edge.result n at read at_count
+    c.requires.room d c.edge_in-edge.result at read n at_count
 
 pub returns-clause-depends : goal.returns-clause-depends
 returns-clause-depends c = λ d e at at_edge.

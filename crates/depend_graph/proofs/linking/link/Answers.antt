@@ -6,10 +6,9 @@ use Rattle.depend_graph.specs.Bare.{bare_of}
 use Rattle.depend_graph.specs.Listed.{ListedLists}
 use Rattle.depend_graph.specs.Ways.{edge_lists, place_at}
 use Rattle.depend_graph.specs.declared.links.EdgeAt.{EdgeAt}
-use Rattle.depend_graph.proofs.Bared.{listed_bare}
 use Rattle.depend_graph.proofs.EdgeLists.{edge_is, edges_listed}
 use Rattle.depend_graph.proofs.LinkSteps.{linked_bare, linked_ways}
-use Rattle.depend_graph.proofs.Standing.{edge_stands, long_there, slot_low, stands}
+use Rattle.depend_graph.proofs.Standing.{edge_below, long_there, slot_below}
 use Rattle.depend_graph.proofs.Wanted.{next_place}
 use Rattle.depend_graph.proofs.linking.link.Goals as goal
 
@@ -19,19 +18,18 @@ edge_count_at-count-requires-clause-within c = λ d at. (c.requires.listed c.arg
 pub link_one-requires-clause-there : goal.link_one-requires-clause-there
 link_one-requires-clause-there c =
     let olds = c.args.depends.now.items in
-    let mids = c.loop-edge.depends.items in
     let place = c.args.place in
     let d = slice_get_below olds place c.requires.place in
     let count : c.edge_count_at-count.result ≡ length d.0.edges = c.edge_count_at-count.ensures d.0 (ap (λ (ds : List ListedLists). slice_get ds place) c.as_slice.ensures.value ∙ d.1) in
-    let s = stands olds mids c.loop-edge.invariant.bare place d.0 d.1 c.loop-edge.edge (omega (arith, c.loop-edge-test.true, count)) in
-    edge_stands mids (listed_bare olds mids c.loop-edge.invariant.bare c.requires.listed) place c.loop-edge.edge s.0 s.2 s.1 s.3
+    (edge_below olds c.loop-edge.depends.items c.loop-edge.invariant.bare c.requires.listed place c.loop-edge.edge d.0 d.1 (omega (arith, c.loop-edge-test.true, count))).4
 
 pub link_one-requires-clause-slot : goal.link_one-requires-clause-slot
-link_one-requires-clause-slot c = λ e d at at_e.
-    let olds = c.args.depends.now.items in
-    let mids = c.loop-edge.depends.items in
-    let low = slot_low mids (listed_bare olds mids c.loop-edge.invariant.bare c.requires.listed) c.args.place c.loop-edge.edge d e at at_e in
-    omega (arith, low, c.loop-edge.invariant.first)
+link_one-requires-clause-slot c = λ d e at at_e.
+    omega (
+      arith,
+      slot_below c.args.depends.now.items c.loop-edge.depends.items c.loop-edge.invariant.bare c.requires.listed c.args.place c.loop-edge.edge d e at at_e,
+      c.loop-edge.invariant.first,
+    )
 
 pub loop-edge-preserved : goal.loop-edge-preserved
 loop-edge-preserved c =
@@ -40,8 +38,8 @@ loop-edge-preserved c =
     let place = c.args.place in
     let d = slice_get_below olds place c.requires.place in
     let count : c.edge_count_at-count.result ≡ length d.0.edges = c.edge_count_at-count.ensures d.0 (ap (λ (ds : List ListedLists). slice_get ds place) c.as_slice.ensures.value ∙ d.1) in
-    let s = stands olds mids c.loop-edge.invariant.bare place d.0 d.1 c.loop-edge.edge (omega (arith, c.loop-edge-test.true, count)) in
-    let links = c.link_one.ensures.linked s.2 s.0 s.1 s.3 in
+    let s = edge_below olds mids c.loop-edge.invariant.bare c.requires.listed place c.loop-edge.edge d.0 d.1 (omega (arith, c.loop-edge-test.true, count)) in
+    let links = c.link_one.ensures.linked s.0 s.2 s.1 s.3 in
     record {
       bare = ap (map bare_of) links.depends_are ∙ (linked_bare (place_at place c.loop-edge.edge) links.next mids ∙ c.loop-edge.invariant.bare);
       first = ap (λ (fs : List (Option EdgeAt)). length fs) links.first_is ∙ (length-set c.loop-edge.first.items s.2.slot _ ∙ c.loop-edge.invariant.first);

@@ -8,7 +8,7 @@ use Rattle.depend_graph.specs.declared.links.EdgeAt.{EdgeAt}
 use Rattle.depend_graph.proofs.linking.link_one.Goals as goal
 
 pub returns-clause-linked : goal.returns-clause-linked
-returns-clause-linked c = λ e d at at_e.
+returns-clause-linked c = λ d e at at_e.
     let edge = c.edge_in-edge.result in
     let was : slice_get d.edges c.args.at.edge ≡ Some edge = c.edge_in-edge.ensures d (ap (λ (ds : List ListedLists). slice_get ds c.args.at.depend) c.as_slice.ensures.value ∙ at) in
     let same : edge ≡ e = same_Some edge e (sym was ∙ at_e) in

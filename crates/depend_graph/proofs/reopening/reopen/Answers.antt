@@ -17,7 +17,7 @@ pub pass_back-next-requires-clause-there : goal.pass_back-next-requires-clause-t
 pass_back-next-requires-clause-there c = standing c.args.done.now.items c.args.slot c.args.depends.now.items c.loop-next.depends.items c.loop-next.next c.in-Some.at c.loop-next.invariant.reopening c.in-Some.is
 
 pub pass_back-next-requires-clause-room : goal.pass_back-next-requires-clause-room
-pass_back-next-requires-clause-room c = λ d e n at at_edge at_count.
+pass_back-next-requires-clause-room c = λ d e at at_edge n at_count.
     raised_fits c.args.done.now.items c.args.slot c.args.depends.now.items c.loop-next.depends.items c.loop-next.next c.in-Some.at c.loop-next.invariant.reopening c.in-Some.is c.requires.next d e at at_edge n at_count
 
 pub loop-next-smaller : goal.loop-next-smaller

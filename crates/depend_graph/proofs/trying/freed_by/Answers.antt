@@ -1,15 +1,20 @@
-use Rattle.std.proofs.Common.{rules, ◌≡◌, [], ℕ, None, nat_eq, arith}
+use Rattle.std.proofs.Common.{[], ℕ, ◌-◌, List, nat_eq, sym, ap, ◌∙◌}
+use Rattle.std.specs.List.{count_by}
 use Rattle.indexmap.specs.IndexMap.{get}
+use Rattle.farm_types.specs.Sums.{total_at}
 use Rattle.depend_graph.specs.Graph.{with_all_done}
 use Rattle.depend_graph.specs.Meeting.{met_lists}
-use Rattle.depend_graph.specs.Trial.{nothing_laid, nothing_met}
+use Rattle.depend_graph.specs.Trial.{is_at, nothing_laid, nothing_met}
 use Rattle.depend_graph.proofs.Following.{tried_alike, tried_unmet}
 use Rattle.depend_graph.proofs.trying.freed_by.Goals as goal
 
 pub returns : goal.returns
-returns c = λ unmet g undone t.
+returns c = λ unmet g undone t slot.
     let depends = c.args.depends.now in
-    let none : (key : ℕ) → get nat_eq c.new-lacking.result key ≡ None = λ key. search (rules, arith) in
+    let new = c.new-trial.result in
+    let old = c.new-trial.ensures in
+    let trial = c.try_all.new.trial in
     let start =
-    tried_alike depends unmet nothing_laid (get nat_eq c.new-lacking.result) [] c.new-freed.result.items nothing_met (met_lists c.new-meeting.result) g none c.new-freed.ensures.items c.new-meeting.ensures t in
-    tried_unmet depends unmet (get nat_eq c.try_all.new.lacking) c.try_all.new.freed.items (met_lists c.try_all.new.meeting) (with_all_done g c.args.done.now) (c.in_ok-try_all.ensures unmet g undone start)
+    tried_alike depends unmet nothing_laid (get nat_eq new.lacking) [] new.freed.items nothing_met (met_lists new.meeting) g old.lacking old.freed old.met t in
+    tried_unmet depends unmet (get nat_eq trial.lacking) trial.freed.items (met_lists trial.meeting) (with_all_done g c.args.done.now) (c.in_ok-try_all.ensures unmet g undone start) slot
+    ∙ ap (λ (ss : List ℕ). total_at unmet slot - count_by (is_at slot) ss) (sym c.freed.ensures)

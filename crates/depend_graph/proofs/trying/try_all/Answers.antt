@@ -26,9 +26,9 @@ loop-slot-preserved c = λ unmet g undone t.
     let last = with_all_done g done in
     let slot = c.slot-item.result in
     let one : drop l.slot-index done ≡ slot ∷ drop (l.slot-index + 1) done = drop_more done l.slot-index slot (omega arith) ∙ ap (λ (s : ℕ). s ∷ drop (l.slot-index + 1) done) (sym c.slot-item.is) in
-    step_under_way depends unmet (get nat_eq l.lacking) (get nat_eq c.try_done.new.lacking) l.freed.items c.try_done.new.freed.items (met_lists l.meeting) (met_lists c.try_done.new.meeting) slot
+    step_under_way depends unmet (get nat_eq l.trial.lacking) (get nat_eq c.try_done.new.trial.lacking) l.trial.freed.items c.try_done.new.trial.freed.items (met_lists l.trial.meeting) (met_lists c.try_done.new.trial.meeting) slot
     (drop (l.slot-index + 1) done) last
-    (subst (λ (ss : List ℕ). IsUnderWay depends unmet (get nat_eq l.lacking) l.freed.items (met_lists l.meeting) ss last) one (l.invariant unmet g undone t))
+    (subst (λ (ss : List ℕ). IsUnderWay depends unmet (get nat_eq l.trial.lacking) l.trial.freed.items (met_lists l.trial.meeting) ss last) one (l.invariant unmet g undone t))
     (λ h undone_then tried. c.in_ok-try_done.ensures unmet h undone_then tried)
 
 pub returns : goal.returns
@@ -38,5 +38,5 @@ returns c = λ unmet g undone t.
     let done = c.args.done.now in
     let last = with_all_done g done in
     let none : drop l.slot-index done ≡ [] = drop_all l.slot-index done (omega arith) in
-    end_under_way depends unmet (get nat_eq l.lacking) l.freed.items (met_lists l.meeting) last
-    (subst (λ (ss : List ℕ). IsUnderWay depends unmet (get nat_eq l.lacking) l.freed.items (met_lists l.meeting) ss last) none (l.invariant unmet g undone t))
+    end_under_way depends unmet (get nat_eq l.trial.lacking) l.trial.freed.items (met_lists l.trial.meeting) last
+    (subst (λ (ss : List ℕ). IsUnderWay depends unmet (get nat_eq l.trial.lacking) l.trial.freed.items (met_lists l.trial.meeting) ss last) none (l.invariant unmet g undone t))

@@ -9,26 +9,26 @@ use Rattle.depend_graph.specs.declared.links.Edge.{Edge}
 use Rattle.depend_graph.proofs.trying.try_edge.Goals as goal
 
 pub returns-clause-hit : goal.returns-clause-hit
-returns-clause-hit c = λ d e g n at at_edge at_group at_count.
+returns-clause-hit c = λ d e at at_edge g n at_group at_count.
     let depends = c.args.depends.now in
     let place = c.args.at.depend in
     let read = c.edge_in-edge.result in
     let same : e ≡ read = same_Some e read (sym at_edge ∙ c.edge_in-edge.ensures d at) in
     let there = slice_get_read depends (length depends) place c.index-depends-at.result refl (slice_get_within depends place d at) c.index-depends-at.is in
     let listed : d ≡ c.index-depends-at.result = same_Some d c.index-depends-at.result (sym at ∙ there) in
-    subst (λ (x : Edge). IsHit (key_of place x.group) g n (get nat_eq c.args.lacking.now) (get nat_eq c.hit.new.lacking) c.args.freed.now.items c.hit.new.freed.items) (sym same)
+    subst (λ (x : Edge). IsHit (key_of place x.group) g n (get nat_eq c.args.trial.now.lacking) (get nat_eq c.hit.new.trial.lacking) c.args.trial.now.freed.items c.hit.new.trial.freed.items) (sym same)
     (c.in_ok-hit.ensures.hit g n ((λ i. slice_get (sym listed i).groups (sym same i).group) ∙ at_group) ((λ i. slice_get (sym listed i).counts (sym same i).group) ∙ at_count))
 
 pub returns-clause-met : goal.returns-clause-met
-returns-clause-met c = λ d e g n at at_edge at_group at_count.
+returns-clause-met c = λ d e at at_edge g n at_group at_count.
     let depends = c.args.depends.now in
     let place = c.args.at.depend in
     let read = c.edge_in-edge.result in
     let same : e ≡ read = same_Some e read (sym at_edge ∙ c.edge_in-edge.ensures d at) in
     let there = slice_get_read depends (length depends) place c.index-depends-at.result refl (slice_get_within depends place d at) c.index-depends-at.is in
     let listed : d ≡ c.index-depends-at.result = same_Some d c.index-depends-at.result (sym at ∙ there) in
-    let m = met_lists c.args.meeting.now in
-    let l = met_lists c.hit.new.meeting in
+    let m = met_lists c.args.trial.now.meeting in
+    let l = met_lists c.hit.new.trial.meeting in
     let met = c.in_ok-hit.ensures.met g n ((λ i. slice_get (sym listed i).groups (sym same i).group) ∙ at_group) ((λ i. slice_get (sym listed i).counts (sym same i).group) ∙ at_count) in
-    subst (λ (y : ListedLists). IsMetWhere (becomes_due g n (count_or n.undone (get nat_eq c.args.lacking.now (key_of place e.group)))) place y g m l) (sym listed)
-    (subst (λ (x : Edge). IsMetWhere (becomes_due g n (count_or n.undone (get nat_eq c.args.lacking.now (key_of place x.group)))) place c.index-depends-at.result g m l) (sym same) met)
+    subst (λ (y : ListedLists). IsMetWhere (becomes_due g n (count_or n.undone (get nat_eq c.args.trial.now.lacking (key_of place e.group)))) place y g m l) (sym listed)
+    (subst (λ (x : Edge). IsMetWhere (becomes_due g n (count_or n.undone (get nat_eq c.args.trial.now.lacking (key_of place x.group)))) place c.index-depends-at.result g m l) (sym same) met)

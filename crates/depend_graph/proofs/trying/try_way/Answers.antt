@@ -6,7 +6,7 @@ use Rattle.depend_graph.specs.Ways.{IsEdgeOf, edge_lists}
 use Rattle.depend_graph.specs.declared.links.EdgeAt.{EdgeAt}
 use Rattle.depend_graph.proofs.EdgeLists.{edge_found}
 use Rattle.depend_graph.proofs.Following.{end_following, start_following, step_following}
-use Rattle.depend_graph.proofs.Passed.{edge_at}
+use Rattle.depend_graph.proofs.OnWay.{edge_at}
 use Rattle.depend_graph.proofs.Steps.{steps_left}
 use Rattle.depend_graph.proofs.Walked.{way_falls}
 use Rattle.depend_graph.proofs.trying.try_way.Goals as goal
@@ -15,7 +15,7 @@ pub loop-next-init : goal.loop-next-init
 loop-next-init c =
     record {
       on_way = c.requires.first.one;
-      following = λ unmet g undone t. start_following c.args.depends.now unmet (get nat_eq c.args.lacking.now) c.args.freed.now.items (met_lists c.args.meeting.now) g c.args.slot c.args.first t undone c.requires.first;
+      following = λ unmet g undone t. start_following c.args.depends.now unmet (get nat_eq c.args.trial.now.lacking) c.args.trial.now.freed.items (met_lists c.args.trial.now.meeting) g c.args.slot c.args.first t undone c.requires.first;
     }
 
 pub try_edge-requires : goal.try_edge-requires
@@ -42,7 +42,7 @@ loop-next-preserved c =
           subst (λ (s : ℕ). IsEdgeOf (edge_lists depends) s a) on.slot_is
           ((c.requires.next at.depend at.edge on.edge on.there).one a (sym (c.in_ok-next.ensures.next d.0 on.edge d.1 d.2) ∙ is));
       following = λ unmet g undone t.
-          step_following depends unmet (get nat_eq c.loop-next.lacking) (get nat_eq c.try_edge.new.lacking) c.loop-next.freed.items c.try_edge.new.freed.items (met_lists c.loop-next.meeting) (met_lists c.try_edge.new.meeting) g.done c.args.slot t.news t.structure c.loop-next.next at
+          step_following depends unmet (get nat_eq c.loop-next.trial.lacking) (get nat_eq c.try_edge.new.trial.lacking) c.loop-next.trial.freed.items c.try_edge.new.trial.freed.items (met_lists c.loop-next.trial.meeting) (met_lists c.try_edge.new.trial.meeting) g.done c.args.slot t.news t.structure c.loop-next.next at
           (c.loop-next.invariant.following unmet g undone t) c.in-Some.is (omega (arith, c.requires.slot, t.done_counted)) c.requires.depends.listed c.requires.next c.in_ok-next.next c.in_ok-next.ensures.next
           c.in_ok-next.ensures.hit c.in_ok-next.ensures.met;
     }
@@ -50,9 +50,9 @@ loop-next-preserved c =
 pub returns : goal.returns
 returns c = λ unmet g undone t.
     let depends = c.args.depends.now in
-    let over = get nat_eq c.loop-next.lacking in
-    let freed = c.loop-next.freed.items in
-    let m = met_lists c.loop-next.meeting in
-    end_following depends unmet (get nat_eq c.args.lacking.now) over c.args.freed.now.items freed (met_lists c.args.meeting.now) m g c.args.slot t
+    let over = get nat_eq c.loop-next.trial.lacking in
+    let freed = c.loop-next.trial.freed.items in
+    let m = met_lists c.loop-next.trial.meeting in
+    end_following depends unmet (get nat_eq c.args.trial.now.lacking) over c.args.trial.now.freed.items freed (met_lists c.args.trial.now.meeting) m g c.args.slot t
     (subst (λ (o : Option EdgeAt). IsFollowing depends unmet g.done c.args.slot t.news o over freed m) c.in_default.is (c.loop-next.invariant.following unmet g undone t))
     (omega (arith, c.requires.slot, t.done_counted))

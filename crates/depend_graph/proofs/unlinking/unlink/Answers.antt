@@ -5,10 +5,9 @@ use Rattle.depend_graph.specs.Bare.{bare_of}
 use Rattle.depend_graph.specs.Listed.{ListedLists}
 use Rattle.depend_graph.specs.Ways.{KeepsWaysOf, edge_lists, is_outside}
 use Rattle.depend_graph.specs.declared.links.EdgeAt.{EdgeAt}
-use Rattle.depend_graph.proofs.Bared.{listed_bare}
 use Rattle.depend_graph.proofs.EdgeLists.{edge_is}
 use Rattle.depend_graph.proofs.LinkSteps.{unlinked_bare, unlinked_ways}
-use Rattle.depend_graph.proofs.Standing.{edge_stands, slot_low, stands, without_long}
+use Rattle.depend_graph.proofs.Standing.{edge_below, slot_below, without_long}
 use Rattle.depend_graph.proofs.Wanted.{begin_outside}
 use Rattle.depend_graph.proofs.unlinking.unlink.Goals as goal
 
@@ -27,19 +26,18 @@ loop-edge-init c =
 pub unlink_one-requires-clause-there : goal.unlink_one-requires-clause-there
 unlink_one-requires-clause-there c =
     let olds = c.args.depends.now.items in
-    let mids = c.loop-edge.depends.items in
     let place = c.args.place in
     let d = slice_get_below olds place c.requires.place in
     let count : c.edge_count_at-count.result ≡ length d.0.edges = c.edge_count_at-count.ensures d.0 (ap (λ (ds : List ListedLists). slice_get ds place) c.as_slice.ensures.value ∙ d.1) in
-    let s = stands olds mids c.loop-edge.invariant.bare place d.0 d.1 c.loop-edge.edge (omega (arith, c.loop-edge-test.true, count)) in
-    edge_stands mids (listed_bare olds mids c.loop-edge.invariant.bare c.requires.listed) place c.loop-edge.edge s.0 s.2 s.1 s.3
+    (edge_below olds c.loop-edge.depends.items c.loop-edge.invariant.bare c.requires.listed place c.loop-edge.edge d.0 d.1 (omega (arith, c.loop-edge-test.true, count))).4
 
 pub unlink_one-requires-clause-slot : goal.unlink_one-requires-clause-slot
-unlink_one-requires-clause-slot c = λ e d at at_e.
-    let olds = c.args.depends.now.items in
-    let mids = c.loop-edge.depends.items in
-    let low = slot_low mids (listed_bare olds mids c.loop-edge.invariant.bare c.requires.listed) c.args.place c.loop-edge.edge d e at at_e in
-    omega (arith, low, c.loop-edge.invariant.first)
+unlink_one-requires-clause-slot c = λ d e at at_e.
+    omega (
+      arith,
+      slot_below c.args.depends.now.items c.loop-edge.depends.items c.loop-edge.invariant.bare c.requires.listed c.args.place c.loop-edge.edge d e at at_e,
+      c.loop-edge.invariant.first,
+    )
 
 pub loop-edge-preserved : goal.loop-edge-preserved
 loop-edge-preserved c =
@@ -48,9 +46,9 @@ loop-edge-preserved c =
     let place = c.args.place in
     let d = slice_get_below olds place c.requires.place in
     let count : c.edge_count_at-count.result ≡ length d.0.edges = c.edge_count_at-count.ensures d.0 (ap (λ (ds : List ListedLists). slice_get ds place) c.as_slice.ensures.value ∙ d.1) in
-    let s = stands olds mids c.loop-edge.invariant.bare place d.0 d.1 c.loop-edge.edge (omega (arith, c.loop-edge-test.true, count)) in
-    let first_is = c.unlink_one.ensures.first s.2 s.0 s.1 s.3 in
-    let depends_are = c.unlink_one.ensures.depends s.2 s.0 s.1 s.3 in
+    let s = edge_below olds mids c.loop-edge.invariant.bare c.requires.listed place c.loop-edge.edge d.0 d.1 (omega (arith, c.loop-edge-test.true, count)) in
+    let first_is = c.unlink_one.ensures.first s.0 s.2 s.1 s.3 in
+    let depends_are = c.unlink_one.ensures.depends s.0 s.2 s.1 s.3 in
     record {
       bare = ap (map bare_of) depends_are ∙ (unlinked_bare s.2 mids ∙ c.loop-edge.invariant.bare);
       first = ap (λ (fs : List (Option EdgeAt)). length fs) first_is ∙ (without_long s.2.slot s.2.prev s.2.next c.loop-edge.first.items ∙ c.loop-edge.invariant.first);

@@ -28,7 +28,7 @@ aims_reserved s gs is = ap (λ (x : SpareLists). x.aims) is
 pub make_room-requires-clause-few : goal.make_room-requires-clause-few
 make_room-requires-clause-few c =
     let can : CanAdd (graph_of c.self.inside) c.args.depend c.args.groups = subst (λ (g : GraphLists). CanAdd g c.args.depend c.args.groups) (sym c.self.view_is) c.requires.can in
-    omega (arith, there_long c.self.inside.depends.items, can.room)
+    omega (arith, there_long c.self.inside.tally.depends.items, can.room)
 
 pub count_all-requires-clause-counts : goal.count_all-requires-clause-counts
 count_all-requires-clause-counts c =
@@ -60,7 +60,7 @@ pub raised_left-self-inside-requires : goal.raised_left-self-inside-requires
 raised_left-self-inside-requires c =
     let a = c.self.inside in
     let can : CanAdd (graph_of a) c.args.depend c.args.groups = subst (λ (g : GraphLists). CanAdd g c.args.depend c.args.groups) (sym c.self.view_is) c.requires.can in
-    omega (arith, c.len.ensures, c.self.invariant.sums.left_kept, there_left a.depends.items c.self.invariant.depends, can.groups_within)
+    omega (arith, c.len.ensures, c.self.invariant.tally.sums.left_kept, there_left a.tally.depends.items c.self.invariant.tally.depends, can.groups_within)
 
 pub link-requires-clause-listed : goal.link-requires-clause-listed
 link-requires-clause-listed c =
@@ -74,13 +74,13 @@ link-requires-clause-listed c =
     let can : CanAdd (graph_of a) c.args.depend gs = subst (λ (g : GraphLists). CanAdd g c.args.depend gs) (sym c.self.view_is) c.requires.can in
     let can_there : CanAdd (record { done = done; depends = watches (there_of ds) }) c.args.depend gs =
     subst (λ (ws : List Watch). CanAdd (record { done = done; depends = ws }) c.args.depend gs) (sym c.make_room.ensures.watches) can in
-    let sums = c.make_room.ensures.sums a.unmet.items a.left c.self.invariant.sums in
+    let sums = c.make_room.ensures.sums a.tally.unmet.items a.tally.left c.self.invariant.tally.sums in
     let one = added done c.args.depend gs ms edges aims c.spare.invariant in
     let counts_are : c.mark_all.new.counts.items ≡ marked_counts (map (count_for done) gs) ms = c.mark_all.ensures ∙ ap (λ (ns : List Count). marked_counts ns ms) (c.count_all.ensures ∙ λ i. map (count_for (c.as_slice-2.ensures.value i)) (c.as_slice.ensures i)) in
     let unmet_is : c.unmet_among-unmet.result ≡ count_by is_unmet (marked_counts (map (count_for done) gs) ms) = c.unmet_among-unmet.ensures ∙ ap (count_by is_unmet) (c.as_slice-5.ensures.value ∙ counts_are) in
     let depends_are : c.push_reserved.new.self.items ≡ ds ++ one ∷ [] =
     c.push_reserved.ensures.items ∙ λ i. ds ++ record { depend = c.args.depend; groups = gs; counts = counts_are i; edges = edges; unmet = unmet_is i; gone = false } ∷ [] in
-    (subst KeepsDepends (sym depends_are) (push_depends done c.args.depend gs ms edges aims c.spare.invariant ds a.unmet.items a.left c.make_room.ensures.depends sums done can_there c.make_room.ensures.room)).listed
+    (subst KeepsDepends (sym depends_are) (push_depends done c.args.depend gs ms edges aims c.spare.invariant ds a.tally.unmet.items a.tally.left c.make_room.ensures.depends sums done can_there c.make_room.ensures.room)).listed
 
 pub link-requires-clause-ways : goal.link-requires-clause-ways
 link-requires-clause-ways c =
@@ -118,7 +118,7 @@ invariant_of-self c =
     let can_there : CanAdd (record { done = done; depends = watches (there_of ds) }) c.args.depend gs =
     subst (λ (ws : List Watch). CanAdd (record { done = done; depends = ws }) c.args.depend gs) (sym c.make_room.ensures.watches) can in
     let before = c.make_room.ensures.depends in
-    let sums = c.make_room.ensures.sums a.unmet.items a.left kept.sums in
+    let sums = c.make_room.ensures.sums a.tally.unmet.items a.tally.left kept.tally.sums in
     let counts = c.make_room.ensures.counts done kept.counts in
     let room = c.make_room.ensures.room in
     let one = added done c.args.depend gs ms edges aims within in
@@ -126,26 +126,29 @@ invariant_of-self c =
     let unmet_is : c.unmet_among-unmet.result ≡ count_by is_unmet (marked_counts (map (count_for done) gs) ms) = c.unmet_among-unmet.ensures ∙ ap (count_by is_unmet) (c.as_slice-5.ensures.value ∙ counts_are) in
     let depends_are : pushed ≡ ds ++ one ∷ [] =
     c.push_reserved.ensures.items ∙ λ i. ds ++ record { depend = c.args.depend; groups = gs; counts = counts_are i; edges = edges; unmet = unmet_is i; gone = false } ∷ [] in
-    let held_are : c.hold_all.new.unmet.items ≡ held_in a.unmet.items gs (marked_counts (map (count_for done) gs) ms) = c.hold_all.ensures ∙ λ i. held_in a.unmet.items (c.as_slice-3.ensures i) ((c.as_slice-4.ensures.value ∙ counts_are) i) in
-    let left_is : c.raised_left-self-inside.result ≡ cond (eqb (count_by is_unmet (marked_counts (map (count_for done) gs) ms)) 0) a.left (a.left + length gs) =
-    c.raised_left-self-inside.ensures ∙ λ i. cond (eqb (unmet_is i) 0) a.left (a.left + c.len.ensures i) in
+    let held_are : c.hold_all.new.unmet.items ≡ held_in a.tally.unmet.items gs (marked_counts (map (count_for done) gs) ms) = c.hold_all.ensures ∙ λ i. held_in a.tally.unmet.items (c.as_slice-3.ensures i) ((c.as_slice-4.ensures.value ∙ counts_are) i) in
+    let left_is : c.raised_left-self-inside.result ≡ cond (eqb (count_by is_unmet (marked_counts (map (count_for done) gs) ms)) 0) a.tally.left (a.tally.left + length gs) =
+    c.raised_left-self-inside.ensures ∙ λ i. cond (eqb (unmet_is i) 0) a.tally.left (a.tally.left + c.len.ensures i) in
     let count : length ds ≡ c.len-place.result = search (rules, arith) in
     let long : length (edge_lists news) ≡ length ds + 1 = omega (arith, edge_lists_long news, length_bare pushed news c.link.ensures.bare, ap (λ (xs : List ListedLists). length xs) depends_are, length-append ds (one ∷ [])) in
     record {
-      depends = depends_bare pushed news c.link.ensures.bare (subst KeepsDepends (sym depends_are) (push_depends done c.args.depend gs ms edges aims within ds a.unmet.items a.left before sums done can_there room));
-      sums =
-          sums_bare pushed news c.link.ensures.bare c.hold_all.new.unmet.items c.raised_left-self-inside.result
-          (subst (λ (us : List ℕ). KeepsSums us c.raised_left-self-inside.result pushed) (sym held_are)
-          (subst (λ (n : ℕ). KeepsSums (held_in a.unmet.items gs (marked_counts (map (count_for done) gs) ms)) n pushed) (sym left_is)
-          (subst (λ (xs : List ListedLists). KeepsSums (held_in a.unmet.items gs (marked_counts (map (count_for done) gs) ms)) (cond (eqb (count_by is_unmet (marked_counts (map (count_for done) gs) ms)) 0) a.left (a.left + length gs)) xs) (sym depends_are)
-          (push_sums done c.args.depend gs ms edges aims within ds a.unmet.items a.left before sums done can_there room))));
+      tally =
+          record {
+            depends = depends_bare pushed news c.link.ensures.bare (subst KeepsDepends (sym depends_are) (push_depends done c.args.depend gs ms edges aims within ds a.tally.unmet.items a.tally.left before sums done can_there room));
+            sums =
+                sums_bare pushed news c.link.ensures.bare c.hold_all.new.unmet.items c.raised_left-self-inside.result
+                (subst (λ (us : List ℕ). KeepsSums us c.raised_left-self-inside.result pushed) (sym held_are)
+                (subst (λ (n : ℕ). KeepsSums (held_in a.tally.unmet.items gs (marked_counts (map (count_for done) gs) ms)) n pushed) (sym left_is)
+                (subst (λ (xs : List ListedLists). KeepsSums (held_in a.tally.unmet.items gs (marked_counts (map (count_for done) gs) ms)) (cond (eqb (count_by is_unmet (marked_counts (map (count_for done) gs) ms)) 0) a.tally.left (a.tally.left + length gs)) xs) (sym depends_are)
+                (push_sums done c.args.depend gs ms edges aims within ds a.tally.unmet.items a.tally.left before sums done can_there room))));
+            room = omega (arith, kept.tally.room, c.make_room.ensures.capacity, c.push_reserved.ensures.capacity, c.link.ensures.capacity);
+          };
       counts =
           counts_bare pushed news c.link.ensures.bare done
-          (λ p d at. push_counts done c.args.depend gs ms edges aims within ds a.unmet.items a.left before sums done can_there room counts p d (ap (λ (xs : List ListedLists). slice_get xs p) (sym depends_are) ∙ at));
+          (λ p d at. push_counts done c.args.depend gs ms edges aims within ds a.tally.unmet.items a.tally.left before sums done can_there room counts p d (ap (λ (xs : List ListedLists). slice_get xs p) (sym depends_are) ∙ at));
       ways = all_places c.link.new.first.items (edge_lists news) (c.len-place.result + 1) (omega (arith, long, count)) c.link.ensures.ways;
       done_counted = kept.done_counted;
       first_counted = c.link.ensures.first;
-      room = omega (arith, kept.room, c.make_room.ensures.capacity, c.push_reserved.ensures.capacity, c.link.ensures.capacity);
     }
 
 pub returns : goal.returns
@@ -163,7 +166,7 @@ returns c =
     let unmet_is : c.unmet_among-unmet.result ≡ count_by is_unmet (marked_counts (map (count_for done) gs) ms) = c.unmet_among-unmet.ensures ∙ ap (count_by is_unmet) (c.as_slice-5.ensures.value ∙ counts_are) in
     let depends_are : pushed ≡ ds ++ one ∷ [] =
     c.push_reserved.ensures.items ∙ λ i. ds ++ record { depend = c.args.depend; groups = gs; counts = counts_are i; edges = edges; unmet = unmet_is i; gone = false } ∷ [] in
-    let watched_are : watches (there_of c.link.new.depends.items) ≡ watches (there_of a.depends.items) ++ marked_watch done c.args.depend gs ms ∷ [] =
+    let watched_are : watches (there_of c.link.new.depends.items) ≡ watches (there_of a.tally.depends.items) ++ marked_watch done c.args.depend gs ms ∷ [] =
     there_bare pushed c.link.new.depends.items c.link.ensures.bare
     ∙ (ap (λ (xs : List ListedLists). watches (there_of xs)) depends_are
     ∙ (there_push ds one refl ∙ λ i. c.make_room.ensures.watches i ++ added_watch done c.args.depend gs ms edges aims c.spare.invariant i ∷ [])) in

@@ -12,12 +12,12 @@ use Rattle.depend_graph.proofs.graph.Graph.drop_depend.Goals as goal
 pub place_of-place-requires-clause-there : goal.place_of-place-requires-clause-there
 place_of-place-requires-clause-there c =
     ap (list_any (has_number c.args.depend)) c.as_slice.ensures.value
-    ∙ (sym (numbers_any c.args.depend c.self.inside.depends.items) ∙ (ap (λ (g : GraphLists). has_depend g c.args.depend) c.self.view_is ∙ c.requires))
+    ∙ (sym (numbers_any c.args.depend c.self.inside.tally.depends.items) ∙ (ap (λ (g : GraphLists). has_depend g c.args.depend) c.self.view_is ∙ c.requires))
 
 pub returns-clause-graph : goal.returns-clause-graph
 returns-clause-graph c =
-    let ds = c.self.inside.depends.items in
-    let news = c.meet_all.new.depends.items in
+    let ds = c.self.inside.tally.depends.items in
+    let news = c.meet_all.new.self.depends.items in
     let place = c.place_of-place.result in
     let below = c.place_of-place.ensures.there in
     let d = slice_get_below c.as_slice.result.now place below in
@@ -30,7 +30,7 @@ returns-clause-graph c =
 
 pub returns-clause-opened : goal.returns-clause-opened
 returns-clause-opened c =
-    let ds = c.self.inside.depends.items in
-    let news = c.meet_all.new.depends.items in
+    let ds = c.self.inside.tally.depends.items in
+    let news = c.meet_all.new.self.depends.items in
     subst (λ (ws : List Watch). HasOpened ws (watches (there_of news)) c.meet_all.new.opened) (ap (λ (g : GraphLists). g.depends) c.self.view_is)
-    (opened_there ds news c.self.invariant.depends c.meet_all.ensures.depends c.meet_all.ensures.there c.meet_all.new.opened c.meet_all.ensures.opened)
+    (opened_there ds news c.self.invariant.tally.depends c.meet_all.ensures.kept.depends c.meet_all.ensures.there c.meet_all.new.opened c.meet_all.ensures.opened)

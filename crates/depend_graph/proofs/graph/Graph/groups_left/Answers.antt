@@ -5,4 +5,4 @@ use Rattle.depend_graph.proofs.graph.Graph.groups_left.Goals as goal
 
 pub returns-clause-value : goal.returns-clause-value
 returns-clause-value c =
-    c.self.invariant.sums.left_kept ∙ (there_left c.self.inside.depends.items c.self.invariant.depends ∙ ap (λ (g : GraphLists). groups_left g.depends) c.self.view_is)
+    c.self.invariant.tally.sums.left_kept ∙ (there_left c.self.inside.tally.depends.items c.self.invariant.tally.depends ∙ ap (λ (g : GraphLists). groups_left g.depends) c.self.view_is)

@@ -10,24 +10,24 @@ use Rattle.depend_graph.proofs.graph.Graph.is_marked.Goals as goal
 pub returns-in-None : goal.returns-in-None
 returns-in-None c =
     let n = c.args.depend in
-    let ds = c.self.inside.depends.items in
+    let ds = c.self.inside.tally.depends.items in
     let none : list_any (has_number n) ds ≡ false = ap (list_any (has_number n)) (sym c.as_slice.ensures.value) ∙ c.find_place.ensures.none c.in-None.is in
     sym (ap (has_mark c.args.position) (ap (λ (g : GraphLists). groups_at g.depends n) (sym c.self.view_is) ∙ no_groups ds n none))
 
 pub is_marked-requires : goal.is_marked-requires
 is_marked-requires c =
-    let ds = c.self.inside.depends.items in
+    let ds = c.self.inside.tally.depends.items in
     let place = c.in-Some.place in
     let d = c.index.result.now in
     let read : slice_get ds place ≡ Some d =
     slice_get_read ds (length c.as_slice.result.now) place d (ap (λ (xs : List ListedLists). length xs) c.as_slice.ensures.value) c.in-Some.ensures.there c.index.ensures in
-    c.self.invariant.depends.listed place d read
+    c.self.invariant.tally.depends.listed place d read
 
 pub returns-in-Some : goal.returns-in-Some
 returns-in-Some c =
     let n = c.args.depend in
-    let ds = c.self.inside.depends.items in
-    let kept = c.self.invariant.depends in
+    let ds = c.self.inside.tally.depends.items in
+    let kept = c.self.invariant.tally.depends in
     let place = c.in-Some.place in
     let d = c.index.result.now in
     let read : slice_get ds place ≡ Some d =

@@ -12,15 +12,15 @@ use Rattle.depend_graph.proofs.graph.Graph.marks_of.Goals as goal
 pub returns-in_default : goal.returns-in_default
 returns-in_default c =
     let n = c.args.depend in
-    let ds = c.self.inside.depends.items in
+    let ds = c.self.inside.tally.depends.items in
     let none : list_any (has_number n) ds ≡ false = ap (list_any (has_number n)) (sym c.as_slice.ensures.value) ∙ c.find_place.ensures.none c.in_default.is in
     c.new.ensures ∙ sym (ap (map (group_mark n)) (ap (λ (g : GraphLists). groups_at g.depends n) (sym c.self.view_is) ∙ no_groups ds n none))
 
 pub returns : goal.returns
 returns c =
     let n = c.args.depend in
-    let ds = c.self.inside.depends.items in
-    let kept = c.self.invariant.depends in
+    let ds = c.self.inside.tally.depends.items in
+    let kept = c.self.invariant.tally.depends in
     let place = c.in-Some.place in
     let d = c.index.result.now in
     let read : slice_get ds place ≡ Some d =

@@ -8,5 +8,5 @@ pub returns : goal.returns
 returns c =
     c.unmet_at.ensures
     ∙ (ap (λ (ns : List ℕ). total_at ns c.args.slot) c.as_slice.ensures.value
-    ∙ (c.self.invariant.sums.unmet_kept c.args.slot
-    ∙ (there_unmet c.self.inside.depends.items c.self.invariant.depends c.args.slot ∙ ap (λ (g : GraphLists). unmet_of g.depends c.args.slot) c.self.view_is)))
+    ∙ (c.self.invariant.tally.sums.unmet_kept c.args.slot
+    ∙ (there_unmet c.self.inside.tally.depends.items c.self.invariant.tally.depends c.args.slot ∙ ap (λ (g : GraphLists). unmet_of g.depends c.args.slot) c.self.view_is)))
