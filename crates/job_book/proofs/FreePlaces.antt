@@ -1,8 +1,8 @@
 -- The places of free slots, in steps.
-use Rattle.std.proofs.Common.{◌≡◌, ℕ, zero, suc, ◌+◌, ◌-◌, ◌<◌, ◌≤◌, Bool, true, false, cond, eqb, List, [], ◌∷◌, ◌++◌, length, map, get_or, take, drop, refl, sym, ap, ◌∙◌, arith, append_assoc, append-nil, length-append}
+use Rattle.std.proofs.Common.{◌≡◌, ℕ, zero, suc, ◌+◌, ◌-◌, ◌<◌, ◌≤◌, Bool, true, false, cond, eqb, List, [], ◌∷◌, ◌++◌, length, map, get_or, take, drop, refl, sym, ap, ◌∙◌, arith, append_assoc, append-nil, length-append, length-drop, take-append-drop}
 use Rattle.std.specs.List.{concat}
 use Rattle.std.proofs.lemmas.Bool.{eq-eqb, ne_eqb}
-use Rattle.std.proofs.lemmas.List.{drop_all, drop_more, length-map, map_push, take_more}
+use Rattle.std.proofs.lemmas.List.{drop-drop, drop_all, drop_more, length-map, length-take-le, map_push, take_more}
 use Rattle.std.proofs.lemmas.List.Sums.{sum_by-append, sum_by-cons}
 use Rattle.std.specs.List.{list_all}
 use Rattle.farm_types.specs.declared.job.LayerSpec.{LayerSpec}
@@ -13,6 +13,7 @@ use Rattle.farm_types.specs.Jobs.{frames_in, frames_of, is_free, layer_rows, pla
 use Rattle.job_book.specs.Inside.{is_below}
 use Rattle.job_book.specs.Layers.{layer_position, place_in, places_past, put_places}
 use Rattle.job_book.specs.Lowest.{lowest_free, places_from}
+use Rattle.job_book.proofs.FreeSlots.{none_left}
 use Rattle.job_book.proofs.PlacedLayers.{none_placed, picked, picked_lists, picked_new}
 use Rattle.job_book.proofs.Putting.{length-frames_of}
 
@@ -30,10 +31,6 @@ put_lowest p (s ∷ ss) (x ∷ xs) =
     ∙ ap (λ (ns : List ℕ). cond (is_free s) (p ∷ lowest_free (p + 1) ss (length xs)) ns) (put_lowest (p + 1) ss (x ∷ xs))
 
 -- ---- slot by slot
-
-none_left : (p : ℕ) (slots : List SlotRow) → lowest_free p slots 0 ≡ []
-none_left p [] = refl
-none_left p (s ∷ ss) = refl
 
 module _ (slots : List SlotRow) (count i : ℕ) (total : List ℕ) (places : List ℕ) where
   -- so many places were found before the slot at i
@@ -124,17 +121,13 @@ lengths_more lists piece layers i l within is long counts =
     map_push (λ (ns : List ℕ). length ns) lists piece ∙ ap (λ (ns : List ℕ). ns ++ length piece ∷ []) counts ∙ ap (λ (n : ℕ). map (λ (k : LayerSpec). length k.numbers) (take i layers) ++ n ∷ []) long
     ∙ sym (ap (map (λ (k : LayerSpec). length k.numbers)) (take_more layers i l within ∙ ap (λ (k : LayerSpec). take i layers ++ k ∷ []) (sym is)) ∙ map_push (λ (k : LayerSpec). length k.numbers) (take i layers) l)
 
--- ---- how many places there are
+-- a piece of the places, and those behind it
+pub cut : (done long end : ℕ) (places : List ℕ) → end ≡ done + long → drop done places ≡ take (end - done) (drop done places) ++ drop end places
+cut done long end places is =
+    let e : end - done ≡ long = omega (arith, is) in
+    sym (take-append-drop long (drop done places)) ∙ (λ j. take (sym e j) (drop done places) ++ drop-drop long done places j) ∙ ap (λ (n : ℕ). take (end - done) (drop done places) ++ drop n places) (sym is)
 
-length-places_from : (p n : ℕ) → length (places_from p n) ≡ n
-length-places_from p zero = refl
-length-places_from p (suc n) = ap suc (length-places_from (p + 1) n)
-
-lowest_step : (b : Bool) (p n : ℕ) (ss : List SlotRow) → length (lowest_free (p + 1) ss n) ≡ n → length (lowest_free (p + 1) ss (suc n)) ≡ suc n → length (cond b (p ∷ lowest_free (p + 1) ss n) (lowest_free (p + 1) ss (suc n))) ≡ suc n
-lowest_step true p n ss here later = ap suc here
-lowest_step false p n ss here later = later
-
-pub length-lowest_free : (p : ℕ) (slots : List SlotRow) (n : ℕ) → length (lowest_free p slots n) ≡ n
-length-lowest_free p [] n = length-places_from p n
-length-lowest_free p (s ∷ ss) zero = refl
-length-lowest_free p (s ∷ ss) (suc n) = lowest_step (is_free s) p n ss (length-lowest_free (p + 1) ss n) (length-lowest_free (p + 1) ss (suc n))
+pub piece_long : (done long end : ℕ) (places : List ℕ) → end ≡ done + long → end ≤ length places → length (take (end - done) (drop done places)) ≡ long
+piece_long done long end places is within =
+    let e : end - done ≡ long = omega (arith, is) in
+    ap (λ (n : ℕ). length (take n (drop done places))) e ∙ length-take-le long (drop done places) (omega (arith, length-drop done places, is, within))

@@ -14,8 +14,7 @@ use Rattle.farm_types.proofs.Changed.{changed_at_sum, length-changed_at}
 use Rattle.farm_types.proofs.ChangedLists.{changed_at_suc}
 use Rattle.job_book.specs.declared.freeing.Free.{Free}
 use Rattle.job_book.specs.Inside.{KeepsFree}
-use Rattle.job_book.proofs.FreeSlots.{free_cons}
-use Rattle.job_book.proofs.FirstFree.{fewer_behind}
+use Rattle.job_book.proofs.FreeSlots.{fewer_behind, free_cons}
 
 drop_changed : (k i : ℕ) (xs : List SlotRow) (f : SlotRow → SlotRow) → k ≤ i → drop k (changed_at xs i f) ≡ changed_at (drop k xs) (i - k) f
 drop_changed zero i xs f less = let e : i - 0 ≡ i = omega arith in rw e refl

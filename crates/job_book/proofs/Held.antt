@@ -9,9 +9,11 @@ use Rattle.farm_types.specs.Kept.{for_any}
 use Rattle.farm_types.specs.Rising.{IsRising}
 use Rattle.farm_types.proofs.ChangedLists.{changed_at_suc}
 use Rattle.farm_types.proofs.Lists.{and_both}
+use Rattle.job_book.specs.declared.entries.At.{At}
 use Rattle.job_book.specs.declared.entries.Place.{Place}
-use Rattle.job_book.specs.Entries.{emptied, entry_key, has_number, held, held_in, is_held_at, is_taken, is_whole, on_number, onto, place_key, place_of_number, with_held}
+use Rattle.job_book.specs.Entries.{IsAt, emptied, entry_key, has_number, held, held_in, is_held_at, is_taken, is_whole, on_number, onto, place_key, place_of_number, with_held}
 use Rattle.job_book.specs.OneJob.{OneJob}
+use Rattle.job_book.proofs.NamedJobs.{position_or_len-map}
 
 -- ---- one place
 
@@ -156,6 +158,22 @@ module _ (job : ℕ) where
           rw is (leave_here p.job p.held (held ps) is of (kept_above (p.job + 1) (held ps) high (omega (arith, eqb-true p.job job is)) (rising_held (p.job + 1) ps high rise.1 all)))
       by false is of all later =
           rw (is, suc_place ps, changed_at_suc p ps (place_of_number job ps) emptied) (leave_there p.job p.held (held ps) _ is of later)
+
+-- ---- a place that was found
+
+pub at_number : (at : At) (ps : List Place) → IsAt at (map place_key ps) → at.place ≡ place_of_number at.job ps
+at_number at ps is = is ∙ position_or_len-map (λ (n : ℕ). eqb n at.job) place_key ps
+
+-- what stands there is the job of the number
+pub found_held : (at : At) (ps : List Place) (high : ℕ) → IsRising place_key 0 ps high → list_all is_held_at ps ≡ true → IsAt at (map place_key ps)
+    → held_in (slice_get ps at.place) ≡ find (has_number at.job) (held ps)
+found_held at ps high rise each is = ap (λ (n : ℕ). held_in (slice_get ps n)) (at_number at ps is) ∙ find_held at.job 0 ps high rise each
+
+-- a place that changes keeps its number
+pub same_keys : (f : Place → Place) → ((p : Place) → (f p).job ≡ p.job) → (ps : List Place) (n : ℕ) → map place_key (changed_at ps n f) ≡ map place_key ps
+same_keys f same [] n = refl
+same_keys f same (p ∷ ps) zero = ap (λ (k : ℕ). k ∷ map place_key ps) (same p)
+same_keys f same (p ∷ ps) (suc n) = ap (map place_key) (changed_at_suc p ps n f) ∙ ap (λ (ks : List ℕ). p.job ∷ ks) (same_keys f same ps n)
 
 -- ---- places that are added, and closed up
 

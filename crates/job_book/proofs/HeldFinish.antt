@@ -11,7 +11,7 @@ use Rattle.farm_types.proofs.ChangedLists.{changed_at_suc}
 use Rattle.farm_types.proofs.Lists.{and_both}
 use Rattle.job_book.specs.declared.counts.Counts.{Counts}
 use Rattle.job_book.specs.Counting.{new_counts}
-use Rattle.job_book.specs.Entries.{all_of, are_layers, beside, counts_held, entry_key, finished_by, index_held, is_whole, layers_held, on_number, row_of, with_finish}
+use Rattle.job_book.specs.Entries.{all_of, are_layers, beside, counts_held, entry_key, finished_by, index_held, is_whole, layers_held, on_number, row_of, with_end, with_finish}
 use Rattle.job_index.specs.Places.{LayerPlaces}
 use Rattle.job_book.specs.OneJob.{OneJob}
 use Rattle.job_book.proofs.Held.{stay_above}
@@ -119,15 +119,8 @@ module _ (job finish : ℕ) (c : Counts) where
         rw is (ap (λ (xs : List LayerPlaces). e.index ++ xs) rest.1 ∙ sym (beside-append e.layers (flat_map layers_held es) e.index (flat_map index_held es) long ∙ rw (index_stay e.row.job 0 e.layers e.index long is own) refl)),
       )
 
-  pub all_finished : (es : List OneJob) (next : ℕ) → IsRising entry_key 0 es next → list_all is_whole es ≡ true
-      → all_of (map ends es) next
-      ≡ record {
-        rows = map (finished_by job finish c) (map row_of es);
-        counts = changed_at (map counts_held es) (position_or_len (λ (j : JobRow). eqb j.job job) (map row_of es)) (λ _. new_counts 0);
-        layers = filter stays (flat_map layers_held es);
-        index = beside stays (flat_map layers_held es) (flat_map index_held es);
-        next = next;
-      }
-  all_finished es next rise whole =
+  pub all_finished : (numbers : List ℕ) (es : List OneJob) (next : ℕ) → IsRising entry_key 0 es next → list_all is_whole es ≡ true
+      → all_of numbers (map ends es) next ≡ with_end job finish c (all_of numbers es next)
+  all_finished numbers es next rise whole =
       let lists = lists_finished es whole in
-      same_lists _ _ (rows_finished es) (counts_finished 0 es next rise) lists.0 lists.1 refl
+      same_lists _ _ (rows_finished es) (counts_finished 0 es next rise) lists.0 lists.1 refl refl

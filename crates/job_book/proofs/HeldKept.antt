@@ -1,7 +1,7 @@
 -- What the places of jobs keep where one job changes, leaves or is added, and the lists that they make then.
-use Rattle.std.proofs.Common.{◌≡◌, ℕ, suc, zero, ◌+◌, ◌&&◌, ◌||◌, Bool, true, false, not, cond, eqb, List, [], ◌∷◌, ◌++◌, map, filter, length, Option, Some, None, option_map, refl, sym, ap, ◌∙◌, append-nil, arith}
+use Rattle.std.proofs.Common.{◌≡◌, ℕ, suc, zero, ◌+◌, ◌&&◌, Bool, true, false, not, cond, eqb, List, [], ◌∷◌, ◌++◌, map, filter, length, Option, Some, None, option_map, refl, sym, ap, ◌∙◌, append-nil, arith}
 use Rattle.std.specs.List.{flat_map, list_any, list_all, position_or_len}
-use Rattle.std.proofs.lemmas.Bool.{false≢true, eqb-true, eq-eqb, and_from}
+use Rattle.std.proofs.lemmas.Bool.{false≢true, eqb-true, eq-eqb, and_from, or_parts}
 use Rattle.std.proofs.lemmas.List.{map_push}
 use Rattle.std.proofs.lemmas.List.Concat.{flat_map-append}
 use Rattle.std.proofs.lemmas.List.Folds.{list_all-append}
@@ -16,13 +16,14 @@ use Rattle.farm_types.proofs.ChangedLists.{changed_at_suc, list_all-changed_at, 
 use Rattle.farm_types.proofs.Changed.{length-changed_at}
 use Rattle.farm_types.proofs.Lists.{and_both, list_all-at}
 use Rattle.job_book.specs.declared.counts.Counts.{Counts}
+use Rattle.job_book.specs.declared.entries.At.{At}
 use Rattle.job_book.specs.declared.entries.Place.{Place}
 use Rattle.job_book.specs.Counting.{moved}
-use Rattle.job_book.specs.Entries.{KeepsEntries, all_of, are_layers, beside, counts_held, emptied, entry_key, has_number, index_held, is_held_at, is_whole, layers_held, on_number, place_key, row_of, with_held, with_mark, with_moved, with_paused}
+use Rattle.job_book.specs.Entries.{IsAt, KeepsEntries, all_of, are_layers, beside, counts_held, emptied, entry_key, has_number, held, index_held, is_held_at, is_whole, layers_held, on_number, place_key, row_of, with_entry, with_held, with_mark, with_moved, with_paused}
 use Rattle.job_book.specs.Layers.{layer_position}
 use Rattle.job_index.specs.Places.{LayerPlaces, marked}
 use Rattle.job_book.specs.OneJob.{AllJobs, OneJob}
-use Rattle.job_book.proofs.Held.{rising_from, stay_above}
+use Rattle.job_book.proofs.Held.{at_number, changed_held, left_held, rising_from, same_keys, stay_above}
 use Rattle.job_book.proofs.HeldLists.{filter-map, index_marked}
 use Rattle.job_book.proofs.Placed.{rising-append}
 
@@ -87,19 +88,39 @@ more_places ps next fit later e is number whole ok =
 
 -- ---- the lists
 
-pub same_lists : (a b : AllJobs) → a.rows ≡ b.rows → a.counts ≡ b.counts → a.layers ≡ b.layers → a.index ≡ b.index → a.next ≡ b.next → a ≡ b
-same_lists a b e0 e1 e2 e3 e4 = λ i. record { rows = e0 i; counts = e1 i; layers = e2 i; index = e3 i; next = e4 i }
+pub same_lists : (a b : AllJobs) → a.rows ≡ b.rows → a.counts ≡ b.counts → a.layers ≡ b.layers → a.index ≡ b.index → a.next ≡ b.next → a.numbers ≡ b.numbers → a ≡ b
+same_lists a b e0 e1 e2 e3 e4 e5 = λ i. record { rows = e0 i; counts = e1 i; layers = e2 i; index = e3 i; next = e4 i; numbers = e5 i }
+
+-- a place that was found among the numbers that are seen is found among those of the places
+pub is_at : {a b : AllJobs} (at : At) → a ≡ b → IsAt at b.numbers → IsAt at a.numbers
+is_at at same is = is ∙ ap (λ (l : AllJobs). position_or_len (λ (n : ℕ). eqb n at.job) l.numbers) (sym same)
+
+module _ (at : At) (ps : List Place) (next : ℕ) (rise : IsRising place_key 0 ps next) (each : list_all is_held_at ps ≡ true) (is : IsAt at (map place_key ps)) where
+  -- the change at the place is one of the job alone
+  pub all_changed : (f : OneJob → OneJob)
+      → all_of (map place_key (changed_at ps at.place (with_held f))) (held (changed_at ps at.place (with_held f))) next ≡ all_of (map place_key ps) (map (on_number at.job f) (held ps)) next
+  all_changed f =
+      ap (λ (ns : List ℕ). all_of ns (held (changed_at ps at.place (with_held f))) next) (same_keys (with_held f) (λ p. refl) ps at.place)
+      ∙ ap (λ (n : ℕ). all_of (map place_key ps) (held (changed_at ps n (with_held f))) next) (at_number at ps is)
+      ∙ ap (λ (es : List OneJob). all_of (map place_key ps) es next) (changed_held at.job f 0 ps next rise each)
+
+  -- only the job leaves
+  pub all_emptied : all_of (map place_key (changed_at ps at.place emptied)) (held (changed_at ps at.place emptied)) next
+      ≡ all_of (map place_key ps) (filter (λ (e : OneJob). not (has_number at.job e)) (held ps)) next
+  all_emptied =
+      ap (λ (ns : List ℕ). all_of ns (held (changed_at ps at.place emptied)) next) (same_keys emptied (λ p. refl) ps at.place)
+      ∙ ap (λ (n : ℕ). all_of (map place_key ps) (held (changed_at ps n emptied)) next) (at_number at ps is)
+      ∙ ap (λ (es : List OneJob). all_of (map place_key ps) es next) (left_held at.job 0 ps next rise each)
 
 flat_map-kept : {X Y : Type 0} (read : X → List Y) (change : X → X) → ((x : X) → read (change x) ≡ read x) → (xs : List X) → flat_map read (map change xs) ≡ flat_map read xs
 flat_map-kept read change same [] = refl
 flat_map-kept read change same (x ∷ xs) = rw (same x, flat_map-kept read change same xs) refl
 
-pub all_more : (es : List OneJob) (e : OneJob) (next : ℕ)
-    → all_of (es ++ e ∷ []) (next + 1) ≡ record { rows = map row_of es ++ e.row ∷ []; counts = map counts_held es ++ e.counts ∷ []; layers = flat_map layers_held es ++ e.layers; index = flat_map index_held es ++ e.index; next = next + 1 }
-all_more es e next =
+pub all_more : (numbers old : List ℕ) (es : List OneJob) (e : OneJob) (next : ℕ) → all_of numbers (es ++ e ∷ []) (next + 1) ≡ with_entry e numbers (all_of old es next)
+all_more numbers old es e next =
     same_lists _ _ (map_push row_of es e) (map_push counts_held es e)
     (flat_map-append layers_held es (e ∷ []) ∙ ap (λ (ls : List LayerRow). flat_map layers_held es ++ ls) (append-nil e.layers))
-    (flat_map-append index_held es (e ∷ []) ∙ ap (λ (xs : List LayerPlaces). flat_map index_held es ++ xs) (append-nil e.index)) refl
+    (flat_map-append index_held es (e ∷ []) ∙ ap (λ (xs : List LayerPlaces). flat_map index_held es ++ xs) (append-nil e.index)) refl refl
 
 module _ (job : ℕ) (f : OneJob → OneJob) where
   by_number : {Y : Type 0} (read : OneJob → Y) → ((e : OneJob) → read (f e) ≡ read e) → (b : Bool) (e : OneJob) → read (cond b (f e) e) ≡ read e
@@ -109,13 +130,13 @@ module _ (job : ℕ) (f : OneJob → OneJob) where
   on_keeps : {Y : Type 0} (read : OneJob → Y) → ((e : OneJob) → read (f e) ≡ read e) → (e : OneJob) → read (on_number job f e) ≡ read e
   on_keeps read same e = by_number read same (has_number job e) e
 
-pub all_marked : (job layer position : ℕ) (waits : Bool) (es : List OneJob) (next : ℕ) → IsRising entry_key 0 es next → list_all is_whole es ≡ true
-    → all_of (map (on_number job (with_mark layer position waits)) es) next
-    ≡ record (all_of es next) { index = changed_at (flat_map index_held es) (layer_position job layer (flat_map layers_held es)) (marked position waits) }
-all_marked job layer position waits es next rise whole =
+pub all_marked : (numbers : List ℕ) (job layer position : ℕ) (waits : Bool) (es : List OneJob) (next : ℕ) → IsRising entry_key 0 es next → list_all is_whole es ≡ true
+    → all_of numbers (map (on_number job (with_mark layer position waits)) es) next
+    ≡ record (all_of numbers es next) { index = changed_at (flat_map index_held es) (layer_position job layer (flat_map layers_held es)) (marked position waits) }
+all_marked numbers job layer position waits es next rise whole =
     let f = with_mark layer position waits in
     same_lists _ _ (map-map_kept row_of (on_number job f) (on_keeps job f row_of (λ e. refl)) es) (map-map_kept counts_held (on_number job f) (on_keeps job f counts_held (λ e. refl)) es)
-    (flat_map-kept layers_held (on_number job f) (on_keeps job f layers_held (λ e. refl)) es) (index_marked job layer position waits 0 es next rise whole) refl
+    (flat_map-kept layers_held (on_number job f) (on_keeps job f layers_held (λ e. refl)) es) (index_marked job layer position waits 0 es next rise whole) refl refl
 
 counts_moved : (job : ℕ) (old new : FrameState) (low : ℕ) (es : List OneJob) (high : ℕ) → IsRising entry_key low es high
     → map counts_held (map (on_number job (with_moved old new)) es) ≡ changed_at (map counts_held es) (position_or_len (λ (j : JobRow). eqb j.job job) (map row_of es)) (moved old new)
@@ -132,13 +153,13 @@ counts_moved job old new low (e ∷ es) high rise = by (eqb e.row.job job) refl 
         let place : 1 + at ≡ suc at = omega arith in
         rw (is, place, changed_at_suc e.counts (map counts_held es) at (moved old new)) (ap (λ (cs : List Counts). e.counts ∷ cs) later)
 
-pub all_moved : (job : ℕ) (old new : FrameState) (es : List OneJob) (next : ℕ) → IsRising entry_key 0 es next
-    → all_of (map (on_number job (with_moved old new)) es) next
-    ≡ record (all_of es next) { counts = changed_at (map counts_held es) (position_or_len (λ (j : JobRow). eqb j.job job) (map row_of es)) (moved old new) }
-all_moved job old new es next rise =
+pub all_moved : (numbers : List ℕ) (job : ℕ) (old new : FrameState) (es : List OneJob) (next : ℕ) → IsRising entry_key 0 es next
+    → all_of numbers (map (on_number job (with_moved old new)) es) next
+    ≡ record (all_of numbers es next) { counts = changed_at (map counts_held es) (position_or_len (λ (j : JobRow). eqb j.job job) (map row_of es)) (moved old new) }
+all_moved numbers job old new es next rise =
     let f = with_moved old new in
     same_lists _ _ (map-map_kept row_of (on_number job f) (on_keeps job f row_of (λ e. refl)) es) (counts_moved job old new 0 es next rise)
-    (flat_map-kept layers_held (on_number job f) (on_keeps job f layers_held (λ e. refl)) es) (flat_map-kept index_held (on_number job f) (on_keeps job f index_held (λ e. refl)) es) refl
+    (flat_map-kept layers_held (on_number job f) (on_keeps job f layers_held (λ e. refl)) es) (flat_map-kept index_held (on_number job f) (on_keeps job f index_held (λ e. refl)) es) refl refl
 
 rows_paused : (job : ℕ) (paused : Bool) (es : List OneJob) → map row_of (map (on_number job (with_paused paused)) es) ≡ map (paused_row job paused) (map row_of es)
 rows_paused job paused [] = refl
@@ -149,12 +170,12 @@ rows_paused job paused (e ∷ es) = by (eqb e.row.job job) refl (rows_paused job
     by true is later = rw (is, later) refl
     by false is later = rw (is, later) refl
 
-pub all_paused : (job : ℕ) (paused : Bool) (es : List OneJob) (next : ℕ)
-    → all_of (map (on_number job (with_paused paused)) es) next ≡ record (all_of es next) { rows = map (paused_row job paused) (map row_of es) }
-all_paused job paused es next =
+pub all_paused : (numbers : List ℕ) (job : ℕ) (paused : Bool) (es : List OneJob) (next : ℕ)
+    → all_of numbers (map (on_number job (with_paused paused)) es) next ≡ record (all_of numbers es next) { rows = map (paused_row job paused) (map row_of es) }
+all_paused numbers job paused es next =
     let f = with_paused paused in
     same_lists _ _ (rows_paused job paused es) (map-map_kept counts_held (on_number job f) (on_keeps job f counts_held (λ e. refl)) es)
-    (flat_map-kept layers_held (on_number job f) (on_keeps job f layers_held (λ e. refl)) es) (flat_map-kept index_held (on_number job f) (on_keeps job f index_held (λ e. refl)) es) refl
+    (flat_map-kept layers_held (on_number job f) (on_keeps job f layers_held (λ e. refl)) es) (flat_map-kept index_held (on_number job f) (on_keeps job f index_held (λ e. refl)) es) refl refl
 
 -- ---- a job without layers leaves
 
@@ -174,13 +195,9 @@ module _ (job : ℕ) where
   any-parts : {X : Type 0} (test : X → Bool) (xs ys : List X) → list_any test (xs ++ ys) ≡ false → (list_any test xs ≡ false) × (list_any test ys ≡ false)
   any-parts test [] ys none = (refl, none)
   any-parts test (x ∷ xs) ys none =
-      let split = or_none (test x) (list_any test (xs ++ ys)) none in
+      let split = or_parts (test x) (list_any test (xs ++ ys)) none in
       let rest = any-parts test xs ys split.1 in
       (rw split.0 rest.0, rest.1)
-    where
-      or_none : (a b : Bool) → (a || b) ≡ false → (a ≡ false) × (b ≡ false)
-      or_none true b h = absurd (cc)
-      or_none false b h = (refl, h)
 
   -- a job that has no layer of its number has none
   no_layers : (ls : List LayerRow) (key : ℕ) → eqb key job ≡ true → are_layers key 0 ls ≡ true → list_any (λ (l : LayerRow). eqb l.job job) ls ≡ false → ls ≡ []
@@ -213,9 +230,9 @@ module _ (job : ℕ) where
           rw (is, gone, gone_too) later
       by false is own long none later = rw is (ap (λ (ls : List LayerRow). e.layers ++ ls) later.0, ap (λ (xs : List LayerPlaces). e.index ++ xs) later.1)
 
-  pub all_left : (es : List OneJob) (next : ℕ) → list_all is_whole es ≡ true → list_any (λ (l : LayerRow). eqb l.job job) (flat_map layers_held es) ≡ false
-      → all_of (filter stays es) next
-      ≡ record (all_of es next) { rows = filter (λ (j : JobRow). not (eqb j.job job)) (map row_of es); counts = beside (λ (j : JobRow). not (eqb j.job job)) (map row_of es) (map counts_held es) }
-  all_left es next whole none =
+  pub all_left : (numbers : List ℕ) (es : List OneJob) (next : ℕ) → list_all is_whole es ≡ true → list_any (λ (l : LayerRow). eqb l.job job) (flat_map layers_held es) ≡ false
+      → all_of numbers (filter stays es) next
+      ≡ record (all_of numbers es next) { rows = filter (λ (j : JobRow). not (eqb j.job job)) (map row_of es); counts = beside (λ (j : JobRow). not (eqb j.job job)) (map row_of es) (map counts_held es) }
+  all_left numbers es next whole none =
       let lists = lists_left es whole none in
-      same_lists _ _ (filter-map (λ (j : JobRow). not (eqb j.job job)) row_of es) (counts_left es) lists.0 lists.1 refl
+      same_lists _ _ (filter-map (λ (j : JobRow). not (eqb j.job job)) row_of es) (counts_left es) lists.0 lists.1 refl refl

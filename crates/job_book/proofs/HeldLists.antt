@@ -1,8 +1,8 @@
 -- The lists of jobs, layers and slots of all jobs, as the jobs hold them.
-use Rattle.std.proofs.Common.{◌≡◌, ℕ, suc, zero, ◌+◌, ◌<◌, ◌&&◌, ◌||◌, Bool, true, false, cond, eqb, List, [], ◌∷◌, ◌++◌, map, filter, length, Option, Some, None, option_map, IfSome, refl, sym, ap, subst, ◌∙◌, append-nil, length-append, arith}
+use Rattle.std.proofs.Common.{◌≡◌, ℕ, suc, zero, ◌+◌, ◌<◌, ◌&&◌, Bool, true, false, cond, eqb, List, [], ◌∷◌, ◌++◌, map, filter, length, Option, Some, None, option_map, IfSome, refl, sym, ap, subst, ◌∙◌, append-nil, length-append, arith}
 use Rattle.std.specs.List.{find, flat_map, list_any, list_all, position_or_len, slice_get}
 use Rattle.std.specs.Option.{option_and_then}
-use Rattle.std.proofs.lemmas.Bool.{eqb-true, eq-eqb, ne_eqb}
+use Rattle.std.proofs.lemmas.Bool.{eqb-true, eq-eqb, ne_eqb, or_parts}
 use Rattle.std.proofs.lemmas.Option.{slice_get-map}
 use Rattle.std.proofs.lemmas.List.Folds.{find_at}
 use Rattle.std.proofs.lemmas.List.Elements.{filter-append}
@@ -100,47 +100,31 @@ module _ {K X : Type 0} (test : K → Bool) where
   beside_behind [] ls (x ∷ xs) ys long none = absurd (omega (arith, long))
   beside_behind (k ∷ ks) ls [] ys long none = absurd (omega (arith, long))
   beside_behind (k ∷ ks) ls (x ∷ xs) ys long none =
-      let split = or_none (test k) (list_any test ks) none in
+      let split = or_parts (test k) (list_any test ks) none in
       rw split.0 (beside_behind ks ls xs ys (omega (arith, long)) split.1)
-    where
-      or_none : (a b : Bool) → (a || b) ≡ false → (a ≡ false) × (b ≡ false)
-      or_none true b h = absurd (cc)
-      or_none false b h = (refl, h)
 
   pub change_behind : (g : X → X) (ks ls : List K) (xs ys : List X) → length xs ≡ length ks → list_any test ks ≡ false → change_beside test (ks ++ ls) (xs ++ ys) g ≡ xs ++ change_beside test ls ys g
   change_behind g [] ls [] ys long none = refl
   change_behind g [] ls (x ∷ xs) ys long none = absurd (omega (arith, long))
   change_behind g (k ∷ ks) ls [] ys long none = absurd (omega (arith, long))
   change_behind g (k ∷ ks) ls (x ∷ xs) ys long none =
-      let split = or_none (test k) (list_any test ks) none in
+      let split = or_parts (test k) (list_any test ks) none in
       rw split.0 (ap (λ (zs : List X). x ∷ zs) (change_behind g ks ls xs ys (omega (arith, long)) split.1))
-    where
-      or_none : (a b : Bool) → (a || b) ≡ false → (a ≡ false) × (b ≡ false)
-      or_none true b h = absurd (cc)
-      or_none false b h = (refl, h)
 
   -- nothing passes behind
   pub none_beside : (ks : List K) (xs : List X) → list_any test ks ≡ false → first_beside test ks xs ≡ None
   none_beside [] xs none = refl
   none_beside (k ∷ ks) [] none = refl
   none_beside (k ∷ ks) (x ∷ xs) none =
-      let split = or_none (test k) (list_any test ks) none in
+      let split = or_parts (test k) (list_any test ks) none in
       rw split.0 (none_beside ks xs split.1)
-    where
-      or_none : (a b : Bool) → (a || b) ≡ false → (a ≡ false) × (b ≡ false)
-      or_none true b h = absurd (cc)
-      or_none false b h = (refl, h)
 
   pub none_changed : (g : X → X) (ks : List K) (xs : List X) → list_any test ks ≡ false → change_beside test ks xs g ≡ xs
   none_changed g [] xs none = refl
   none_changed g (k ∷ ks) [] none = refl
   none_changed g (k ∷ ks) (x ∷ xs) none =
-      let split = or_none (test k) (list_any test ks) none in
+      let split = or_parts (test k) (list_any test ks) none in
       rw split.0 (ap (λ (zs : List X). x ∷ zs) (none_changed g ks xs split.1))
-    where
-      or_none : (a b : Bool) → (a || b) ≡ false → (a ≡ false) × (b ≡ false)
-      or_none true b h = absurd (cc)
-      or_none false b h = (refl, h)
 
   pub beside_front : (ks ls : List K) (xs ys : List X) → length xs ≡ length ks → list_any test ls ≡ false → first_beside test (ks ++ ls) (xs ++ ys) ≡ first_beside test ks xs
   beside_front [] ls [] ys long none = none_beside ls ys none
@@ -246,12 +230,8 @@ whole_parts e es all =
 any-append : {X : Type 0} (test : X → Bool) (xs ys : List X) → list_any test xs ≡ false → list_any test ys ≡ false → list_any test (xs ++ ys) ≡ false
 any-append test [] ys a b = b
 any-append test (x ∷ xs) ys a b =
-    let split = or_none (test x) (list_any test xs) a in
+    let split = or_parts (test x) (list_any test xs) a in
     rw split.0 (any-append test xs ys split.1 b)
-  where
-    or_none : (a b : Bool) → (a || b) ≡ false → (a ≡ false) × (b ≡ false)
-    or_none true b h = absurd (cc)
-    or_none false b h = (refl, h)
 
 pub lengths_held : (es : List OneJob) → list_all is_whole es ≡ true → length (flat_map index_held es) ≡ length (flat_map layers_held es)
 lengths_held [] all = refl

@@ -20,7 +20,7 @@ use Rattle.job_book.specs.declared.counts.Counts.{Counts}
 use Rattle.job_index.specs.declared.ready_jobs.TheConstants.{JOB_NUMBERS}
 use Rattle.job_book.specs.Book.{counts_of}
 use Rattle.job_book.specs.Entries.{beside}
-use Rattle.job_book.specs.Finished.{KeepsFinished, finish_key, has_finish}
+use Rattle.job_book.specs.Finished.{KeepsFinished, finish_key, has_finish, without_done}
 use Rattle.job_book.specs.Inside.{IsBook, counts_for, frames_left, has_layers_if, has_slots}
 use Rattle.job_book.specs.Names.{KeepsNames, as_list, is_named}
 use Rattle.job_index.specs.Names.{number_of}
@@ -246,6 +246,22 @@ pub not_true : (b : Bool) → not b ≡ true → b ≡ false
 not_true true h = absurd (false≢true h)
 not_true false h = refl
 
+-- a job leaves where it isn't pending
+pub done_goes : (job : ℕ) (jobs : List JobRow) → is_of_pending jobs job ≡ false → without_done job jobs ≡ filter (remains job) jobs
+done_goes job jobs is = ap (λ (b : Bool). cond b jobs (filter (remains job) jobs)) is
+
+pub pending_remains : (job : ℕ) (jobs : List JobRow) → is_of_pending jobs job ≡ true → without_done job jobs ≡ jobs
+pending_remains job jobs is = ap (λ (b : Bool). cond b jobs (filter (remains job) jobs)) is
+
+-- a finished job is there, and isn't pending
+pub done_there : (o : Option JobRow) → for_some o is_finished ≡ true → is_some o ≡ true
+done_there None is = absurd (false≢true is)
+done_there (Some j) is = refl
+
+pub done_idle : (o : Option JobRow) → for_some o is_finished ≡ true → for_some o is_pending_job ≡ false
+done_idle None is = refl
+done_idle (Some j) is = not_true (is_pending j.state) is
+
 -- the job that has the name
 record HasName (name : List ℕ) (js : List JobRow) (n : ℕ) : Type 0 where
   place : ℕ
@@ -361,6 +377,17 @@ module _ (name : List ℕ) (jobs : List JobRow) (high : ℕ) (rise : IsRising jo
           let done : is_pending l.state ≡ false = ap (λ (m : JobRow). is_pending m.state) same ∙ of_row false h in
           let its : eqb l.job n ≡ true = sym (named_is k l at) ∙ b in
           rw (its, b, done) refl
+
+  -- the job of the name leaves where it is finished
+  pub named_leaves : without_done n jobs ≡ without_finished name jobs
+  named_leaves = by (is_of_pending jobs n) refl
+    where
+      by : (b : Bool) → is_of_pending jobs n ≡ b → without_done n jobs ≡ without_finished name jobs
+      by true h = pending_remains n jobs h ∙ sym (pending_stays h)
+      by false h = done_goes n jobs h ∙ finished_goes h
+
+  pub is_named_there : is_some (find (λ (j : JobRow). eqb j.job n) jobs) ≡ true
+  is_named_there = ap (λ (o : Option JobRow). is_some o) found
 
   pub can_leave : is_of_pending jobs n ≡ false → for_some (find (λ (j : JobRow). eqb j.job n) jobs) is_finished ≡ true
   can_leave h = ap (λ (o : Option JobRow). for_some o is_finished) found ∙ ap not (of_row false h)

@@ -1,3 +1,4 @@
+pub mod FoundAt
 pub mod FinishNumbers
 pub mod Held
 pub mod HeldLists
@@ -19,7 +20,6 @@ pub mod PausedJobs
 pub mod NamedJobs
 pub mod Names
 pub mod FirstWaiting
-pub mod FirstFree
 pub mod Placed
 pub mod JobPlaces
 pub mod Putting

@@ -221,6 +221,7 @@ pub record IsPart (all : AllJobs) (places : List Place) (at : ℕ) (rows : List 
   pub counts_are : map counts_held (held places) ≡ take at all.counts
   pub layers_are : flat_map layers_held (held places) ++ layers ≡ all.layers
   pub index_are : flat_map index_held (held places) ++ index ≡ all.index
+  pub numbers_are : map place_key places ++ map job_key rows ≡ all.numbers
   pub owned : AreOwned rows layers
   pub as_many : length index ≡ length layers
   pub low : ℕ
@@ -229,13 +230,15 @@ pub record IsPart (all : AllJobs) (places : List Place) (at : ℕ) (rows : List 
   pub each : list_all is_held_at places ≡ true
   pub count : at + length rows ≡ length all.counts
 
-pub no_part : (all : AllJobs) → IsRising job_key 0 all.rows all.next → AreOwned all.rows all.layers → length all.counts ≡ length all.rows → length all.index ≡ length all.layers → IsPart all [] 0 all.rows all.layers all.index
-no_part all rise own counts index =
+pub no_part : (all : AllJobs) → IsRising job_key 0 all.rows all.next → AreOwned all.rows all.layers → length all.counts ≡ length all.rows → length all.index ≡ length all.layers → map job_key all.rows ≡ all.numbers
+    → IsPart all [] 0 all.rows all.layers all.index
+no_part all rise own counts index numbers =
     record {
       rows_are = refl;
       counts_are = refl;
       layers_are = refl;
       index_are = refl;
+      numbers_are = numbers;
       owned = own;
       as_many = index;
       low = 0;
@@ -276,6 +279,8 @@ module _ (all : AllJobs) (places : List Place) (at : ℕ) (j : JobRow) (js : Lis
             ∙ append_assoc (flat_map index_held (held places)) (take count index) (drop count index)
             ∙ ap (λ (xs : List LayerPlaces). flat_map index_held (held places) ++ xs) (take-append-drop count index)
             ∙ part.index_are;
+        numbers_are = ap (λ (ps : List Place). map place_key ps ++ map job_key js) is ∙ ap (λ (ns : List ℕ). ns ++ map job_key js) (map_push place_key places p)
+            ∙ append_assoc (map place_key places) (j.job ∷ []) (map job_key js) ∙ part.numbers_are;
         owned = part.owned.1;
         as_many = omega (arith, length-drop count index, length-drop count layers, part.as_many);
         low = j.job + 1;
@@ -294,17 +299,18 @@ module _ (all : AllJobs) (places : List Place) (at : ℕ) (rows : List JobRow) (
   last_part : IsPart all places at [] layers index
   last_part = subst (λ (rs : List JobRow). IsPart all places at rs layers index) done part
 
-  pub all_parts : all_of (held places) all.next ≡ all
+  pub all_parts : all_of (map place_key places) (held places) all.next ≡ all
   all_parts =
       let last = last_part in
       let none : layers ≡ [] = last.owned in
       let nothing : index ≡ [] = none_left index (last.as_many ∙ ap (λ (ls : List LayerRow). length ls) none) in
-      same_lists (all_of (held places) all.next) all
+      same_lists (all_of (map place_key places) (held places) all.next) all
       (sym (append-nil (map row_of (held places))) ∙ last.rows_are)
       (last.counts_are ∙ take_all at all.counts (omega (arith, last.count)))
       (sym (append-nil (flat_map layers_held (held places))) ∙ sym (ap (λ (ls : List LayerRow). flat_map layers_held (held places) ++ ls) none) ∙ last.layers_are)
       (sym (append-nil (flat_map index_held (held places))) ∙ sym (ap (λ (xs : List LayerPlaces). flat_map index_held (held places) ++ xs) nothing) ∙ last.index_are)
       refl
+      (sym (append-nil (map place_key places)) ∙ last.numbers_are)
 
   pub keeps_all : (fit : ℕ) → MOST_PLACES ≤ fit → KeepsEntries places all.next fit
   keeps_all fit room = record { rise = rising_to place_key 0 places last_part.low all.next last_part.rise_left last_part.rise_done; each = last_part.each; room = room }

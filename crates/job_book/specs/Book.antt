@@ -1,6 +1,5 @@
 -- What the calls of the job book answer and change.
 use Rattle.std.specs.Prelude.{◌≡◌, ℕ, ◌==◌, ◌&&◌, ◌+◌, Bool, not, is_some, List, [], ◌∷◌, ◌++◌, filter, option_map, option_and_then, sum_by, Option, None, Some, find, slice_get, nat_lt, bytes_eq, Result, Ok, Err, if◌then◌else◌}
-use Rattle.std.specs.List.{prefix_len}
 use Rattle.farm_types.specs.declared.job.JobSpec.{JobSpec}
 use Rattle.farm_types.specs.declared.rows.JobRow.{JobRow}
 use Rattle.farm_types.specs.declared.slot_row.Frame.{Frame}
@@ -8,12 +7,13 @@ use Rattle.farm_types.specs.declared.slot_row.SlotRow.{SlotRow}
 use Rattle.farm_types.specs.declared.states.FrameState.{FrameState}
 use Rattle.farm_types.specs.declared.states.FrameState.TheVariants as frame_state
 use Rattle.farm_types.specs.Farm.{for_some}
-use Rattle.farm_types.specs.Jobs.{JobLists, frames_in, frames_of, is_free, job_refusal, job_row, layer_rows, place_frames}
+use Rattle.farm_types.specs.Jobs.{JobLists, frames_in, frames_of, job_refusal, job_row, layer_rows, place_frames}
 use Rattle.job_book.specs.declared.counts.Counts.{Counts}
 use Rattle.job_book.specs.declared.frame_view.FrameView.{FrameView}
 use Rattle.farm_types.specs.declared.fault.FarmFault.{FarmFault}
 use Rattle.farm_types.specs.declared.fault.FarmFault.TheVariants as fault
 use Rattle.job_book.specs.declared.placing.Placing.{Placing}
+use Rattle.job_book.specs.Lowest.{lowest_free}
 
 -- no jobs, no slot used, and 1 the next job's number
 abbrev pub no_jobs : JobLists
@@ -21,13 +21,15 @@ no_jobs = record { jobs = []; layers = []; slots = []; next_job = 1; next_finish
 
 -- ---- placing
 
--- the lowest free slot: the first free one of those that were used, and else the first that never was
-abbrev pub first_free : List SlotRow → ℕ
-first_free slots = prefix_len (λ s. not (is_free s)) slots
-
--- where a job is placed: its number and show, its lowest slot, and how many frames it has
+-- where a job is placed: its number and show, the lowest free slots, one for each of its frames, and how many frames it has
 abbrev pub placing_of : JobLists → ℕ → JobSpec → Placing
-placing_of b show spec = record { job = b.next_job; show = show; first = first_free b.slots; frames = frames_in spec.layers }
+placing_of b show spec =
+    record {
+      job = b.next_job;
+      show = show;
+      slots = lowest_free 0 b.slots (frames_in spec.layers);
+      frames = frames_in spec.layers;
+    }
 
 -- the place of a job that isn't refused, or exactly its refusal; out of memory needs no cause
 abbrev pub Checks : JobLists → ℕ → JobSpec → Result Placing FarmFault → Type 0

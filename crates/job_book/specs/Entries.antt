@@ -1,5 +1,5 @@
 -- The places of jobs: each holds the job of its number, or none any more.
-use Rattle.std.specs.Prelude.{ℕ, ◌≡◌, ◌≤◌, ◌==◌, ◌&&◌, ◌+◌, Bool, true, List, [], ◌∷◌, map, length, flat_map, option_map, is_some, Option, None, Some, if◌then◌else◌}
+use Rattle.std.specs.Prelude.{ℕ, ◌≡◌, ◌≤◌, ◌==◌, ◌&&◌, ◌+◌, ◌++◌, Bool, true, not, List, [], ◌∷◌, filter, map, length, flat_map, option_map, is_some, slice_get, Option, None, Some, if◌then◌else◌}
 use Rattle.std.specs.List.{list_all, position_or_len}
 use Rattle.farm_types.specs.declared.rows.JobRow.{JobRow}
 use Rattle.farm_types.specs.declared.rows.LayerRow.{LayerRow}
@@ -9,6 +9,7 @@ use Rattle.farm_types.specs.Farm.{changed_at}
 use Rattle.farm_types.specs.Kept.{for_any}
 use Rattle.farm_types.specs.Rising.{IsRising}
 use Rattle.job_book.specs.declared.counts.Counts.{Counts}
+use Rattle.job_book.specs.declared.entries.At.{At}
 use Rattle.job_book.specs.declared.entries.Place.{Place}
 use Rattle.job_book.specs.declared.entries.TheConstants.{MOST_PLACES}
 use Rattle.job_book.specs.Book.{with_pause}
@@ -39,12 +40,20 @@ layers_held e = e.layers
 abbrev pub index_held : OneJob → List LayerPlaces
 index_held e = e.index
 
--- the lists of these jobs
-abbrev pub all_of : List OneJob → ℕ → AllJobs
-all_of es next = record { rows = map row_of es; counts = map counts_held es; layers = flat_map layers_held es; index = flat_map index_held es; next = next }
+-- the lists of these jobs, where the places have these numbers
+abbrev pub all_of : List ℕ → List OneJob → ℕ → AllJobs
+all_of numbers es next =
+    record {
+      rows = map row_of es;
+      counts = map counts_held es;
+      layers = flat_map layers_held es;
+      index = flat_map index_held es;
+      next = next;
+      numbers = numbers;
+    }
 
 abbrev pub no_entries : AllJobs
-no_entries = record { rows = []; counts = []; layers = []; index = []; next = 1 }
+no_entries = record { rows = []; counts = []; layers = []; index = []; next = 1; numbers = [] }
 
 -- ---- what is kept
 
@@ -82,6 +91,13 @@ pub record ArePlaces (places : List Place) : Type 0 where
   pub each : list_all is_held_at places ≡ true
 
 -- ---- what is read
+
+-- a job's number, and its place among these numbers, or how many there are where it isn't one of them
+abbrev pub at_of : ℕ → List ℕ → At
+at_of job numbers = record { job = job; place = position_or_len (λ n. n == job) numbers }
+
+abbrev pub IsAt : At → List ℕ → Type 0
+IsAt at numbers = at.place ≡ position_or_len (λ n. n == at.job) numbers
 
 abbrev pub place_of_number : ℕ → List Place → ℕ
 place_of_number job places = position_or_len (λ (p : Place). p.job == job) places
@@ -137,3 +153,44 @@ abbrev pub beside : {K X : Type 0} → (K → Bool) → List K → List X → Li
 beside test [] xs = []
 beside test (k ∷ ks) [] = []
 beside test (k ∷ ks) (x ∷ xs) = if test k then x ∷ beside test ks xs else beside test ks xs
+
+-- ---- changes of all jobs
+
+-- one more job, where the places have these numbers then
+abbrev pub with_entry : OneJob → List ℕ → AllJobs → AllJobs
+with_entry e numbers all =
+    record {
+      rows = all.rows ++ e.row ∷ [];
+      counts = all.counts ++ e.counts ∷ [];
+      layers = all.layers ++ e.layers;
+      index = all.index ++ e.index;
+      next = all.next + 1;
+      numbers = numbers;
+    }
+
+-- the place of the job's counts
+abbrev pub counts_place : ℕ → AllJobs → ℕ
+counts_place job all = position_or_len (λ (j : JobRow). j.job == job) all.rows
+
+-- the job's counts, where it is there
+abbrev pub counts_in : ℕ → AllJobs → Option Counts
+counts_in job all = slice_get all.counts (counts_place job all)
+
+-- a frame of the job gone from one state into another
+abbrev pub with_moved_in : ℕ → FrameState → FrameState → AllJobs → AllJobs
+with_moved_in job old new all = record all { counts = changed_at all.counts (counts_place job all) (moved old new) }
+
+-- the job finished by that number, with the counts of its frames
+abbrev pub with_end : ℕ → ℕ → Counts → AllJobs → AllJobs
+with_end job finish c all =
+    record all {
+      rows = map (finished_by job finish c) all.rows;
+      counts = changed_at all.counts (counts_place job all) (λ _. new_counts 0);
+      layers = filter (λ (l : LayerRow). not (l.job == job)) all.layers;
+      index = beside (λ (l : LayerRow). not (l.job == job)) all.layers all.index;
+    }
+
+-- without the row and the counts of the job
+abbrev pub without_row : ℕ → AllJobs → AllJobs
+without_row job all =
+    record all { rows = filter (λ (j : JobRow). not (j.job == job)) all.rows; counts = beside (λ (j : JobRow). not (j.job == job)) all.rows all.counts }

@@ -5,7 +5,7 @@ use Rattle.farm_types.specs.declared.rows.JobRow.{JobRow}
 use Rattle.farm_types.specs.declared.rows.LayerRow.{LayerRow}
 use Rattle.farm_types.specs.Finish.{finished_row, freed_row, is_finished}
 use Rattle.farm_types.specs.Jobs.{JobLists}
-use Rattle.farm_types.specs.Kept.{finish_of, has_its_finish, is_pending_job}
+use Rattle.farm_types.specs.Kept.{finish_of, has_its_finish, is_of_pending, is_pending_job}
 use Rattle.farm_types.specs.declared.limits.TheConstants.{MOST_FINISHED}
 use Rattle.job_index.specs.Keys.{job_of, sorted}
 use Rattle.job_index.specs.declared.limits.TheConstants.{MOST_JOBS}
@@ -54,6 +54,10 @@ with_one_finished job b =
       next_job = b.next_job;
       next_finish = b.next_finish + 1;
     }
+
+-- the jobs without the one of that number, where it isn't pending
+abbrev pub without_done : ℕ → List JobRow → List JobRow
+without_done job jobs = if is_of_pending jobs job then jobs else filter (λ (j : JobRow). not (j.job == job)) jobs
 
 -- the key isn't there, and one more fits
 abbrev pub can_put : ℕ → List ℕ → Bool

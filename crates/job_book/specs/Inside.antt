@@ -77,7 +77,7 @@ pub record KeepsFree (free lowest : ℕ) (slots : List SlotRow) : Type 0 where
 -- the slots, and there is capacity for all slots
 pub record KeepsBook (book : Inside) : Type 0 where
   pub lists : IsBook (book_of book)
-  pub names : KeepsNames book.names book.entries.rows
+  pub names : KeepsNames book.names.pairs book.entries.rows
   pub finishes : KeepsFinishes book.entries.rows book.entries.next book.next_finish
   pub finished : KeepsFinished book.entries.rows book.finished
   pub free : KeepsFree book.free book.lowest book.slots.items

@@ -6,7 +6,7 @@ use Rattle.farm_types.specs.declared.job.LayerSpec.{LayerSpec}
 use Rattle.farm_types.specs.declared.rows.LayerRow.{LayerRow}
 use Rattle.farm_types.specs.declared.slot_row.Frame.{Frame}
 use Rattle.farm_types.specs.declared.slot_row.SlotRow.{SlotRow}
-use Rattle.farm_types.specs.Jobs.{is_free}
+use Rattle.farm_types.specs.Jobs.{JobLists, frames_of, is_free, place_frames}
 use Rattle.farm_types.specs.Farm.{is_placed, slot_from}
 use Rattle.job_index.specs.Places.{LayerPlaces}
 use Rattle.job_book.specs.Index.{waits_in}
@@ -41,6 +41,10 @@ layer_position job layer layers = position_or_len (λ (l : LayerRow). l.job == j
 -- the slot at a position of the layer at that place among all
 abbrev pub place_in : List (List ℕ) → ℕ → ℕ → Option ℕ
 place_in places place position = option_and_then (λ (ns : List ℕ). slice_get ns position) (slice_get places place)
+
+-- the slot of the frame at a position of a layer, where a job with these layers is placed next
+abbrev pub new_slot : JobLists → List LayerSpec → ℕ → ℕ → Option ℕ
+new_slot b layers layer position = slot_from 0 (is_placed b.next_job layer position) (place_frames b.slots (frames_of b.next_job 0 layers))
 
 -- each layer has its slots in range order: the frame at a position stands first in the slot there, and nowhere where there is none;
 -- and each slot with a frame is the first with it

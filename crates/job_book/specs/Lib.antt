@@ -9,6 +9,5 @@ pub mod Layers
 pub mod Lowest
 pub mod Names
 pub mod OneJob
-pub mod Puts
 pub mod Ready
 pub mod Restored

@@ -12,10 +12,11 @@ pub record OneJob : Type 0 where
   pub layers : List LayerRow
   pub index : List LayerPlaces
 
--- the same of all jobs, one job after another, and the next job's number
+-- the same of all jobs, one job after another, the next job's number, and the numbers that the places have, also those whose job left
 pub record AllJobs : Type 0 where
   pub rows : List JobRow
   pub counts : List Counts
   pub layers : List LayerRow
   pub index : List LayerPlaces
   pub next : ℕ
+  pub numbers : List ℕ

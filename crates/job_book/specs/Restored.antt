@@ -1,5 +1,5 @@
 -- What a book is made of where its rows are given.
-use Rattle.std.specs.Prelude.{ℕ, ◌≡◌, ◌≤◌, ◌<◌, ◌==◌, ◌&&◌, ◌+◌, Bool, true, false, List, [], ◌∷◌, ◌++◌, length, replicate, take, drop, nat_lt, Option, None, Some, slice_set, if◌then◌else◌}
+use Rattle.std.specs.Prelude.{ℕ, ◌≡◌, ◌≤◌, ◌<◌, ◌==◌, ◌&&◌, ◌+◌, Bool, true, false, List, [], ◌∷◌, ◌++◌, length, map, replicate, take, drop, nat_lt, Option, None, Some, slice_get, slice_set, if◌then◌else◌}
 use Rattle.std.specs.List.{list_any, position_or_len, prefix_len}
 use Rattle.farm_types.specs.declared.limits.TheConstants.{SLOT_LIMIT}
 use Rattle.farm_types.specs.declared.rows.JobRow.{JobRow}
@@ -16,6 +16,8 @@ use Rattle.job_book.specs.declared.entries.Place.{Place}
 use Rattle.job_book.specs.Counting.{part, counted_in}
 use Rattle.job_book.specs.Entries.{are_layers}
 use Rattle.job_book.specs.Layers.{layer_position}
+use Rattle.job_book.specs.OneJob.{AllJobs}
+use Rattle.job_index.specs.Keys.{sorted}
 use Rattle.job_index.specs.Places.{LayerPlaces, with_slot}
 use Rattle.job_book.specs.Ready.{ready_key}
 
@@ -65,6 +67,11 @@ abbrev pub AreOwned : List JobRow → List LayerRow → Type 0
 AreOwned [] layers = layers ≡ []
 AreOwned (j ∷ js) layers = (are_layers j.job 0 (take (own_count j.job layers) layers) ≡ true) × AreOwned js (drop (own_count j.job layers) layers)
 
+-- all jobs of these rows, each at a place of its own
+abbrev pub all_in : List JobRow → List Counts → List LayerRow → List LayerPlaces → ℕ → AllJobs
+all_in rows counts layers index next =
+    record { rows = rows; counts = counts; layers = layers; index = index; next = next; numbers = map (λ (j : JobRow). j.job) rows }
+
 -- the place of a job, with what is kept of it
 abbrev pub place_with : JobRow → Counts → List LayerRow → List LayerPlaces → Place
 place_with row counts layers index = record { job = row.job; held = Some (record { row = row; counts = counts; layers = layers; index = index }) }
@@ -80,6 +87,14 @@ abbrev pub keys_beside : ℕ → List JobRow → List Counts → List ℕ
 keys_beside show [] counts = []
 keys_beside show (j ∷ js) [] = []
 keys_beside show (j ∷ js) (c ∷ cs) = if is_ready_by show j c then ready_key j ∷ keys_beside show js cs else keys_beside show js cs
+
+-- each list has the keys of its show's ready jobs, in the order of their numbers
+abbrev pub AreBeside : List JobRow → List Counts → List (List ℕ) → Type 0
+AreBeside rows counts lists = (show : ℕ) (ks : List ℕ) → slice_get lists show ≡ Some ks → ks ≡ keys_beside show rows counts
+
+-- each list has these keys in order
+abbrev pub AreSorted : List JobRow → List Counts → List (List ℕ) → Type 0
+AreSorted rows counts lists = (show : ℕ) (ks : List ℕ) → slice_get lists show ≡ Some ks → ks ≡ sorted (keys_beside show rows counts)
 
 -- the keys of all shows, with that of a job, where it is ready
 abbrev pub with_ready : JobRow → Counts → List (List ℕ) → List (List ℕ)

@@ -23,13 +23,13 @@ impl Jobs {
         let Some(frame) = &row.frame else {
             unreachable!()
         };
-        let job = was.job;
-        let had = has_waiting(&self.entries, job);
-        self.entries.recount(job, was.state, frame.state);
-        let has = has_waiting(&self.entries, job);
-        change_ready(&mut self.ready, &self.entries, job, had, has);
+        let at = self.entries.at(was.job);
+        let had = has_waiting(&self.entries, &at);
+        self.entries.recount(&at, was.state, frame.state);
+        let has = has_waiting(&self.entries, &at);
+        change_ready(&mut self.ready, &self.entries, &at, had, has);
         self.entries
-            .mark(job, was.layer, was.position, frame.state.is_waiting());
+            .mark(&at, was.layer, was.position, frame.state.is_waiting());
         set_row(&mut self.slots, slot, *row);
     }
 }

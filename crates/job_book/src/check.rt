@@ -7,15 +7,12 @@ ghost use Rattle.farm_types.specs.Jobs.{frames_in, is_pending_named, repeated_na
 ghost use Rattle.farm_types.specs.Kept.{is_of_pending};
 ghost use Rattle.farm_types.specs.SpecLimits.{JobKeepsLimits};
 ghost use Rattle.farm_types.specs.declared.refusal.Refusal.TheVariants as refusal;
-ghost use Rattle.job_book.specs.Book.{Checks, first_free};
+ghost use Rattle.job_book.specs.Book.{Checks};
 
 use crate::entries::Entries;
 use crate::jobs::Jobs;
 use crate::placing::Placing;
-use crate::put::next_free;
-use farm_types::{
-    Counted, FarmFault, JobNo, JobSpec, LAST_JOB, LayerSpec, Refusal, ShowNo, Slot, Text,
-};
+use farm_types::{Counted, FarmFault, JobNo, JobSpec, LAST_JOB, LayerSpec, Refusal, ShowNo, Text};
 use std::alloc::Global;
 
 impl Jobs {
@@ -32,16 +29,9 @@ impl Jobs {
         Ok(Placing {
             job: JobNo(self.entries.next() as u32),
             show,
-            first: self.first_free(),
+            slots: self.free_slots(alloc, frames)?,
             frames,
         })
-    }
-
-    // The lowest free slot.
-    fn first_free(&self) -> Slot
-        ensures { result ≡ first_free self.now.slots }
-    {
-        Slot(next_free(self.slots.as_slice(), self.lowest as usize) as u32)
     }
 
     // Refuses the name of a pending job.

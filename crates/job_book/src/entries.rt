@@ -1,15 +1,14 @@
 //! The jobs of the book, each with what is kept of it.
 
 ghost use Rattle.std.specs.Prelude.{◌≡◌, ◌<◌, ◌==◌, ◌&&◌, [], ℕ, find, nat_lt, option_copied, option_map, slice_get, IfOk};
-ghost use Rattle.std.specs.List.{position_or_len};
 ghost use Rattle.farm_types.specs.Farm.{layers_of};
-ghost use Rattle.job_book.specs.Entries.{no_entries};
+ghost use Rattle.job_book.specs.Entries.{IsAt, at_of, counts_in, no_entries};
 ghost use Rattle.job_book.specs.Layers.{layer_position};
 ghost use Rattle.job_index.specs.declared.limits.TheConstants.{MOST_JOBS};
 
 use crate::counts::Counts;
 use crate::entry::Entry;
-use crate::places::{entry_in, number_after};
+use crate::places::{entry_at, entry_in, number_after, place_in};
 use farm_types::{JobNo, JobRow, LayerRow};
 use job_index::{LayerFrames, MOST_JOBS};
 use std::alloc::{AllocError, Global};
@@ -25,9 +24,16 @@ pub(crate) struct Place {
     pub(crate) held: Option<Entry>,
 }
 
+/// A job's number, and its place among those of all jobs. Where the job isn't there, the place is past the last.
+#[derive(Clone, Copy, Debug)]
+pub(crate) struct At {
+    pub(crate) job: JobNo,
+    pub(crate) place: usize,
+}
+
 /// The jobs in the order of their numbers, and the next job's number. A job that leaves the book leaves an empty place, so
 /// that no other one moves. Contracts see the jobs' rows, their counts, their layers, and where the frames of the layers stand,
-/// each as a list, one job after another.
+/// each as a list, one job after another, and the numbers of all places. A job's place is looked for once (`at`), and handed on.
 #[derive(Debug, Drop)]
 pub(crate) struct Entries {
     pub(crate) places: Vec<Place>,
@@ -37,11 +43,12 @@ pub(crate) struct Entries {
 impl Model for Entries {
     ghost use Rattle.std.specs.Vec.{vec_capacity};
     ghost use Rattle.job_book.specs.OneJob as types;
-    ghost use Rattle.job_book.specs.Entries.{KeepsEntries, all_of, held};
+    ghost use Rattle.job_book.specs.Entries.{KeepsEntries, all_of, held, place_key};
+    ghost use Rattle.std.specs.Prelude.{map};
 
     ghost Value = { types.AllJobs };
 
-    ghost view = { λ entries. all_of (held entries.places.items) entries.next };
+    ghost view = { λ entries. all_of (map place_key entries.places.items) (held entries.places.items) entries.next };
 
     ghost invariant = { λ entries. KeepsEntries entries.places.items entries.next (vec_capacity entries.places) };
 }
@@ -64,14 +71,33 @@ impl Entries {
         self.next
     }
 
+    /// The place of the job of that number.
+    pub(crate) fn at(&self, job: JobNo) -> At
+        ensures { result ≡ at_of job self.now.numbers }
+    {
+        At {
+            job,
+            place: place_in(self.places.as_slice(), job.0),
+        }
+    }
+
+    /// The row of the job at a place.
+    pub(crate) fn row_at(&self, at: &At) -> Option<&JobRow>
+        requires { IsAt at.now self.now.numbers }
+        ensures { option_copied result ≡ find (λ j. j.job == at.now.job) self.now.rows }
+    {
+        match entry_at(self.places.as_slice(), at.place) {
+            None => None,
+            Some(entry) => Some(entry.row()),
+        }
+    }
+
     /// The row of the job of that number.
     pub(crate) fn row(&self, job: JobNo) -> Option<&JobRow>
         ensures { option_copied result ≡ find (λ j. j.job == job) self.now.rows }
     {
-        match entry_in(self.places.as_slice(), job) {
-            None => None,
-            Some(entry) => Some(entry.row()),
-        }
+        let at = self.at(job);
+        self.row_at(&at)
     }
 
     /// The number of the first job above one.
@@ -81,14 +107,23 @@ impl Entries {
         number_after(self.places.as_slice(), after)
     }
 
-    /// How many frames of a job are in each state, none where it isn't there.
-    pub(crate) fn counts(&self, job: JobNo) -> Option<Counts>
-        ensures { result ≡ slice_get self.now.counts (position_or_len (λ j. j.job == job) self.now.rows) }
+    /// How many frames of the job at a place are in each state, none where it isn't there.
+    pub(crate) fn counts_at(&self, at: &At) -> Option<Counts>
+        requires { IsAt at.now self.now.numbers }
+        ensures { result ≡ counts_in at.now.job self.now }
     {
-        match entry_in(self.places.as_slice(), job) {
+        match entry_at(self.places.as_slice(), at.place) {
             None => None,
             Some(entry) => Some(entry.counts()),
         }
+    }
+
+    /// How many frames of a job are in each state, none where it isn't there.
+    pub(crate) fn counts(&self, job: JobNo) -> Option<Counts>
+        ensures { result ≡ counts_in job self.now }
+    {
+        let at = self.at(job);
+        self.counts_at(&at)
     }
 
     /// The layers of a job, in order.
@@ -111,14 +146,23 @@ impl Entries {
         }
     }
 
+    /// Where the frames of each layer of the job at a place stand.
+    pub(crate) fn index_at(&self, at: &At) -> &[LayerFrames]
+        requires { IsAt at.now self.now.numbers }
+        ensures { (layer : ℕ) → slice_get result.now layer ≡ slice_get self.now.index (layer_position at.now.job layer self.now.layers) }
+    {
+        match entry_at(self.places.as_slice(), at.place) {
+            None => &[],
+            Some(entry) => entry.index(),
+        }
+    }
+
     /// Where the frames of each layer of a job stand.
     pub(crate) fn index(&self, job: JobNo) -> &[LayerFrames]
         ensures { (layer : ℕ) → slice_get result.now layer ≡ slice_get self.now.index (layer_position job layer self.now.layers) }
     {
-        match entry_in(self.places.as_slice(), job) {
-            None => &[],
-            Some(entry) => entry.index(),
-        }
+        let at = self.at(job);
+        self.index_at(&at)
     }
 }
 

@@ -28,8 +28,8 @@ impl Jobs {
         self.finish_one(job);
     }
 
-    // What this book keeps, as every one does.
-    fn kept(&self)
+    /// What this book keeps, as every one does.
+    pub(crate) fn kept(&self)
         ensures lists { IsBook self.now }
         ensures finishes { KeepsFinishes self.now.jobs self.now.next_job self.now.next_finish }
     {
@@ -57,12 +57,13 @@ impl Jobs {
         requires few { length (filter is_finished self.old.jobs) < MOST_FINISHED }
         ensures { self.new ≡ with_one_finished job self.old }
     {
-        let Some(counts) = self.entries.counts(job) else {
+        let at = self.entries.at(job);
+        let Some(counts) = self.entries.counts_at(&at) else {
             unreachable!()
         };
         let free = free_layers(
             &mut self.slots,
-            self.entries.index(job),
+            self.entries.index_at(&at),
             job,
             Free {
                 count: self.free,
@@ -71,8 +72,8 @@ impl Jobs {
         );
         self.free = free.count;
         self.lowest = free.lowest;
-        self.entries.finish(job, self.next_finish, counts);
-        put_finished(&mut self.finished, &self.entries, job);
+        self.entries.finish(&at, self.next_finish, counts);
+        put_finished(&mut self.finished, &self.entries, &at);
         self.next_finish += 1;
     }
 }

@@ -1,11 +1,10 @@
 //! Where the frames of a job would go.
 
-ghost use Rattle.std.specs.Prelude.{◌≡◌, ◌≤◌, ◌-◌, ◌++◌, ℕ, length, map, IfOk, OnOk};
+ghost use Rattle.std.specs.Prelude.{◌≡◌, ◌≤◌, ◌-◌, ◌++◌, ℕ, drop, length, map, IfOk, OnOk};
 ghost use Rattle.std.specs.List.{concat};
-ghost use Rattle.farm_types.specs.Farm.{is_placed, slot_from};
-ghost use Rattle.farm_types.specs.Jobs.{frames_in, frames_of, place_frames};
+ghost use Rattle.farm_types.specs.Jobs.{frames_in};
 ghost use Rattle.farm_types.specs.declared.limits.TheConstants.{MOST_FRAMES, SLOT_LIMIT};
-ghost use Rattle.job_book.specs.Layers.{place_in};
+ghost use Rattle.job_book.specs.Layers.{new_slot, place_in};
 ghost use Rattle.job_book.specs.Lowest.{lowest_free, places_from};
 
 use crate::jobs::Jobs;
@@ -21,28 +20,49 @@ impl Jobs {
         layers: &Items<LayerSpec>,
     ) -> Result<Items<Items<Slot>>, AllocError>
         requires { frames_in layers.now ≤ MOST_FRAMES }
-        ensures found { IfOk result (λ places. (layer position : ℕ) → slot_from 0 (is_placed self.now.next_job layer position) (place_frames self.now.slots (frames_of self.now.next_job 0 layers.now)) ≡ place_in places layer position) }
+        ensures found { IfOk result (λ places. (layer position : ℕ) → new_slot self.now layers.now layer position ≡ place_in places layer position) }
         ensures counts { IfOk result (λ places. map length places ≡ map (λ l. length l.numbers) layers.now) }
     {
-        let count = layers.count_frames() as usize;
-        let places = free_places(alloc, self.slots.as_slice(), count)?;
+        self.kept();
+        let count = layers.count_frames() as u32;
+        let places = self.free_slots(alloc, count)?;
         let lists = layer_by_layer(alloc, places.as_slice(), layers.as_slice())?;
         Ok(lists)
     }
+
+    /// So many free slots, the lowest ones.
+    pub(crate) fn free_slots(&self, alloc: Global, count: u32) -> Result<Items<Slot>, AllocError>
+        requires { count ≤ MOST_FRAMES }
+        ensures { IfOk result (λ places. places ≡ lowest_free 0 self.now.slots count) }
+    {
+        let places = free_places(
+            alloc,
+            self.slots.as_slice(),
+            self.lowest as usize,
+            count as usize,
+        )?;
+        Ok(Items::from_vec(places))
+    }
 }
 
-// The places of so many free slots, the lowest ones.
-fn free_places(alloc: Global, slots: &[SlotRow], count: usize) -> Result<Vec<Slot>, AllocError>
+// The places of so many free slots, the lowest ones from a place on.
+fn free_places(
+    alloc: Global,
+    slots: &[SlotRow],
+    first: usize,
+    count: usize,
+) -> Result<Vec<Slot>, AllocError>
     requires slot_count { length slots.now ≤ SLOT_LIMIT }
+    requires within { first ≤ length slots.now }
     requires few { count ≤ MOST_FRAMES }
-    ensures { IfOk result (λ places. places.items ≡ lowest_free 0 slots.now count) }
+    ensures { IfOk result (λ places. places.items ≡ lowest_free first (drop first slots.now) count) }
 {
-    let mut places = Vec::new(alloc);
-    for (place, row) in slots.iter().enumerate() {
+    let mut places = Vec::with_capacity(alloc, count)?;
+    for place in first..slots.len() {
         if places.len() == count {
             return Ok(places);
         }
-        if !is_free(row) {
+        if !is_free(&slots[place]) {
             continue;
         }
         places.push(Slot(place as u32))?;

@@ -1,15 +1,15 @@
 //! Finished jobs leave the book.
 
-ghost use Rattle.std.specs.Prelude.{◌≡◌, ◌==◌, ◌<◌, ◌+◌, ◌*◌, ◌&&◌, IfSome, filter, find, not, true};
+ghost use Rattle.std.specs.Prelude.{◌≡◌, ◌==◌, ◌<◌, ◌+◌, ◌*◌, ◌&&◌, IfSome, find, true};
 ghost use Rattle.farm_types.specs.Farm.{for_some};
-ghost use Rattle.farm_types.specs.Finish.{is_finished};
 ghost use Rattle.farm_types.specs.Jobs.{without_finished};
-ghost use Rattle.job_book.specs.Finished.{can_put, finish_key, has_finish};
+ghost use Rattle.job_book.specs.Book.{has_job};
+ghost use Rattle.job_book.specs.Entries.{IsAt};
+ghost use Rattle.job_book.specs.Finished.{can_put, finish_key, has_finish, without_done};
 ghost use Rattle.job_index.specs.Keys.{put_key};
 ghost use Rattle.job_index.specs.declared.ready_jobs.TheConstants.{JOB_NUMBERS};
 
-use crate::check::is_pending_in;
-use crate::entries::Entries;
+use crate::entries::{At, Entries};
 use crate::jobs::Jobs;
 use farm_types::{JobNo, JobRow, Text};
 use job_index::{JOB_NUMBERS, ReadyJobs};
@@ -22,32 +22,34 @@ impl Jobs {
         let Some(job) = self.names.get(name.as_str()) else {
             return;
         };
-        if is_pending_in(&self.entries, job) {
-            return;
-        }
         self.leave(job);
     }
 
-    /// A finished job leaves.
+    /// The job of that number leaves, where it is finished.
     pub(crate) fn leave(&mut self, job: JobNo)
-        requires { for_some (find (λ j. j.job == job) self.old.jobs) is_finished ≡ true }
-        ensures { self.new ≡ record self.old { jobs = filter (λ j. not (j.job == job)) self.old.jobs } }
+        requires { has_job self.old job ≡ true }
+        ensures { self.new ≡ record self.old { jobs = without_done job self.old.jobs } }
     {
-        let Some(row) = self.entries.row(job) else {
+        let at = self.entries.at(job);
+        let Some(row) = self.entries.row_at(&at) else {
             unreachable!()
         };
+        if row.state.is_pending() {
+            return;
+        }
         self.finished.take(finish_key(row));
         self.names.remove(row.name.as_str());
-        self.entries.leave(job);
+        self.entries.leave(&at);
     }
 }
 
-/// The job of that number goes to its place among the finished ones.
-pub(crate) fn put_finished(finished: &mut ReadyJobs, entries: &Entries, job: JobNo)
-    requires there { for_some (find (λ j. j.job == job) entries.now.rows) (λ j. has_finish j && can_put (finish_key j) finished.old) ≡ true }
-    ensures { IfSome (find (λ j. j.job == job) entries.now.rows) (λ j. finished.new ≡ put_key (finish_key j) finished.old) }
+/// The job at a place goes to its place among the finished ones.
+pub(crate) fn put_finished(finished: &mut ReadyJobs, entries: &Entries, at: &At)
+    requires at { IsAt at.now entries.now.numbers }
+    requires there { for_some (find (λ j. j.job == at.now.job) entries.now.rows) (λ j. has_finish j && can_put (finish_key j) finished.old) ≡ true }
+    ensures { IfSome (find (λ j. j.job == at.now.job) entries.now.rows) (λ j. finished.new ≡ put_key (finish_key j) finished.old) }
 {
-    let Some(row) = entries.row(job) else {
+    let Some(row) = entries.row_at(at) else {
         unreachable!()
     };
     finished.put(finish_key(row));

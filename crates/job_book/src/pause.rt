@@ -11,6 +11,7 @@ impl Jobs {
     pub fn set_paused(&mut self, job: JobNo, paused: bool)
         ensures { self.new ≡ record self.old { jobs = map (paused_row job paused) self.old.jobs } }
     {
-        self.entries.pause(job, paused);
+        let at = self.entries.at(job);
+        self.entries.pause(&at, paused);
     }
 }

@@ -15,7 +15,7 @@ use crate::counts::Counts;
 use crate::entry::Entry;
 use crate::jobs::Jobs;
 use crate::placing::{JobSpare, Placing};
-use crate::put::put_layers;
+use crate::put::{behind_last, put_layers};
 use crate::ready::put_ready;
 use farm_types::{JobNo, JobRow, JobSpec, JobState, LayerRow, LayerSpec};
 
@@ -51,13 +51,9 @@ impl Jobs {
         } = reserved;
         let job = placing.job;
         let (row, layers) = taken_apart(spec, &placing);
-        self.lowest = put_layers(
-            &mut self.slots,
-            placing.first,
-            job,
-            layers.as_slice(),
-            &mut index,
-        ) as u32;
+        let places = placing.slots.as_slice();
+        put_layers(&mut self.slots, places, job, layers.as_slice(), &mut index);
+        self.lowest = behind_last(places);
         add_layers(&mut rows, job, layers);
         self.names.add(name, job);
         put_ready(&mut self.ready, &row);

@@ -1,10 +1,12 @@
 //! The places of jobs, in the order of their numbers.
 
-ghost use Rattle.std.specs.Prelude.{◌≡◌, ◌<◌, ◌≤◌, [], drop, length, filter, find, nat_lt, option_copied, option_map, slice_get, if◌then◌else◌, IfSome, None, Some};
+ghost use Rattle.std.specs.Prelude.{◌≡◌, ◌<◌, ◌≤◌, [], drop, length, filter, find, nat_lt, slice_get};
+ghost use Rattle.std.specs.Prelude.{option_copied, option_map, if◌then◌else◌, IfSome, None, Some};
 ghost use Rattle.std.specs.Vec.{vec_capacity};
 ghost use Rattle.farm_types.specs.Farm.{changed_at};
 ghost use Rattle.job_book.specs.Counting.{CanMove};
-ghost use Rattle.job_book.specs.Entries.{ArePlaces, emptied, has_number, held, held_in, is_taken, onto, place_of_number, with_finish, with_held, with_mark, with_moved, with_paused};
+ghost use Rattle.job_book.specs.Entries.{ArePlaces, emptied, has_number, held, held_in, is_taken, onto, place_of_number};
+ghost use Rattle.job_book.specs.Entries.{with_finish, with_held, with_mark, with_moved, with_paused};
 
 use crate::counts::Counts;
 use crate::entries::Place;
@@ -71,8 +73,8 @@ fn place_above(places: &[Place], after: u32) -> usize
     places.partition_point(|place| place.job.0 <= after)
 }
 
-// The job at a place.
-fn entry_at(places: &[Place], at: usize) -> Option<&Entry>
+/// The job at a place.
+pub(crate) fn entry_at(places: &[Place], at: usize) -> Option<&Entry>
     ensures { option_copied result ≡ held_in (slice_get places.now at) }
 {
     match places.get(at) {

@@ -1,16 +1,16 @@
 //! Where a job is to be placed, and the memory for it.
 
-use farm_types::{JobNo, LayerRow, ShowNo, Slot};
+use farm_types::{Items, JobNo, LayerRow, ShowNo, Slot};
 use job_index::LayerFrames;
 use std::marker::Model;
 
-/// Where a job is to be placed: its number and its show's, its lowest slot, and how many frames it has. They take the
-/// lowest free slots from `first` on.
-#[derive(Clone, Copy, Debug, PartialEq, Eq)]
+/// Where a job is to be placed: its number and its show's, the slots that its frames take, layer by layer and each in range
+/// order, and how many frames it has. The slots are looked for once, when the job is checked.
+#[derive(Debug, Drop)]
 pub struct Placing {
     pub job: JobNo,
     pub show: ShowNo,
-    pub first: Slot,
+    pub slots: Items<Slot>,
     pub frames: u32,
 }
 

@@ -1,99 +1,108 @@
-//! Frames into the lowest free slots.
+//! Frames into free slots that were found.
 
-ghost use Rattle.std.specs.Prelude.{◌≡◌, ◌≤◌, ◌+◌, ◌∷◌, [], length, map, drop, slice_get};
+ghost use Rattle.std.specs.Prelude.{◌≡◌, ◌≤◌, ◌<◌, ◌+◌, length, map, slice_get};
 ghost use Rattle.std.specs.List.{concat};
 ghost use Rattle.std.specs.Vec.{vec_capacity};
-ghost use Rattle.farm_types.specs.Jobs.{is_free, free_in, new_frame, fresh_slot, slot_with, frames_from, frames_in, frames_of, place_frames};
-ghost use Rattle.job_book.specs.Book.{first_free};
-ghost use Rattle.job_book.specs.Layers.{count_of, fresh_places, marks_of, put_places, slots_of};
-ghost use Rattle.job_book.specs.Puts.{HasFree, Puts, free_from};
+ghost use Rattle.farm_types.specs.Jobs.{is_free, new_frame, fresh_slot, slot_with, frames_from, frames_in, frames_of};
+ghost use Rattle.job_book.specs.Layers.{count_of, fresh_places, marks_of, slots_of};
+ghost use Rattle.job_book.specs.Lowest.{AreNext, behind, filled, with_frame};
 ghost use Rattle.farm_types.specs.declared.limits.TheConstants.{MOST_FRAMES, MOST_LAYERS, SLOT_LIMIT};
 
+use crate::change::set_row;
 use farm_types::{Frame, FrameState, JobNo, LAST_VERSION, LayerSpec, Slot, SlotRow, Version};
 use job_index::LayerFrames;
 
-/// Puts the frames of a job's layers into the lowest free slots, the first of which is said, and says a place below which
-/// no slot is free. It takes no memory.
+/// Puts the frames of a job's layers into these slots, layer by layer, and notes them. It takes no memory.
 pub(crate) fn put_layers(
     slots: &mut Vec<SlotRow>,
-    first: Slot,
+    places: &[Slot],
     job: JobNo,
     layers: &[LayerSpec],
     index: &mut Vec<LayerFrames>,
-) -> usize
+)
     requires capacity { SLOT_LIMIT ≤ vec_capacity slots.old }
-    requires slot_count { length slots.old.items ≤ SLOT_LIMIT }
-    requires first { first ≡ first_free slots.old.items }
-    requires enough { frames_in layers.now ≤ free_in slots.old.items }
+    requires next { AreNext places.now (length slots.old.items) }
+    requires count { length places.now ≡ frames_in layers.now }
     requires layer_count { length layers.now ≤ MOST_LAYERS }
     requires frame_count { frames_in layers.now ≤ MOST_FRAMES }
     requires index { index.old.items ≡ map fresh_places layers.now }
-    ensures slots { slots.new.items ≡ place_frames slots.old.items (frames_of job 0 layers.now) }
-    ensures places { concat (map slots_of index.new.items) ≡ put_places 0 slots.old.items (frames_of job 0 layers.now) }
+    ensures slots { slots.new.items ≡ filled places.now (frames_of job 0 layers.now) slots.old.items }
+    ensures places { concat (map slots_of index.new.items) ≡ places.now }
     ensures lengths { map count_of index.new.items ≡ map (λ l. length l.numbers) layers.now }
     ensures marks { map marks_of index.new.items ≡ map marks_of index.old.items }
-    ensures within { result ≤ length slots.new.items }
-    ensures limit { result ≤ SLOT_LIMIT }
-    ensures left { free_from result slots.new.items + frames_in layers.now ≡ free_in slots.old.items }
     ensures capacity { vec_capacity slots.new ≡ vec_capacity slots.old }
 {
-    let mut next = first.0 as usize;
+    let mut done = 0;
     for (place, layer) in layers.iter().enumerate() {
-        next = put_layer(
+        let end = done + layer.numbers.len();
+        put_layer(
             slots,
-            next,
+            &places[done..end],
             job,
             place as u32,
             layer.numbers.as_slice(),
             &mut index[place],
         );
+        done = end;
     }
-    next
 }
 
-// Puts the frames of a layer's numbers, notes their slots, and says the place after the last one.
+// Puts the frames of a layer's numbers into these slots, and notes them.
 fn put_layer(
     slots: &mut Vec<SlotRow>,
-    first: usize,
+    places: &[Slot],
     job: JobNo,
     layer: u32,
     numbers: &[i32],
     frames: &mut LayerFrames,
-) -> usize
+)
     requires capacity { SLOT_LIMIT ≤ vec_capacity slots.old }
-    requires fits { HasFree first slots.old.items (length numbers.now) }
+    requires next { AreNext places.now (length slots.old.items) }
+    requires count { length places.now ≡ length numbers.now }
     requires frame_count { length numbers.now ≤ MOST_FRAMES }
-    requires places { length frames.old.slots ≡ length numbers.now }
-    ensures puts { Puts (frames_from job layer 0 numbers.now) first slots.old.items result slots.new.items }
-    ensures places { frames.new.slots ≡ put_places first (drop first slots.old.items) (frames_from job layer 0 numbers.now) }
-    ensures count { length frames.new.slots ≡ length numbers.now }
+    requires long { length frames.old.slots ≡ length numbers.now }
+    ensures slots { slots.new.items ≡ filled places.now (frames_from job layer 0 numbers.now) slots.old.items }
+    ensures places { frames.new.slots ≡ places.now }
     ensures marks { frames.new.waiting ≡ frames.old.waiting }
     ensures capacity { vec_capacity slots.new ≡ vec_capacity slots.old }
 {
-    let mut next = first;
     for (position, number) in numbers.iter().enumerate() {
-        let place = put(slots, next, new_frame(job, layer, position as u32, *number));
-        frames.set(position, Slot(place as u32));
-        next = place + 1;
+        let slot = places[position];
+        put(slots, slot, new_frame(job, layer, position as u32, *number));
+        frames.set(position, slot);
     }
-    next
 }
 
-// Puts a frame into the first free slot from a place on, and says which that is.
-fn put(slots: &mut Vec<SlotRow>, from: usize, frame: Frame) -> usize
+// Puts a frame into a slot.
+fn put(slots: &mut Vec<SlotRow>, slot: Slot, frame: Frame)
     requires capacity { SLOT_LIMIT ≤ vec_capacity slots.old }
-    requires fits { HasFree from slots.old.items 1 }
-    ensures puts { Puts (frame ∷ []) from slots.old.items (result + 1) slots.new.items }
-    ensures place { put_places from (drop from slots.old.items) (frame ∷ []) ≡ result ∷ [] }
+    requires within { slot ≤ length slots.old.items }
+    requires limit { slot < SLOT_LIMIT }
+    ensures slots { slots.new.items ≡ with_frame slot frame slots.old.items }
     ensures capacity { vec_capacity slots.new ≡ vec_capacity slots.old }
 {
-    let place = next_free(slots.as_slice(), from);
-    let Some(row) = row_at(slots.as_slice(), place) else {
+    let Some(row) = row_at(slots.as_slice(), slot.0 as usize) else {
         slots.push_reserved(fresh_slot(frame));
-        return place;
+        return;
     };
-    slots[place] = slot_with(frame, &row);
-    place
+    set_row(slots, slot, slot_with(frame, &row));
+}
+
+/// The place behind the last of these slots.
+pub(crate) fn behind_last(places: &[Slot]) -> u32
+    requires some { 0 < length places.now }
+    requires within { behind 0 places.now ≤ SLOT_LIMIT }
+    ensures { result ≡ behind 0 places.now }
+{
+    last_of(places).0 + 1
+}
+
+// The last of these slots.
+fn last_of(places: &[Slot]) -> Slot
+    requires { 0 < length places.now }
+    ensures { result + 1 ≡ behind 0 places.now }
+{
+    places[places.len() - 1]
 }
 
 /// What stands at a place.
@@ -101,20 +110,6 @@ pub(crate) fn row_at(slots: &[SlotRow], place: usize) -> Option<SlotRow>
     ensures { result ≡ slice_get slots.now place }
 {
     slots.get(place).copied()
-}
-
-/// The first free slot from a place on, and where none of those used is free, the first that never was.
-pub(crate) fn next_free(slots: &[SlotRow], from: usize) -> usize
-    requires { from ≤ length slots.now }
-    ensures value { result ≡ from + first_free (drop from slots.now) }
-    ensures bound { result ≤ length slots.now }
-{
-    for place in from..slots.len() {
-        if is_free(&slots[place]) {
-            return place;
-        }
-    }
-    slots.len()
 }
 
 /// Whether the slot has no frame and may still rise in version.

@@ -1,6 +1,6 @@
 //! What is read of the book.
 
-ghost use Rattle.std.specs.Prelude.{◌≡◌, ◌==◌, ◌&&◌, ◌≤◌, ◌<◌, length, slice_get, find, option_copied, true, All, IfNone, IfSome, Some};
+ghost use Rattle.std.specs.Prelude.{◌≡◌, ◌==◌, ◌&&◌, ◌≤◌, ◌<◌, [], length, slice_get, find, option_copied, true, All, IfNone, IfSome, Some};
 ghost use Rattle.farm_types.specs.Farm.{is_placed, slot_from};
 ghost use Rattle.farm_types.specs.Rising.{IsNextKey, job_key};
 ghost use Rattle.farm_types.specs.declared.limits.TheConstants.{MOST_SHOWS, SLOT_LIMIT};
@@ -103,9 +103,10 @@ impl Jobs {
     }
 
     /// The pending jobs of a show with a waiting frame, by priority, the highest first, then by number. A show past the last
-    /// that there can be has no list.
+    /// that there can be has none.
     pub fn ready(&self, show: ShowNo) -> &[JobNo]
-        ensures { show < MOST_SHOWS → result.now ≡ ready_of self.now show }
+        ensures listed { show < MOST_SHOWS → result.now ≡ ready_of self.now show }
+        ensures past { MOST_SHOWS ≤ show → result.now ≡ [] }
     {
         jobs_in(self.ready.as_slice(), show.0 as usize)
     }

@@ -3,12 +3,12 @@
 ghost use Rattle.std.specs.Prelude.{ℕ, List, ◌≡◌, ◌==◌, find, ◌≤◌, ◌+◌, ◌*◌, [], length, nat_lt, slice_get, true, IfOk, Some};
 ghost use Rattle.farm_types.specs.Farm.{changed_at, for_some};
 ghost use Rattle.farm_types.specs.declared.limits.TheConstants.{MOST_PRIORITY, MOST_SHOWS};
-ghost use Rattle.std.specs.List.{position_or_len};
 ghost use Rattle.job_index.specs.declared.ready_jobs.TheConstants.{JOB_NUMBERS};
+ghost use Rattle.job_book.specs.Entries.{IsAt, counts_in};
 ghost use Rattle.job_book.specs.Ready.{CanBeReady, CanChange, changed_ready, has_priority, jobs_in, ready_key};
 ghost use Rattle.job_index.specs.Keys.{drop_key, put_key};
 
-use crate::entries::Entries;
+use crate::entries::{At, Entries};
 use farm_types::{JobNo, JobRow, MOST_PRIORITY, MOST_SHOWS};
 use job_index::{JOB_NUMBERS, ReadyJobs};
 use std::alloc::{AllocError, Global};
@@ -46,28 +46,30 @@ pub(crate) fn jobs_in(ready: &[ReadyJobs], show: usize) -> &[JobNo]
     }
 }
 
-/// Whether a frame of the job waits, as its counts say.
-pub(crate) fn has_waiting(entries: &Entries, job: JobNo) -> bool
-    ensures { result ≡ for_some (slice_get entries.now.counts (position_or_len (λ j. j.job == job) entries.now.rows)) (λ c. nat_lt 0 c.waiting) }
+/// Whether a frame of the job at a place waits, as its counts say.
+pub(crate) fn has_waiting(entries: &Entries, at: &At) -> bool
+    requires { IsAt at.now entries.now.numbers }
+    ensures { result ≡ for_some (counts_in at.now.job entries.now) (λ c. nat_lt 0 c.waiting) }
 {
-    match entries.counts(job) {
+    match entries.counts_at(at) {
         None => false,
         Some(counts) => counts.waiting > 0,
     }
 }
 
-/// The job of that number had a waiting frame or none, and has one now or none.
+/// The job at a place had a waiting frame or none, and has one now or none.
 pub(crate) fn change_ready(
     ready: &mut Vec<ReadyJobs>,
     entries: &Entries,
-    job: JobNo,
+    at: &At,
     had: bool,
     has: bool,
 )
-    requires { CanChange had has ready.old.items (find (λ j. j.job == job) entries.now.rows) }
-    ensures { ready.new.items ≡ changed_ready had has ready.old.items (find (λ j. j.job == job) entries.now.rows) }
+    requires at { IsAt at.now entries.now.numbers }
+    requires can { CanChange had has ready.old.items (find (λ j. j.job == at.now.job) entries.now.rows) }
+    ensures { ready.new.items ≡ changed_ready had has ready.old.items (find (λ j. j.job == at.now.job) entries.now.rows) }
 {
-    let Some(row) = entries.row(job) else {
+    let Some(row) = entries.row_at(at) else {
         return;
     };
     change_job(ready, row, had, has);

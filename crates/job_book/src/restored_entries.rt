@@ -2,7 +2,7 @@
 
 ghost use Rattle.std.specs.Prelude.{◌≡◌, ◌≤◌, length, take, drop, IfOk, OnOk};
 ghost use Rattle.farm_types.specs.Rising.{IsRising, job_key};
-ghost use Rattle.job_book.specs.Restored.{AreOwned, own_count, place_with};
+ghost use Rattle.job_book.specs.Restored.{AreOwned, all_in, own_count, place_with};
 
 use crate::counts::Counts;
 use crate::entries::{Entries, MOST_PLACES, Place};
@@ -26,7 +26,7 @@ pub(crate) fn entries_of(
     requires owned { AreOwned rows.items layers.items }
     requires counts { length counts.now ≡ length rows.items }
     requires index { length index.items ≡ length layers.items }
-    ensures { IfOk result (λ entries. entries ≡ record { rows = rows.items; counts = counts.now; layers = layers.items; index = index.items; next = next }) }
+    ensures { IfOk result (λ entries. entries ≡ all_in rows.items counts.now layers.items index.items next) }
 {
     let mut layers = VecDeque::from(layers);
     let mut index = VecDeque::from(index);

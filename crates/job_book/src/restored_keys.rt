@@ -12,7 +12,7 @@ ghost use Rattle.job_book.specs.Finished.{finish_key, has_finish};
 ghost use Rattle.job_book.specs.Names.{KeepsNames};
 ghost use Rattle.job_book.specs.Ready.{has_priority};
 ghost use Rattle.job_index.specs.Keys.{sorted, AreKeys};
-ghost use Rattle.job_book.specs.Restored.{keys_beside, with_ready};
+ghost use Rattle.job_book.specs.Restored.{AreBeside, AreSorted, with_ready};
 
 use crate::counts::Counts;
 use crate::leave::finish_key;
@@ -26,7 +26,7 @@ use std::alloc::{AllocError, Global};
 pub(crate) fn names_of(alloc: Global, rows: &[JobRow]) -> Result<JobNames, AllocError>
     requires differ { AllDiffer job_label rows.now }
     requires few { length rows.now ≤ MOST_JOBS }
-    ensures { IfOk result (λ names. KeepsNames names rows.now) }
+    ensures { IfOk result (λ names. KeepsNames names.pairs rows.now) }
 {
     let mut names = JobNames::make(alloc)?;
     for row in rows {
@@ -78,7 +78,7 @@ pub(crate) fn ready_lists(
     requires priorities { list_all has_priority rows.now ≡ true }
     requires counts { length counts.now ≡ length rows.now }
     ensures count { IfOk result (λ ready. length ready.items ≡ MOST_SHOWS) }
-    ensures keys { IfOk result (λ ready. (show : ℕ) (ks : List ℕ) → slice_get ready.items show ≡ Some ks → ks ≡ sorted (keys_beside show rows.now counts.now)) }
+    ensures keys { IfOk result (λ ready. AreSorted rows.now counts.now ready.items) }
 {
     let lists = key_lists(alloc, rows, counts)?;
     in_order(alloc, lists)
@@ -93,7 +93,7 @@ fn key_lists(
     requires priorities { list_all has_priority rows.now ≡ true }
     requires counts { length counts.now ≡ length rows.now }
     ensures count { IfOk result (λ lists. length lists.items ≡ MOST_SHOWS) }
-    ensures keys { IfOk result (λ lists. (show : ℕ) (ks : List ℕ) → slice_get lists.items show ≡ Some ks → ks ≡ keys_beside show rows.now counts.now) }
+    ensures keys { IfOk result (λ lists. AreBeside rows.now counts.now lists.items) }
 {
     let mut lists = no_keys(alloc)?;
     for (at, row) in rows.iter().enumerate() {

@@ -1,7 +1,7 @@
 -- Keys that rise: one put in or taken out, at the place that a search finds.
-use Rattle.std.proofs.Common.{◌≡◌, ℕ, zero, suc, ◌+◌, ◌<◌, ◌≤◌, ◌||◌, Bool, true, false, eqb, ltb, List, [], ◌∷◌, length, map, refl, sym, ap, arith}
+use Rattle.std.proofs.Common.{◌≡◌, ℕ, zero, suc, ◌+◌, ◌<◌, ◌≤◌, Bool, true, false, eqb, ltb, List, [], ◌∷◌, length, map, refl, ap, arith}
 use Rattle.std.specs.List.{insert, remove, list_any, position_or_len}
-use Rattle.std.proofs.lemmas.Bool.{ltb-true, ltb-false, eqb-false, false≢true}
+use Rattle.std.proofs.lemmas.Bool.{ltb-true, ltb-false, eqb-false, or_parts}
 use Rattle.farm_types.specs.Rising.{IsRising}
 use Rattle.job_index.specs.Keys.{drop_key, itself, put_key}
 
@@ -54,10 +54,6 @@ map-remove f (y ∷ ys) (suc p) = ap (λ ns. f y ∷ ns) (map-remove f ys p)
 
 -- ---- order
 
-or_none : (a b : Bool) → (a || b) ≡ false → (a ≡ false) × (b ≡ false)
-or_none true b h = absurd (false≢true (sym h))
-or_none false b h = (refl, h)
-
 put_rising_step : (b : Bool) (low key k high : ℕ) (ks : List ℕ) → ltb key k ≡ b → low ≤ key → eqb k key ≡ false → IsRising itself low (k ∷ ks) high → (k + 1 ≤ key → IsRising itself (k + 1) (put_key key ks) high)
     → IsRising itself low (put_key key (k ∷ ks)) high
 put_rising_step true low key k high ks is least apart rise later = rw is (least, (omega (arith, ltb-true key k is), rise.1))
@@ -69,7 +65,7 @@ put_rising_step false low key k high ks is least apart rise later = rw is (rise.
 pub put_rising : (low key high : ℕ) (ks : List ℕ) → IsRising itself low ks high → low ≤ key → key < high → list_any (λ (k : ℕ). eqb k key) ks ≡ false → IsRising itself low (put_key key ks) high
 put_rising low key high [] rise least below none = (least, omega (arith, below))
 put_rising low key high (k ∷ ks) rise least below none =
-    let split = or_none (eqb k key) (list_any (λ (n : ℕ). eqb n key) ks) none in
+    let split = or_parts (eqb k key) (list_any (λ (n : ℕ). eqb n key) ks) none in
     put_rising_step (ltb key k) low key k high ks refl least split.0 rise (λ more. put_rising (k + 1) key high ks rise.1 more below split.1)
 
 rising_lower : (low mid high : ℕ) (ks : List ℕ) → low ≤ mid → IsRising itself mid ks high → IsRising itself low ks high

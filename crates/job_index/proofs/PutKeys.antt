@@ -1,7 +1,7 @@
 -- Keys that are put in and taken out: their order, how many there are, and which jobs they are of.
-use Rattle.std.proofs.Common.{◌≡◌, ℕ, suc, ◌+◌, ◌*◌, ◌%◌, ◌<◌, ◌||◌, Bool, true, false, cond, eqb, ltb, List, [], ◌∷◌, length, refl, sym, ap, ◌∙◌, arith}
+use Rattle.std.proofs.Common.{◌≡◌, ℕ, suc, ◌+◌, ◌*◌, ◌%◌, ◌<◌, Bool, true, false, cond, eqb, ltb, List, [], ◌∷◌, length, refl, ap, ◌∙◌, arith}
 use Rattle.std.specs.List.{list_any}
-use Rattle.std.proofs.lemmas.Bool.{false≢true, eq-eqb, lt-ltb, ltb-true, ltb-false, le-ltb}
+use Rattle.std.proofs.lemmas.Bool.{or_parts, or_from, eq-eqb, lt-ltb, ltb-true, ltb-false, le-ltb}
 use Rattle.job_index.specs.declared.ready_jobs.TheConstants.{JOB_NUMBERS}
 use Rattle.job_index.specs.Keys.{drop_key, put_key, sorted}
 
@@ -32,28 +32,20 @@ drop_put_step : (b : Bool) (key k : ℕ) (ks : List ℕ) → ltb key k ≡ b →
 drop_put_step true key k ks is apart later = rw is (rw (eq-eqb key key refl) refl)
 drop_put_step false key k ks is apart later = rw is (rw apart (ap (λ ns. k ∷ ns) later))
 
-or_none : (a b : Bool) → (a || b) ≡ false → (a ≡ false) × (b ≡ false)
-or_none true b h = absurd (false≢true (sym h))
-or_none false b h = (refl, h)
-
-none_or : (a b : Bool) → a ≡ false → b ≡ false → (a || b) ≡ false
-none_or true b h k = absurd (false≢true (sym h))
-none_or false b h k = k
-
 pub drop_put : (key : ℕ) (ks : List ℕ) → list_any (λ (k : ℕ). eqb k key) ks ≡ false → drop_key key (put_key key ks) ≡ ks
 drop_put key [] none = rw (eq-eqb key key refl) refl
 drop_put key (k ∷ ks) none =
-    let split = or_none (eqb k key) (list_any (λ (n : ℕ). eqb n key) ks) none in
+    let split = or_parts (eqb k key) (list_any (λ (n : ℕ). eqb n key) ks) none in
     drop_put_step (ltb key k) key k ks refl split.0 (drop_put key ks split.1)
 
 none-put_step : (b : Bool) (test : ℕ → Bool) (key k : ℕ) (ks : List ℕ) → ltb key k ≡ b → test key ≡ false → test k ≡ false → list_any test ks ≡ false → list_any test (put_key key ks) ≡ false → list_any test (put_key key (k ∷ ks)) ≡ false
-none-put_step true test key k ks is here first rest later = rw is (none_or _ _ here (none_or _ _ first rest))
-none-put_step false test key k ks is here first rest later = rw is (none_or _ _ first later)
+none-put_step true test key k ks is here first rest later = rw is (or_from _ _ here (or_from _ _ first rest))
+none-put_step false test key k ks is here first rest later = rw is (or_from _ _ first later)
 
 pub none-put : (test : ℕ → Bool) (key : ℕ) (ks : List ℕ) → test key ≡ false → list_any test ks ≡ false → list_any test (put_key key ks) ≡ false
-none-put test key [] here rest = none_or _ _ here refl
+none-put test key [] here rest = or_from _ _ here refl
 none-put test key (k ∷ ks) here rest =
-    let split = or_none (test k) (list_any test ks) rest in
+    let split = or_parts (test k) (list_any test ks) rest in
     none-put_step (ltb key k) test key k ks refl here split.0 split.1 (none-put test key ks here split.1)
 
 length-put_step : (b : Bool) (key k : ℕ) (ks : List ℕ) → ltb key k ≡ b → length (put_key key ks) ≡ suc (length ks) → length (put_key key (k ∷ ks)) ≡ suc (suc (length ks))

@@ -1,6 +1,7 @@
 //! The names of the jobs, by which a job is found without a walk.
 
-ghost use Rattle.std.specs.Prelude.{◌≡◌, ◌≤◌, ◌<◌, ◌+◌, ◌++◌, ◌∷◌, [], ℕ, List, None, Some, not, filter, length, map, bytes_eq, string_bytes, if◌then◌else◌, is_some, IfOk};
+ghost use Rattle.std.specs.Prelude.{◌≡◌, ◌≤◌, ◌<◌, ◌+◌, ◌++◌, ◌∷◌, [], ℕ, List, None, Some, not, filter, length, map};
+ghost use Rattle.std.specs.Prelude.{bytes_eq, string_bytes, if◌then◌else◌, is_some, IfOk, OnOk};
 ghost use Rattle.std.specs.Vec.{vec_capacity};
 ghost use Rattle.job_index.specs.Names.{number_of};
 ghost use Rattle.job_index.specs.declared.limits.TheConstants.{MOST_JOBS};
@@ -61,13 +62,15 @@ pub struct JobNames {
 }
 
 impl Model for JobNames {
-    ghost use Rattle.std.specs.Prelude.{ℕ, List, ◌≤◌, ◌++◌, map, string_bytes};
+    ghost use Rattle.std.specs.Prelude.{◌≤◌, ◌++◌, map, string_bytes};
+    ghost use Rattle.std.specs.HashMap.{spare};
     ghost use Rattle.std.specs.Vec.{vec_capacity};
+    ghost use Rattle.job_index.specs.Names as types;
     ghost use Rattle.job_index.specs.declared.limits.TheConstants.{MOST_JOBS};
 
-    ghost Value = { List (List ℕ × ℕ) };
+    ghost Value = { types.NameList };
 
-    ghost view = { λ names. map (λ e. (string_bytes e.0, e.1)) names.numbers.entries ++ names.late.items };
+    ghost view = { λ names. record { pairs = map (λ e. (string_bytes e.0, e.1)) names.numbers.entries ++ names.late.items; room = spare names.numbers } };
 
     ghost invariant = { λ names. MOST_JOBS ≤ vec_capacity names.late };
 }
@@ -75,7 +78,8 @@ impl Model for JobNames {
 impl JobNames {
     /// No names. It takes the memory of all at once.
     pub fn make(alloc: Global) -> Result<JobNames, AllocError>
-        ensures { IfOk result (λ names. names ≡ []) }
+        ensures none { IfOk result (λ names. names.pairs ≡ []) }
+        ensures room { IfOk result (λ names. MOST_JOBS ≤ names.room) }
     {
         Ok(JobNames {
             numbers: IndexMap::with_capacity(alloc, MOST_JOBS as usize)?,
@@ -85,7 +89,7 @@ impl JobNames {
 
     /// The number of the job of that name.
     pub fn get(&self, name: &str) -> Option<JobNo>
-        ensures { result ≡ number_of name.now self.now }
+        ensures { result ≡ number_of name.now self.now.pairs }
     {
         match self.numbers.get(name) {
             Some(job) => Some(*job),
@@ -95,17 +99,19 @@ impl JobNames {
 
     /// Takes the memory for one more name.
     pub fn reserve(&mut self) -> Result<(), AllocError>
-        ensures { self.new ≡ self.old }
+        ensures pairs { self.new.pairs ≡ self.old.pairs }
+        ensures room { OnOk result (1 ≤ self.new.room) }
     {
         self.numbers.reserve(1)
     }
 
     /// A name that isn't there is that of a job. It takes no memory where memory was reserved for it.
     pub fn add(&mut self, name: String, job: JobNo)
-        requires new { number_of (string_bytes name) self.old ≡ None }
-        requires few { length self.old < MOST_JOBS }
-        ensures others { (other : List ℕ) → number_of other self.new ≡ if bytes_eq (string_bytes name) other then Some job else number_of other self.old }
-        ensures count { length self.new ≡ length self.old + 1 }
+        requires new { number_of (string_bytes name) self.old.pairs ≡ None }
+        requires few { length self.old.pairs < MOST_JOBS }
+        ensures others { (n : List ℕ) → number_of n self.new.pairs ≡ if bytes_eq (string_bytes name) n then Some job else number_of n self.old.pairs }
+        ensures count { length self.new.pairs ≡ length self.old.pairs + 1 }
+        ensures room { self.old.room ≤ self.new.room + 1 }
     {
         match self.numbers.insert(name, job) {
             Ok(_) => {}
@@ -115,16 +121,17 @@ impl JobNames {
 
     /// The name is that of no job any more.
     pub fn remove(&mut self, name: &str)
-        ensures others { (other : List ℕ) → number_of other self.new ≡ if bytes_eq name.now other then None else number_of other self.old }
-        ensures count { length self.new + (if is_some (number_of name.now self.old) then 1 else 0) ≤ length self.old }
+        ensures others { (n : List ℕ) → number_of n self.new.pairs ≡ if bytes_eq name.now n then None else number_of n self.old.pairs }
+        ensures count { length self.new.pairs + (if is_some (number_of name.now self.old.pairs) then 1 else 0) ≤ length self.old.pairs }
+        ensures room { self.old.room ≤ self.new.room }
     {
         self.numbers.swap_remove(name);
         remove_late(&mut self.late, name);
     }
 
-    /// Equal names, with the same memory.
+    /// Equal names, with memory for all of them.
     pub fn copy(&self, alloc: Global) -> Result<JobNames, AllocError>
-        ensures { IfOk result (λ copy. copy ≡ self.now) }
+        ensures { IfOk result (λ copy. copy.pairs ≡ self.now.pairs) }
     {
         Ok(JobNames {
             numbers: self.numbers.clone()?,

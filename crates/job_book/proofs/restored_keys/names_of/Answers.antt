@@ -17,9 +17,9 @@ add-requires-clause-new c =
     let row = c.row-item.result in
     let at : slice_get rows i ≡ Some row = slice_get_read rows (length rows) i row (omega arith) (omega arith) c.row-item.is in
     let name : string_bytes c.in_ok-from_str.field-0 ≡ row.name = c.in_ok-from_str.ensures.ok ∙ c.as_str.ensures in
-    ap (λ (ns : List ℕ). number_of ns c.reserve.new.self) name
-    ∙ ap (number_of row.name) c.reserve.ensures
-    ∙ unnamed c.loop-row.names (take i rows) row.name c.loop-row.invariant (new_name rows i row c.requires.differ at)
+    ap (λ (ns : List ℕ). number_of ns c.reserve.new.self.pairs) name
+    ∙ ap (number_of row.name) c.reserve.ensures.pairs
+    ∙ unnamed c.loop-row.names.pairs (take i rows) row.name c.loop-row.invariant (new_name rows i row c.requires.differ at)
 
 pub loop-row-preserved : goal.loop-row-preserved
 loop-row-preserved c =
@@ -29,7 +29,7 @@ loop-row-preserved c =
     let at : slice_get rows i ≡ Some row = slice_get_read rows (length rows) i row (omega arith) (omega arith) c.row-item.is in
     let name : string_bytes c.in_ok-from_str.field-0 ≡ row.name = c.in_ok-from_str.ensures.ok ∙ c.as_str.ensures in
     let more : take (i + 1) rows ≡ take i rows ++ row ∷ [] = take_more rows i row (omega arith) ∙ ap (λ (j : JobRow). take i rows ++ j ∷ []) (sym c.row-item.is) in
-    let found = λ (other : List ℕ). c.add.ensures.others other ∙ ap (λ (n : List ℕ). cond (bytes_eq n other) (Some row.job) (number_of other c.reserve.new.self)) name
-    ∙ ap (λ ns. cond (bytes_eq row.name other) (Some row.job) (number_of other ns)) c.reserve.ensures in
-    let count : length c.add.new.self ≡ length c.loop-row.names + 1 = c.add.ensures.count ∙ ap (λ (ns : List (List ℕ × ℕ)). length ns + 1) c.reserve.ensures in
-    subst (KeepsNames c.add.new.self) (sym more) (keeps_more c.loop-row.names c.add.new.self (take i rows) row (new_name rows i row c.requires.differ at) found count c.loop-row.invariant)
+    let found = λ (other : List ℕ). c.add.ensures.others other ∙ ap (λ (n : List ℕ). cond (bytes_eq n other) (Some row.job) (number_of other c.reserve.new.self.pairs)) name
+    ∙ ap (λ ns. cond (bytes_eq row.name other) (Some row.job) (number_of other ns)) c.reserve.ensures.pairs in
+    let count : length c.add.new.self.pairs ≡ length c.loop-row.names.pairs + 1 = c.add.ensures.count ∙ ap (λ (ns : List (List ℕ × ℕ)). length ns + 1) c.reserve.ensures.pairs in
+    subst (KeepsNames c.add.new.self.pairs) (sym more) (keeps_more c.loop-row.names.pairs c.add.new.self.pairs (take i rows) row (new_name rows i row c.requires.differ at) found count c.loop-row.invariant)

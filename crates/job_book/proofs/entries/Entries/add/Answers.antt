@@ -1,9 +1,9 @@
-use Rattle.std.proofs.Common.{◌≡◌, ◌∙◌, ◌++◌, ◌∷◌, [], ◌+◌, List, Some, length, eqb, sym, ap, subst, arith}
+use Rattle.std.proofs.Common.{◌≡◌, ◌∙◌, ◌++◌, ◌∷◌, [], ◌+◌, List, Some, length, map, eqb, sym, ap, subst, arith}
 use Rattle.std.proofs.lemmas.Bool.{and_from, eq-eqb}
 use Rattle.std.proofs.lemmas.List.{length-map}
 use Rattle.std.specs.Vec.{vec_capacity}
 use Rattle.job_book.specs.declared.entries.Place.{Place}
-use Rattle.job_book.specs.Entries.{KeepsEntries, all_of, are_layers, held, row_of}
+use Rattle.job_book.specs.Entries.{KeepsEntries, all_of, are_layers, held, place_key, row_of, with_entry}
 use Rattle.job_book.specs.OneJob.{AllJobs, OneJob}
 use Rattle.job_book.proofs.Held.{held_more}
 use Rattle.job_book.proofs.HeldKept.{all_more, more_places}
@@ -30,7 +30,9 @@ returns c =
     let next = c.self.inside.next in
     let e = c.args.entry in
     let p : Place = record { job = next; held = Some e } in
-    ap (λ (ps : List Place). all_of (held ps) (next + 1)) c.push_reserved.ensures.items
-    ∙ ap (λ (es : List OneJob). all_of es (next + 1)) (held_more c.make_room.new.places.items (p ∷ []) ∙ ap (λ (es : List OneJob). es ++ e ∷ []) c.make_room.ensures.held)
-    ∙ all_more (held c.self.inside.places.items) e next
-    ∙ ap (λ (a : AllJobs). record { rows = a.rows ++ e.row ∷ []; counts = a.counts ++ e.counts ∷ []; layers = a.layers ++ e.layers; index = a.index ++ e.index; next = a.next + 1 }) c.self.view_is
+    let places = c.push_reserved.new.self.items in
+    let numbers = map place_key places in
+    ap (λ (ps : List Place). all_of numbers (held ps) (next + 1)) c.push_reserved.ensures.items
+    ∙ ap (λ (es : List OneJob). all_of numbers es (next + 1)) (held_more c.make_room.new.places.items (p ∷ []) ∙ ap (λ (es : List OneJob). es ++ e ∷ []) c.make_room.ensures.held)
+    ∙ all_more numbers (map place_key c.self.inside.places.items) (held c.self.inside.places.items) e next
+    ∙ ap (with_entry e numbers) c.self.view_is

@@ -1,24 +1,12 @@
-use Rattle.std.proofs.Common.{◌∙◌, List, Some, option_map, eqb, sym, ap, subst}
+use Rattle.std.proofs.Common.{◌∙◌, eqb, refl, sym, ap, subst}
 use Rattle.std.specs.List.{find}
 use Rattle.farm_types.specs.declared.rows.JobRow.{JobRow}
-use Rattle.job_book.specs.declared.entries.Place.{Place}
-use Rattle.job_book.specs.Entries.{ArePlaces, has_number, held, row_of}
-use Rattle.job_book.specs.OneJob.{AllJobs}
-use Rattle.job_book.proofs.HeldLists.{row_found}
+use Rattle.job_book.specs.declared.entries.At.{At}
+use Rattle.job_book.specs.Entries.{IsAt}
 use Rattle.job_book.proofs.entries.Entries.row.Goals as goal
 
-pub entry_in-requires : goal.entry_in-requires
-entry_in-requires c = subst ArePlaces (sym c.as_slice.ensures.value) (record { next = c.self.inside.next; rise = c.self.invariant.rise; each = c.self.invariant.each })
+pub row_at-requires : goal.row_at-requires
+row_at-requires c = subst (λ (a : At). IsAt a c.args.self.now.numbers) (sym c.at-at.ensures) refl
 
-pub returns-in-None : goal.returns-in-None
-returns-in-None c =
-    let job = c.args.job in
-    ap (option_map row_of) (c.in-None.ensures ∙ ap (λ (ps : List Place). find (has_number job) (held ps)) c.as_slice.ensures.value)
-    ∙ row_found job (held c.self.inside.places.items) ∙ ap (λ (a : AllJobs). find (λ (j : JobRow). eqb j.job job) a.rows) c.self.view_is
-
-pub returns-in-Some : goal.returns-in-Some
-returns-in-Some c =
-    let job = c.args.job in
-    ap Some c.row.ensures
-    ∙ ap (option_map row_of) (c.in-Some.ensures ∙ ap (λ (ps : List Place). find (has_number job) (held ps)) c.as_slice.ensures.value)
-    ∙ row_found job (held c.self.inside.places.items) ∙ ap (λ (a : AllJobs). find (λ (j : JobRow). eqb j.job job) a.rows) c.self.view_is
+pub returns : goal.returns
+returns c = c.row_at.ensures ∙ ap (λ (a : At). find (λ (j : JobRow). eqb j.job a.job) c.args.self.now.rows) c.at-at.ensures

@@ -8,4 +8,4 @@ pub returns : goal.returns
 returns c =
     let inside = c.self.inside in
     let name = c.args.name.now in
-    c.get.ensures ∙ name_found inside.names inside.entries.rows c.self.invariant.names name ∙ ap (λ (b : JobLists). job_named b name) c.self.view_is
+    c.get.ensures ∙ name_found inside.names.pairs inside.entries.rows c.self.invariant.names name ∙ ap (λ (b : JobLists). job_named b name) c.self.view_is

@@ -11,7 +11,7 @@ returns-in-None c =
     let inside = c.self.inside in
     let ok = c.self.invariant in
     let name = c.args.name.now in
-    let at : number_of name inside.names ≡ None = sym c.in-None.ensures in
+    let at : number_of name inside.names.pairs ≡ None = sym c.in-None.ensures in
     none_finished_named name inside.entries.rows (ok.names.named name ∙ ap as_list at) ∙ ap (λ (b : JobLists). list_any (is_finished_named name) b.jobs) c.self.view_is
 
 pub returns-in-Some : goal.returns-in-Some
@@ -19,6 +19,6 @@ returns-in-Some c =
     let inside = c.self.inside in
     let ok = c.self.invariant in
     let name = c.args.name.now in
-    let at : number_of name inside.names ≡ Some c.in-Some.job = sym c.in-Some.ensures in
+    let at : number_of name inside.names.pairs ≡ Some c.in-Some.job = sym c.in-Some.ensures in
     ap not c.is_pending_in.ensures ∙ has_finished_is name inside.entries.rows inside.entries.next ok.lists.jobs_rise c.in-Some.job (ok.names.named name ∙ ap as_list at)
     ∙ ap (λ (b : JobLists). list_any (is_finished_named name) b.jobs) c.self.view_is

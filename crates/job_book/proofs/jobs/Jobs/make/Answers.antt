@@ -9,7 +9,7 @@ invariant_of-result c =
     let slots = c.in_ok-with_capacity.ensures.items in
     record {
       lists = rw (entries, slots) (record { slot_count = omega arith; next_within = omega arith; jobs_rise = omega arith; layers_rise = omega arith; layers_owned = refl; frames_below = refl; slots_had = refl; jobs_fit = omega arith });
-      names = rw (entries, c.in_ok-make-2.ensures) (record { named = λ name. refl; as_many = omega arith });
+      names = rw (entries, c.in_ok-make-2.ensures.none) (record { named = λ name. refl; as_many = omega arith });
       finishes = rw entries (record { from = omega arith; left = omega arith; numbered = refl; differ = nothing_differs; few = omega arith });
       finished = rw (entries, c.in_ok-make-3.ensures) (record { keys_are = refl; within = refl });
       free = rw slots (record { free_is = refl; within = omega arith; none_below = refl });

@@ -14,7 +14,8 @@ use Rattle.job_index.specs.Places.{LayerPlaces}
 use Rattle.job_book.specs.Names.{KeepsNames}
 use Rattle.job_book.specs.Ready.{has_priority}
 use Rattle.job_index.specs.Keys.{sorted}
-use Rattle.job_book.specs.Restored.{keys_beside, lists_in, noted_from, unplaced}
+use Rattle.job_index.specs.Names.{NameList}
+use Rattle.job_book.specs.Restored.{all_in, keys_beside, lists_in, noted_from, unplaced}
 use Rattle.job_book.proofs.RestoredBook.{few_jobs, finishes, layers_numbered, made_book, numbered, priorities, rise}
 use Rattle.job_book.proofs.RestoredEntries.{owned}
 use Rattle.job_book.proofs.RestoredIndex.{noted_count, noted_layers, noted_waiting}
@@ -81,14 +82,14 @@ invariant_of-result-3 c =
     let counted : c.in_ok-counts.counts.items ≡ counts_for b.jobs b.slots = c.in_ok-counts.ensures ∙ (λ i. counts_for (c.as_slice.ensures.value i) (c.as_slice-2.ensures.value i)) in
     let index = c.in_ok-index.ensures ∙ (λ i. noted_from 0 (c.as_slice-3.ensures.value i) (c.as_slice-4.ensures.value i) (map unplaced (c.as_slice-3.ensures.value i))) in
     let counts = c.as_slice-10.ensures.value ∙ counted in
-    let entries = c.in_ok-entries_of.ensures ∙ (λ i. record { rows = b.jobs; counts = counts i; layers = b.layers; index = index i; next = b.next_job }) in
+    let entries = c.in_ok-entries_of.ensures ∙ (λ i. all_in b.jobs (counts i) b.layers (index i) b.next_job) in
     let slots = c.in_ok-with_room.ensures.items in
     let keys = c.in_ok-finished.ensures ∙ ap (λ (js : List JobRow). sorted (map finish_key (filter is_finished js))) c.as_slice-6.ensures.value in
     let free = c.count_free-free.ensures ∙ ap free_in c.as_slice-9.ensures.value in
     let beside = λ (show : ℕ). (λ i. keys_beside show (c.as_slice-7.ensures.value i) ((c.as_slice-8.ensures.value ∙ counted) i)) ∙ beside_is show b.slots b.jobs in
     record {
       lists = rw (entries, slots) book;
-      names = rw entries (subst (λ (ns : List (List ℕ × ℕ)). KeepsNames ns b.jobs) (sym c.names.view_is) (subst (KeepsNames c.in_ok-names.names) c.as_slice-5.ensures.value c.in_ok-names.ensures));
+      names = rw entries (subst (λ (l : NameList). KeepsNames l.pairs b.jobs) (sym c.names.view_is) (subst (KeepsNames c.in_ok-names.names.pairs) c.as_slice-5.ensures.value c.in_ok-names.ensures));
       finishes = rw entries (record { from = kept.finish_from; left = kept.finish_within; numbered = kept.finishes_within; differ = kept.finishes_differ; few = kept.finished_count });
       finished = rw entries (record { keys_are = c.finished.view_is ∙ keys; within = finishes b MOST_SHOWS kept });
       free = rw slots (record { free_is = free; within = omega arith; none_below = refl });

@@ -1,4 +1,4 @@
-use Rattle.std.proofs.Common.{◌≡◌, ℕ, ◌<◌, ◌+◌, ◌∙◌, ◌∷◌, [], ◌++◌, List, drop, length, map, string_bytes, None, Some, cond, refl, sym, ap, arith}
+use Rattle.std.proofs.Common.{◌≡◌, ℕ, ◌<◌, ◌+◌, ◌-◌, ◌∙◌, ◌∷◌, [], ◌++◌, List, drop, length, map, string_bytes, None, Some, cond, refl, sym, ap, subst, arith}
 use Rattle.std.specs.List.{list_any}
 use Rattle.std.specs.Str.{bytes_eq}
 use Rattle.std.proofs.lemmas.Bool.{le-leb}
@@ -9,7 +9,7 @@ use Rattle.farm_types.specs.declared.rows.JobRow.{JobRow}
 use Rattle.farm_types.specs.declared.rows.LayerRow.{LayerRow}
 use Rattle.farm_types.specs.declared.slot_row.SlotRow.{SlotRow}
 use Rattle.farm_types.specs.Farm.{changed_at}
-use Rattle.farm_types.specs.Jobs.{JobLists, frames_in, free_among, free_in, job_refusal, job_row, layer_rows, place_frames, frames_of}
+use Rattle.farm_types.specs.Jobs.{JobLists, frames_in, free_among, job_refusal, job_row, layer_rows, place_frames, frames_of}
 use Rattle.job_book.specs.declared.counts.Counts.{Counts}
 use Rattle.job_index.specs.declared.limits.TheConstants.{MOST_JOBS}
 use Rattle.job_book.specs.declared.placing.Placing.{Placing}
@@ -17,23 +17,85 @@ use Rattle.job_book.specs.Book.{placing_of, with_new_job}
 use Rattle.job_book.specs.Counting.{new_counts}
 use Rattle.job_book.specs.Entries.{are_layers}
 use Rattle.job_book.specs.Inside.{book_of, counts_for}
-use Rattle.job_book.specs.Layers.{Spare, count_of, fresh_places, marks_of, put_places}
+use Rattle.job_book.specs.Layers.{Spare, count_of, fresh_places, marks_of}
 use Rattle.job_book.specs.Names.{is_named}
 use Rattle.job_index.specs.Names.{number_of}
 use Rattle.job_book.specs.OneJob.{AllJobs}
-use Rattle.job_book.specs.Puts.{free_from}
+use Rattle.job_book.specs.Lowest.{AreNext, behind, filled, lowest_free}
 use Rattle.job_book.specs.Ready.{has_priority, ready_key}
 use Rattle.job_index.specs.Keys.{put_key}
 use Rattle.job_book.proofs.FinishNumbers.{placed_finishes}
+use Rattle.job_book.proofs.FreePlaces.{put_lowest}
+use Rattle.job_book.proofs.FreeSlots.{behind_placed, filled_all, length-lowest_free, next_lowest}
+use Rattle.job_book.proofs.HeldKept.{same_lists}
 use Rattle.job_book.proofs.NamedJobs.{keeps_more, unnamed}
 use Rattle.job_book.proofs.Placed.{accepted_fits, length-layer_rows, placed_book, placed_counts, placed_finished, placed_free, rows_few, rows_are_layers}
 use Rattle.job_book.proofs.PlacedWaiting.{more_layers, more_waiting}
+use Rattle.job_book.proofs.Putting.{length-frames_of}
 use Rattle.job_book.proofs.ReadyKept.{placed_can, placed_ready}
 use Rattle.job_book.proofs.jobs.Jobs.place_new.Goals as goal
 
 pub put_layers-requires-clause-index : goal.put_layers-requires-clause-index
 put_layers-requires-clause-index c =
     ap (λ (s : Spare). s.layers) (c.reserved.view_is ∙ c.requires.reserved) ∙ ap (map fresh_places) (sym (c.as_slice.ensures.value ∙ c.taken_apart-row.ensures.layers))
+
+pub put_layers-requires-clause-next : goal.put_layers-requires-clause-next
+put_layers-requires-clause-next c =
+    let inside = c.self.inside in
+    let kept = c.self.invariant in
+    let ok = kept.lists in
+    let b = book_of inside in
+    let spec = c.args.spec in
+    let show = c.args.placing.show in
+    let accepted : job_refusal b spec ≡ None = ap (λ (l : JobLists). job_refusal l spec) c.self.view_is ∙ c.requires.accepted in
+    let placing : c.args.placing ≡ placing_of b show spec = c.requires.placing ∙ ap (λ (l : JobLists). placing_of l show spec) (sym c.self.view_is) in
+    let fits = accepted_fits b spec accepted in
+    let places : c.as_slice-places.result.now ≡ lowest_free 0 b.slots (frames_in spec.layers) = c.as_slice-places.ensures ∙ ap (λ (p : Placing). p.slots) placing in
+    subst (λ (ns : List ℕ). AreNext ns (length b.slots)) (sym places) (next_lowest 0 (length b.slots) b.slots (frames_in spec.layers) (omega arith) ok.slot_count (omega (arith, fits.0)))
+
+pub put_layers-requires-clause-count : goal.put_layers-requires-clause-count
+put_layers-requires-clause-count c =
+    let inside = c.self.inside in
+    let kept = c.self.invariant in
+    let ok = kept.lists in
+    let b = book_of inside in
+    let spec = c.args.spec in
+    let show = c.args.placing.show in
+    let accepted : job_refusal b spec ≡ None = ap (λ (l : JobLists). job_refusal l spec) c.self.view_is ∙ c.requires.accepted in
+    let placing : c.args.placing ≡ placing_of b show spec = c.requires.placing ∙ ap (λ (l : JobLists). placing_of l show spec) (sym c.self.view_is) in
+    let fits = accepted_fits b spec accepted in
+    let places : c.as_slice-places.result.now ≡ lowest_free 0 b.slots (frames_in spec.layers) = c.as_slice-places.ensures ∙ ap (λ (p : Placing). p.slots) placing in
+    ap length places ∙ length-lowest_free 0 b.slots (frames_in spec.layers) ∙ ap frames_in (sym (c.as_slice.ensures.value ∙ c.taken_apart-row.ensures.layers))
+
+pub behind_last-self-inside-requires-clause-some : goal.behind_last-self-inside-requires-clause-some
+behind_last-self-inside-requires-clause-some c =
+    let inside = c.self.inside in
+    let kept = c.self.invariant in
+    let ok = kept.lists in
+    let b = book_of inside in
+    let spec = c.args.spec in
+    let show = c.args.placing.show in
+    let accepted : job_refusal b spec ≡ None = ap (λ (l : JobLists). job_refusal l spec) c.self.view_is ∙ c.requires.accepted in
+    let placing : c.args.placing ≡ placing_of b show spec = c.requires.placing ∙ ap (λ (l : JobLists). placing_of l show spec) (sym c.self.view_is) in
+    let fits = accepted_fits b spec accepted in
+    let places : c.as_slice-places.result.now ≡ lowest_free 0 b.slots (frames_in spec.layers) = c.as_slice-places.ensures ∙ ap (λ (p : Placing). p.slots) placing in
+    omega (arith, ap length places, length-lowest_free 0 b.slots (frames_in spec.layers), c.requires.limits.frames_within.0)
+
+pub behind_last-self-inside-requires-clause-within : goal.behind_last-self-inside-requires-clause-within
+behind_last-self-inside-requires-clause-within c =
+    let inside = c.self.inside in
+    let kept = c.self.invariant in
+    let ok = kept.lists in
+    let b = book_of inside in
+    let spec = c.args.spec in
+    let show = c.args.placing.show in
+    let accepted : job_refusal b spec ≡ None = ap (λ (l : JobLists). job_refusal l spec) c.self.view_is ∙ c.requires.accepted in
+    let placing : c.args.placing ≡ placing_of b show spec = c.requires.placing ∙ ap (λ (l : JobLists). placing_of l show spec) (sym c.self.view_is) in
+    let fits = accepted_fits b spec accepted in
+    let places : c.as_slice-places.result.now ≡ lowest_free 0 b.slots (frames_in spec.layers) = c.as_slice-places.ensures ∙ ap (λ (p : Placing). p.slots) placing in
+    let frames_are = frames_of b.next_job 0 spec.layers in
+    let low = ap (behind 0) (places ∙ ap (lowest_free 0 b.slots) (sym (length-frames_of b.next_job 0 spec.layers))) in
+    omega (arith, low, (behind_placed 0 b.slots frames_are).within, (placed_book b show spec c.requires.limits accepted ok).slot_count)
 
 pub add_layers-requires-clause-capacity : goal.add_layers-requires-clause-capacity
 add_layers-requires-clause-capacity c =
@@ -45,7 +107,7 @@ add-requires-clause-new c =
     let inside = c.self.inside in
     let name : string_bytes c.reserved.inside.name ≡ c.args.spec.name = ap (λ (s : Spare). s.name) (c.reserved.view_is ∙ c.requires.reserved) in
     let none = ap (λ (l : JobLists). list_any (is_named c.args.spec.name) l.jobs) c.self.view_is ∙ c.requires.unnamed in
-    ap (λ (n : List ℕ). number_of n inside.names) name ∙ unnamed inside.names inside.entries.rows c.args.spec.name c.self.invariant.names none
+    ap (λ (n : List ℕ). number_of n inside.names.pairs) name ∙ unnamed inside.names.pairs inside.entries.rows c.args.spec.name c.self.invariant.names none
 
 pub add-requires-clause-few : goal.add-requires-clause-few
 add-requires-clause-few c =
@@ -148,13 +210,6 @@ add-requires-2-clause-few c =
     let few : length inside.entries.rows + 1 < MOST_JOBS = omega (arith, rows_few inside.slots.items inside.entries.rows ok.slots_had, ok.jobs_fit, kept.finishes.few, fits.0, c.requires.limits.frames_within.0) in
     omega (arith, few)
 
--- where as many are free from a place on as in all, none below it is
-none_below : (k : ℕ) (slots : List SlotRow) → free_from k slots ≡ free_in slots → free_among (drop k slots) ≡ free_among slots
-none_below k slots same = omega (arith, same)
-
-same_all : (a b : AllJobs) → a.rows ≡ b.rows → a.counts ≡ b.counts → a.layers ≡ b.layers → a.index ≡ b.index → a.next ≡ b.next → a ≡ b
-same_all a b e0 e1 e2 e3 e4 = λ i. record { rows = e0 i; counts = e1 i; layers = e2 i; index = e3 i; next = e4 i }
-
 pub invariant_of-self : goal.invariant_of-self
 invariant_of-self c =
     let inside = c.self.inside in
@@ -173,40 +228,44 @@ invariant_of-self c =
     let row : c.taken_apart-row.result.0 ≡ job_row b.next_job show spec = c.taken_apart-row.ensures.row ∙ ap (λ n. job_row n show spec) job in
     let name : string_bytes c.reserved.inside.name ≡ spec.name = ap (λ (s : Spare). s.name) (c.reserved.view_is ∙ c.requires.reserved) in
     let given = c.as_slice.ensures.value ∙ layers in
-    let new_slots : c.put_layers.new.slots.items ≡ place_frames b.slots (frames_of b.next_job 0 spec.layers) =
-    c.put_layers.ensures.slots ∙ ap (λ (n : ℕ). place_frames b.slots (frames_of n 0 c.as_slice.result.now)) job ∙ ap (λ (ls : List LayerSpec). place_frames b.slots (frames_of b.next_job 0 ls)) given in
+    let frames_are = frames_of b.next_job 0 spec.layers in
+    let places : c.as_slice-places.result.now ≡ lowest_free 0 b.slots (length frames_are) =
+    c.as_slice-places.ensures ∙ ap (λ (p : Placing). p.slots) placing ∙ ap (lowest_free 0 b.slots) (sym (length-frames_of b.next_job 0 spec.layers)) in
+    let new_slots : c.put_layers.new.slots.items ≡ place_frames b.slots frames_are =
+    c.put_layers.ensures.slots ∙ (λ i. filled (places i) (frames_of (job i) 0 (given i)) b.slots) ∙ filled_all b.slots frames_are in
     let new_rows : c.add_layers.new.rows.items ≡ layer_rows b.next_job 0 spec.layers =
     c.add_layers.ensures.rows ∙ ap (λ (ls : List LayerRow). ls ++ layer_rows c.args.placing.job 0 c.taken_apart-row.result.1.items) c.reserved.invariant.0
     ∙ ap (λ (n : ℕ). layer_rows n 0 c.taken_apart-row.result.1.items) job ∙ ap (λ (ls : List LayerSpec). layer_rows b.next_job 0 ls) layers in
     let waiting = c.all_waiting.ensures ∙ ap new_counts frames in
     let more = c.put_layers.new.index.items in
-    let entries : c.add-2.new.self ≡ record { rows = b.jobs ++ job_row b.next_job show spec ∷ []; counts = counts_for b.jobs b.slots ++ new_counts (frames_in spec.layers) ∷ []; layers = b.layers ++ layer_rows b.next_job 0 spec.layers; index = inside.entries.index ++ more; next = b.next_job + 1 } =
-    c.add-2.ensures ∙ same_all _ _ (ap (λ (r : JobRow). b.jobs ++ r ∷ []) row) (ap (λ (cs : List Counts). cs ++ c.all_waiting.result ∷ []) kept.counts_are ∙ ap (λ (k : Counts). counts_for b.jobs b.slots ++ k ∷ []) waiting) (ap (λ (ls : List LayerRow). b.layers ++ ls) new_rows) refl refl in
+    let entries : c.add-2.new.self ≡ record { rows = b.jobs ++ job_row b.next_job show spec ∷ []; counts = counts_for b.jobs b.slots ++ new_counts (frames_in spec.layers) ∷ []; layers = b.layers ++ layer_rows b.next_job 0 spec.layers; index = inside.entries.index ++ more; next = b.next_job + 1; numbers = c.add-2.new.self.numbers } =
+    c.add-2.ensures ∙ same_lists _ _ (ap (λ (r : JobRow). b.jobs ++ r ∷ []) row) (ap (λ (cs : List Counts). cs ++ c.all_waiting.result ∷ []) kept.counts_are ∙ ap (λ (k : Counts). counts_for b.jobs b.slots ++ k ∷ []) waiting) (ap (λ (ls : List LayerRow). b.layers ++ ls) new_rows) refl refl refl in
     let placed = placed_book b show spec c.requires.limits accepted ok in
     let free = placed_free b show spec c.requires.limits accepted ok in
     let counted = placed_counts b show spec c.requires.limits accepted ok in
     let none = ap (λ (l : JobLists). list_any (is_named spec.name) l.jobs) c.self.view_is ∙ c.requires.unnamed in
-    let found = λ (other : List ℕ). c.add.ensures.others other ∙ ap (λ (n : List ℕ). cond (bytes_eq n other) (Some c.args.placing.job) (number_of other inside.names)) name
-    ∙ ap (λ (n : ℕ). cond (bytes_eq spec.name other) (Some n) (number_of other inside.names)) job in
-    let left = c.put_layers.ensures.left in
-    let spec_frames = ap frames_in given in
+    let found = λ (other : List ℕ). c.add.ensures.others other ∙ ap (λ (n : List ℕ). cond (bytes_eq n other) (Some c.args.placing.job) (number_of other inside.names.pairs)) name
+    ∙ ap (λ (n : ℕ). cond (bytes_eq spec.name other) (Some n) (number_of other inside.names.pairs)) job in
+    let low : c.behind_last-self-inside.result ≡ behind 0 (lowest_free 0 b.slots (length frames_are)) = c.behind_last-self-inside.ensures ∙ ap (behind 0) places in
+    let last = behind_placed 0 b.slots frames_are in
+    let here : behind 0 (lowest_free 0 b.slots (length frames_are)) - 0 ≡ behind 0 (lowest_free 0 b.slots (length frames_are)) = omega arith in
     let numbered = c.put_layers.ensures.lengths ∙ ap (map (λ (l : LayerSpec). length l.numbers)) given in
     let marked = c.put_layers.ensures.marks ∙ ap (λ (s : Spare). map marks_of s.layers) (c.reserved.view_is ∙ c.requires.reserved) in
-    let went = c.put_layers.ensures.places ∙ ap (λ (ls : List LayerSpec). put_places 0 inside.slots.items (frames_of c.args.placing.job 0 ls)) given ∙ ap (λ (n : ℕ). put_places 0 inside.slots.items (frames_of n 0 spec.layers)) job in
+    let went = c.put_layers.ensures.places ∙ places ∙ sym (put_lowest 0 b.slots frames_are) in
     let layers_kept = more_layers b.layers b.slots inside.entries.index more b.next_job spec.layers ok.layers_rise placed.layers_rise ok.frames_below kept.layers kept.waiting went numbered marked in
     let waiting_kept = more_waiting b.layers b.slots inside.entries.index more b.next_job spec.layers ok.layers_rise placed.layers_rise ok.frames_below kept.layers kept.waiting went numbered marked in
     let ready = placed_ready b show spec c.requires.limits ok placed few inside.ready.items kept.ready in
     let ready_is = c.put_ready.ensures ∙ ap (λ (r : JobRow). changed_at inside.ready.items r.show (put_key (ready_key r))) row in
     record {
       lists = rw (entries, new_slots) placed;
-      names = rw entries (keeps_more inside.names c.add.new.self b.jobs (job_row b.next_job show spec) none found c.add.ensures.count kept.names);
+      names = rw entries (keeps_more inside.names.pairs c.add.new.self.pairs b.jobs (job_row b.next_job show spec) none found c.add.ensures.count kept.names);
       finishes = rw entries (placed_finishes b show spec kept.finishes);
       finished = rw entries (placed_finished b show spec inside.finished kept.finished);
-      free = record {
-        free_is = rw new_slots (omega (arith, free, kept.free.free_is, frames));
-        within = c.put_layers.ensures.within;
-        none_below = none_below c.put_layers.result c.put_layers.new.slots.items (omega (arith, left, spec_frames, free, ap free_in new_slots));
-      };
+      free = rw (new_slots, low) (record {
+        free_is = omega (arith, free, kept.free.free_is, frames);
+        within = omega (arith, last.within);
+        none_below = ap (λ (n : ℕ). free_among (drop n (place_frames b.slots frames_are))) (sym here) ∙ last.none_below;
+      });
       layers = rw (entries, new_slots) layers_kept;
       waiting = rw (entries, new_slots) waiting_kept;
       ready = rw (entries, new_slots, ready_is) ready;
@@ -229,8 +288,11 @@ returns-clause-book c =
     let layers = c.taken_apart-row.ensures.layers in
     let row : c.taken_apart-row.result.0 ≡ job_row b.next_job show spec = c.taken_apart-row.ensures.row ∙ ap (λ n. job_row n show spec) job in
     let given = c.as_slice.ensures.value ∙ layers in
-    let new_slots : c.put_layers.new.slots.items ≡ place_frames b.slots (frames_of b.next_job 0 spec.layers) =
-    c.put_layers.ensures.slots ∙ ap (λ (n : ℕ). place_frames b.slots (frames_of n 0 c.as_slice.result.now)) job ∙ ap (λ (ls : List LayerSpec). place_frames b.slots (frames_of b.next_job 0 ls)) given in
+    let frames_are = frames_of b.next_job 0 spec.layers in
+    let places : c.as_slice-places.result.now ≡ lowest_free 0 b.slots (length frames_are) =
+    c.as_slice-places.ensures ∙ ap (λ (p : Placing). p.slots) placing ∙ ap (lowest_free 0 b.slots) (sym (length-frames_of b.next_job 0 spec.layers)) in
+    let new_slots : c.put_layers.new.slots.items ≡ place_frames b.slots frames_are =
+    c.put_layers.ensures.slots ∙ (λ i. filled (places i) (frames_of (job i) 0 (given i)) b.slots) ∙ filled_all b.slots frames_are in
     let new_rows : c.add_layers.new.rows.items ≡ layer_rows b.next_job 0 spec.layers =
     c.add_layers.ensures.rows ∙ ap (λ (ls : List LayerRow). ls ++ layer_rows c.args.placing.job 0 c.taken_apart-row.result.1.items) c.reserved.invariant.0
     ∙ ap (λ (n : ℕ). layer_rows n 0 c.taken_apart-row.result.1.items) job ∙ ap (λ (ls : List LayerSpec). layer_rows b.next_job 0 ls) layers in

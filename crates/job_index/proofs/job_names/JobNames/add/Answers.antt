@@ -2,7 +2,7 @@ use Rattle.std.proofs.Common.{◌≡◌, ◌∙◌, ◌++◌, ◌∷◌, [], ℕ
 use Rattle.std.specs.Str.{bytes_eq}
 use Rattle.std.proofs.lemmas.List.{length-map, map_push}
 use Rattle.indexmap.proofs.CallerLemmas.{insert_entry-new}
-use Rattle.job_index.specs.Names.{number_of}
+use Rattle.job_index.specs.Names.{NameList, number_of}
 use Rattle.job_index.proofs.TextNumbers.{added_first, added_last, err_holds, if_err_holds, looked_up, none_in_first, ok_holds, text_number}
 use Rattle.job_index.proofs.job_names.JobNames.add.Goals as goal
 
@@ -12,10 +12,10 @@ returns-in-Ok-clause-others c other =
     let job = c.args.job in
     let late = c.self.inside.late.items in
     let old = c.self.inside.numbers in
-    let new : number_of name (map text_number old.entries ++ late) ≡ None = ap (number_of name) c.self.view_is ∙ c.requires.new in
+    let new : number_of name (map text_number old.entries ++ late) ≡ None = ap (λ (l : NameList). number_of name l.pairs) c.self.view_is ∙ c.requires.new in
     let entries = ok_holds _ _ _ c.in-Ok.is c.insert.ensures.entries ∙ insert_entry-new _ old c.args.name job (looked_up name old.entries ∙ none_in_first name (map text_number old.entries) late new) in
     ap (λ (es : List _). number_of other (map text_number es ++ late)) entries ∙ ap (λ (ps : List (List ℕ × ℕ)). number_of other (ps ++ late)) (map_push text_number old.entries (c.args.name, job))
-    ∙ added_first name job (map text_number old.entries) late new other ∙ ap (λ (ps : List (List ℕ × ℕ)). cond (bytes_eq name other) (Some job) (number_of other ps)) c.self.view_is
+    ∙ added_first name job (map text_number old.entries) late new other ∙ ap (λ (l : NameList). cond (bytes_eq name other) (Some job) (number_of other l.pairs)) c.self.view_is
 
 pub returns-in-Ok-clause-count : goal.returns-in-Ok-clause-count
 returns-in-Ok-clause-count c =
@@ -23,7 +23,7 @@ returns-in-Ok-clause-count c =
     let job = c.args.job in
     let late = c.self.inside.late.items in
     let old = c.self.inside.numbers in
-    let new : number_of name (map text_number old.entries ++ late) ≡ None = ap (number_of name) c.self.view_is ∙ c.requires.new in
+    let new : number_of name (map text_number old.entries ++ late) ≡ None = ap (λ (l : NameList). number_of name l.pairs) c.self.view_is ∙ c.requires.new in
     let entries = ok_holds _ _ _ c.in-Ok.is c.insert.ensures.entries ∙ insert_entry-new _ old c.args.name job (looked_up name old.entries ∙ none_in_first name (map text_number old.entries) late new) in
     omega (
       arith,
@@ -33,7 +33,7 @@ returns-in-Ok-clause-count c =
       length-append old.entries ((c.args.name, job) ∷ []),
       length-append (map text_number old.entries) late,
       length-map old.entries text_number,
-      ap (λ (ps : List (List ℕ × ℕ)). length ps) c.self.view_is,
+      ap (λ (l : NameList). length l.pairs) c.self.view_is,
     )
 
 pub returns-in-Err-clause-others : goal.returns-in-Err-clause-others
@@ -42,9 +42,9 @@ returns-in-Err-clause-others c other =
     let job = c.args.job in
     let late = c.self.inside.late.items in
     let old = c.self.inside.numbers in
-    let new : number_of name (map text_number old.entries ++ late) ≡ None = ap (number_of name) c.self.view_is ∙ c.requires.new in
+    let new : number_of name (map text_number old.entries ++ late) ≡ None = ap (λ (l : NameList). number_of name l.pairs) c.self.view_is ∙ c.requires.new in
     let entries = err_holds _ _ _ c.in-Err.is c.insert.ensures.err in
     let back = if_err_holds _ _ _ c.in-Err.is c.insert.ensures.value_returned in
     ap (λ (es : List _). number_of other (map text_number es ++ c.add_late.new.late.items)) entries
     ∙ ap (λ (ls : List (List ℕ × ℕ)). number_of other (map text_number old.entries ++ ls)) (c.add_late.ensures.items ∙ ap (λ p. late ++ (string_bytes p.0, p.1) ∷ []) back)
-    ∙ added_last name job (map text_number old.entries) late new other ∙ ap (λ (ps : List (List ℕ × ℕ)). cond (bytes_eq name other) (Some job) (number_of other ps)) c.self.view_is
+    ∙ added_last name job (map text_number old.entries) late new other ∙ ap (λ (l : NameList). cond (bytes_eq name other) (Some job) (number_of other l.pairs)) c.self.view_is

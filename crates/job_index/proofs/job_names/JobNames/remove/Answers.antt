@@ -3,7 +3,7 @@ use Rattle.std.specs.Option.{option_or}
 use Rattle.std.specs.Str.{bytes_eq}
 use Rattle.std.proofs.lemmas.List.{length-map}
 use Rattle.std.proofs.lemmas.Map.Text.{hash_map_updates_text}
-use Rattle.job_index.specs.Names.{number_of}
+use Rattle.job_index.specs.Names.{NameList, number_of}
 use Rattle.job_index.proofs.TextNumbers.{count_left, fewer_left, found_count, found_in_both, looked_up, name_left, or_by, stays, text_number}
 use Rattle.job_index.proofs.job_names.JobNames.remove.Goals as goal
 
@@ -18,7 +18,7 @@ returns-clause-others c other =
     found_in_both other (map text_number new.entries) c.remove_late.new.late.items
     ∙ ap (λ (o : Option ℕ). option_or o (number_of other c.remove_late.new.late.items)) first ∙ ap (option_or (cond (bytes_eq name other) None (number_of other (map text_number old.entries)))) second
     ∙ or_by (bytes_eq name other) (number_of other (map text_number old.entries)) (number_of other late)
-    ∙ ap (cond (bytes_eq name other) None) (sym (found_in_both other (map text_number old.entries) late) ∙ ap (number_of other) c.self.view_is)
+    ∙ ap (cond (bytes_eq name other) None) (sym (found_in_both other (map text_number old.entries) late) ∙ ap (λ (l : NameList). number_of other l.pairs) c.self.view_is)
 
 pub returns-clause-count : goal.returns-clause-count
 returns-clause-count c =
@@ -31,8 +31,8 @@ returns-clause-count c =
     let count : length new.entries + cond (is_some there) 1 0 ≡ length old.entries =
     subst (λ (o : Option ℕ). length new.entries + cond (is_some o) 1 0 ≡ length old.entries) found c.swap_remove.ensures.len in
     let total = found_count name (length new.entries) (length old.entries) (length (filter (stays name) late)) (length late) there (number_of name late) count (fewer_left name late) (count_left name late) in
-    let either : number_of name c.args.self.now ≡ option_or there (number_of name late) = ap (number_of name) (sym c.self.view_is) ∙ found_in_both name (map text_number old.entries) late in
-    subst (λ (o : Option ℕ). length (map text_number new.entries ++ c.remove_late.new.late.items) + cond (is_some o) 1 0 ≤ length c.args.self.now) (sym either)
+    let either : number_of name c.args.self.now.pairs ≡ option_or there (number_of name late) = ap (λ (l : NameList). number_of name l.pairs) (sym c.self.view_is) ∙ found_in_both name (map text_number old.entries) late in
+    subst (λ (o : Option ℕ). length (map text_number new.entries ++ c.remove_late.new.late.items) + cond (is_some o) 1 0 ≤ length c.args.self.now.pairs) (sym either)
     (omega (
       arith,
       total,
@@ -41,5 +41,5 @@ returns-clause-count c =
       ap (λ (ls : List (List ℕ × ℕ)). length ls) c.remove_late.ensures.items,
       length-append (map text_number old.entries) late,
       length-map old.entries text_number,
-      ap (λ (ps : List (List ℕ × ℕ)). length ps) c.self.view_is,
+      ap (λ (l : NameList). length l.pairs) c.self.view_is,
     ))
