@@ -39,7 +39,7 @@ fn list_depend(farm: &Farm, number: &DependNo, page: &mut Page) -> Result<(), Al
     requires { page.old.seen < 2 ^ 63 }
     ensures { OnOk result (page.new ≡ offered_all page.old (rows_if (option_map depend_row (depend_at farm.now number.now)))) }
 {
-    let Some(depend) = farm.depend(*number) else {
+    let Some(depend) = farm.books().depend(*number) else {
         return Ok(());
     };
     if !page.takes_next() {

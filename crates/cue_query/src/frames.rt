@@ -23,7 +23,7 @@ pub(crate) fn list_frames(
     ensures { OnOk result (page.new ≡ offered_all page.old (frame_rows farm.now job)) }
 {
     farm.kept();
-    for layer in farm.jobs().layers_of(job) {
+    for layer in farm.books().jobs().layers_of(job) {
         list_frames_in(alloc, farm, layer, page)?;
     }
     Ok(())
@@ -41,7 +41,7 @@ fn list_frames_in(
     ensures { OnOk result (page.new ≡ offered_all page.old (frames_in farm.now layer.now)) }
 {
     farm.kept();
-    let slots = farm.jobs().layer_slots(layer.job, layer.place);
+    let slots = farm.books().jobs().layer_slots(layer.job, layer.place);
     let count = slots.len();
     let mut place = page.next_row(0, count);
     while place < count {
@@ -62,7 +62,7 @@ fn list_frame_at(
     requires { page.old.seen < 2 ^ 63 }
     ensures { OnOk result (page.new ≡ offered_all page.old (rows_if (frame_at farm.now layer.now slot.now))) }
 {
-    let Some(row) = farm.slot(*slot) else {
+    let Some(row) = farm.books().slot(*slot) else {
         return Ok(());
     };
     list_frame(alloc, &row, layer, page)

@@ -17,7 +17,7 @@ pub(crate) fn list_hosts(alloc: Global, farm: &Farm, page: &mut Page) -> Result<
     requires { page.old.seen ≡ 0 }
     ensures { OnOk result (page.new ≡ offered_all page.old (host_rows farm.now 0 farm.now.hosts)) }
 {
-    let count = farm.count_hosts();
+    let count = farm.books().count_hosts();
     let mut place = page.next_row(0, count);
     while place < count {
         list_host(alloc, farm, HostNo(place as u16), page)?;
@@ -31,7 +31,7 @@ fn list_host(alloc: Global, farm: &Farm, number: HostNo, page: &mut Page) -> Res
     requires { page.old.seen < 2 ^ 63 }
     ensures { OnOk result (page.new ≡ offered_all page.old (rows_if (option_map (host_row farm.now number) (slice_get farm.now.hosts number)))) }
 {
-    let Some(host) = farm.host(number) else {
+    let Some(host) = farm.books().host(number) else {
         return Ok(());
     };
     if !page.takes_next() {

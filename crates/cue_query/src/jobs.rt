@@ -37,7 +37,7 @@ pub(crate) fn list_jobs(alloc: Global, farm: &Farm, page: &mut Page) -> Result<(
 fn numbers_of(alloc: Global, farm: &Farm) -> Result<Vec<JobNo>, AllocError>
     ensures { IfOk result (λ numbers. numbers.items ≡ map job_key farm.now.jobs) }
 {
-    farm.jobs().numbers(alloc)
+    farm.books().jobs().numbers(alloc)
 }
 
 // Lists the job of that number, if there is one.
@@ -45,7 +45,7 @@ fn list_job(alloc: Global, farm: &Farm, number: &JobNo, page: &mut Page) -> Resu
     requires { page.old.seen < 2 ^ 63 }
     ensures { OnOk result (page.new ≡ offered_all page.old (rows_if (option_map (job_row farm.now) (job_at farm.now number.now)))) }
 {
-    let Some(job) = farm.job(*number) else {
+    let Some(job) = farm.books().job(*number) else {
         return Ok(());
     };
     if !page.takes_next() {
@@ -83,7 +83,7 @@ fn counts_of(farm: &Farm, job: &JobRow) -> Counts
     ensures { result ≡ job_counts farm.now job.now }
 {
     match job.state {
-        JobState::Pending => farm.jobs().counts(job.job),
+        JobState::Pending => farm.books().jobs().counts(job.job),
         JobState::Finished => Counts {
             waiting: 0,
             setup: 0,

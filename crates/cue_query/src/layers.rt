@@ -24,7 +24,7 @@ pub(crate) fn list_layers(
     requires { page.old.seen ≡ 0 }
     ensures { OnOk result (page.new ≡ offered_all page.old (layer_rows farm.now job)) }
 {
-    let layers = farm.jobs().layers_of(job);
+    let layers = farm.books().jobs().layers_of(job);
     let count = layers.len();
     let mut place = page.next_row(0, count);
     while place < count {
@@ -80,8 +80,8 @@ fn counts_of(farm: &Farm, layer: &LayerRow) -> Counts
 {
     farm.kept();
     let mut counts = no_counts();
-    for slot in farm.jobs().layer_slots(layer.job, layer.place) {
-        let Some(state) = farm.jobs().state(*slot).0 else {
+    for slot in farm.books().jobs().layer_slots(layer.job, layer.place) {
+        let Some(state) = farm.books().jobs().state(*slot).0 else {
             continue;
         };
         count(&mut counts, state);

@@ -14,7 +14,7 @@ use std::alloc::{AllocError, Global};
 pub(crate) fn show_name(alloc: Global, farm: &Farm, show: ShowNo) -> Result<Text, AllocError>
     ensures { IfOk result (λ name. name ≡ show_name farm.now show) }
 {
-    match farm.show(show) {
+    match farm.books().show(show) {
         None => Ok(no_name(alloc)),
         Some(row) => row.name.copy(alloc),
     }
@@ -24,7 +24,7 @@ pub(crate) fn show_name(alloc: Global, farm: &Farm, show: ShowNo) -> Result<Text
 pub(crate) fn alloc_name(alloc: Global, farm: &Farm, number: AllocNo) -> Result<Text, AllocError>
     ensures { IfOk result (λ name. name ≡ name_at_alloc farm.now number) }
 {
-    match farm.allocation(number) {
+    match farm.books().allocation(number) {
         None => Ok(no_name(alloc)),
         Some(row) => name_of_alloc(alloc, row),
     }
@@ -44,7 +44,7 @@ pub(crate) fn name_of_alloc(alloc: Global, row: &AllocRow) -> Result<Text, Alloc
 pub(crate) fn host_name(alloc: Global, farm: &Farm, host: HostNo) -> Result<Text, AllocError>
     ensures { IfOk result (λ name. name ≡ host_name farm.now host) }
 {
-    match farm.host(host) {
+    match farm.books().host(host) {
         None => Ok(no_name(alloc)),
         Some(row) => row.name.copy(alloc),
     }
@@ -61,7 +61,7 @@ pub(crate) fn job_of_frame(
     let Some(frame) = frame else {
         return Ok(no_name(alloc));
     };
-    match farm.job(frame.job) {
+    match farm.books().job(frame.job) {
         None => Ok(no_name(alloc)),
         Some(row) => row.name.copy(alloc),
     }
@@ -78,7 +78,7 @@ pub(crate) fn name_of_frame(
     let Some(frame) = frame else {
         return Ok(no_name(alloc));
     };
-    match farm.layer(frame.job, frame.layer) {
+    match farm.books().layer(frame.job, frame.layer) {
         None => frame_name(alloc, frame.number, ""),
         Some(layer) => frame_name(alloc, frame.number, layer.name.as_str()),
     }

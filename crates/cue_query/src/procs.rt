@@ -17,7 +17,7 @@ pub(crate) fn list_procs(alloc: Global, farm: &Farm, page: &mut Page) -> Result<
     requires { page.old.seen ≡ 0 }
     ensures { OnOk result (page.new ≡ offered_all page.old (proc_rows farm.now)) }
 {
-    for slot in farm.slots() {
+    for slot in farm.books().slots() {
         list_proc(alloc, farm, slot, page)?;
     }
     Ok(())

@@ -60,7 +60,7 @@ fn list_rows(alloc: Global, farm: &Farm, what: &Listed, page: &mut Page) -> Resu
 fn pending(alloc: Global, farm: &Farm, name: &Text) -> Result<JobNo, FarmFault>
     ensures { FindsJob farm.now name.now result }
 {
-    let jobs = farm.jobs();
+    let jobs = farm.books().jobs();
     let Some(job) = jobs.pending(name.as_str()) else {
         return Err(missing(alloc, jobs, name));
     };

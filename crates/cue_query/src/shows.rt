@@ -19,7 +19,7 @@ pub(crate) fn list_shows(alloc: Global, farm: &Farm, page: &mut Page) -> Result<
 {
     farm.kept();
     let mut number = 0;
-    while let Some(show) = farm.show(ShowNo(number)) {
+    while let Some(show) = farm.books().show(ShowNo(number)) {
         list_show(alloc, show, page)?;
         number += 1;
     }
@@ -33,7 +33,7 @@ pub(crate) fn list_allocs(alloc: Global, farm: &Farm, page: &mut Page) -> Result
 {
     farm.kept();
     let mut number = 0;
-    while let Some(row) = farm.allocation(AllocNo(number)) {
+    while let Some(row) = farm.books().allocation(AllocNo(number)) {
         list_alloc(alloc, row, page)?;
         number += 1;
     }

@@ -17,7 +17,7 @@ pub(crate) fn list_subs(alloc: Global, farm: &Farm, page: &mut Page) -> Result<(
     requires { page.old.seen ≡ 0 }
     ensures { OnOk result (page.new ≡ offered_all page.old (map (sub_row farm.now) farm.now.subs)) }
 {
-    let rows = farm.subs().rows(alloc)?;
+    let rows = farm.books().subs().rows(alloc)?;
     let subs = rows.as_slice();
     let count = subs.len();
     let mut place = page.next_row(0, count);
@@ -47,7 +47,7 @@ fn shown(alloc: Global, farm: &Farm, sub: &SubRow) -> Result<ListRow, AllocError
 {
     Ok(ListRow::Sub(ShownSub {
         alloc: alloc_name(alloc, farm, alloc_of(sub.sub))?,
-        booked: farm.booked(sub.sub),
+        booked: farm.books().booked(sub.sub),
         burst: sub.burst,
         show: show_name(alloc, farm, show_of(sub.sub))?,
         size: sub.size,

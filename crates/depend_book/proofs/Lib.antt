@@ -2,11 +2,16 @@ pub mod Added
 pub mod Chained
 pub mod Forgotten
 pub mod Kept
+pub mod Marked
 pub mod MarkedAt
 pub mod MarksLeft
 pub mod Older
+pub mod OneCleared
+pub mod OpenUnmet
+pub mod Pairs
 pub mod PlaceChanged
 pub mod Restored
 pub mod RowsThere
 pub mod Satisfied
 pub mod WaitingDown
+pub mod Zips

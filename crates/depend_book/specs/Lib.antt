@@ -1,4 +1,5 @@
 pub mod Book
+pub mod Fits
 pub mod Forgotten
 pub mod Inside
 pub mod Restored

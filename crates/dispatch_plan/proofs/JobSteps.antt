@@ -1,21 +1,19 @@
 -- A job's ranks, layer by layer; a show's, job by job; and all, subscription by subscription.
-use Rattle.std.proofs.Common.{◌≡◌, ℕ, zero, suc, ◌+◌, ◌-◌, ◌≤◌, ◌<◌, ◌&&◌, Bool, true, false, cond, List, [], ◌∷◌, length, drop, Some, None, refl, sym, ap, subst, ◌∙◌, arith, eqb, find, filter}
+use Rattle.std.proofs.Common.{◌≡◌, ℕ, zero, suc, ◌+◌, ◌-◌, ◌≤◌, ◌&&◌, Bool, true, false, cond, List, [], ◌∷◌, length, drop, Some, None, refl, sym, ap, subst, ◌∙◌, arith, eqb, find, filter}
 use Rattle.std.specs.List.{slice_get, flat_map}
-use Rattle.std.specs.Prelude.{nat_lt}
-use Rattle.std.proofs.lemmas.Bool.{eqb-true, eq-eqb, ltb-true, false≢true}
+use Rattle.std.proofs.lemmas.Bool.{eqb-true, eq-eqb, false≢true}
 use Rattle.std.proofs.lemmas.Option.{same_Some, none-some}
 use Rattle.farm_types.specs.declared.dispatch.Candidate.{Candidate}
 use Rattle.farm_types.specs.declared.dispatch.Rank.{Rank}
 use Rattle.farm_types.specs.declared.rows.LayerRow.{LayerRow}
-use Rattle.farm_types.specs.declared.limits.TheConstants.{CANDIDATES_EACH, MOST_LAYERS}
+use Rattle.farm_types.specs.declared.limits.TheConstants.{CANDIDATES_EACH, MOST_FRAMES}
 use Rattle.farm_types.specs.Farm.{Farm, layer_at, layers_of}
-use Rattle.farm_types.specs.Kept.{KeepsRows, AreAtPlaces, is_formed_layer}
-use Rattle.farm_types.proofs.Lists.{and_both, found_is, list_all-at}
-use Rattle.dispatch_law.specs.ByIndex.{ranks_in_layer}
-use Rattle.dispatch_plan.specs.Offers.{IsBilled, IsPending, offered}
-use Rattle.dispatch_law.proofs.Found.{has_filter}
+use Rattle.farm_types.specs.Kept.{KeepsRows, AreAtPlaces}
+use Rattle.farm_types.specs.Ranges.{range_numbers}
+use Rattle.farm_types.proofs.Lists.{and_both, found_is}
+use Rattle.dispatch_plan.specs.Offers.{IsPending, offered}
 use Rattle.dispatch_plan.proofs.Offered.{offered_full, offered_more, offered_none}
-use Rattle.dispatch_law.proofs.Strict.{Has, has_first, has_later}
+use Rattle.dispatch_plan.proofs.Plans.{layer_short}
 
 -- ---- one layer after another
 
@@ -49,38 +47,14 @@ find_place place n [] at low = refl
 find_place place n (l ∷ ls) at low = place_by place n l ls (eqb l.place n) refl at.0 low (λ above. find_place (place + 1) n ls at.1 above)
 
 -- a job's layer at a place is the one at that place of its list
-pub layer_is : (f : Farm) (job n : ℕ) → AreAtPlaces 0 (layers_of f.layers job) → layer_at f job n ≡ slice_get (layers_of f.layers job) n
+layer_is : (f : Farm) (job n : ℕ) → AreAtPlaces 0 (layers_of f.layers job) → layer_at f job n ≡ slice_get (layers_of f.layers job) n
 layer_is f job n at =
     find_both (λ (l : LayerRow). eqb l.job job) (λ (l : LayerRow). eqb l.place n) f.layers
     ∙ (find_place 0 n (layers_of f.layers job) at (omega arith) ∙ (let e : n - 0 ≡ n = omega arith in ap (slice_get (layers_of f.layers job)) e))
 
 -- the layers of a pending job
-pub layers_at : (f : Farm) (job : ℕ) → KeepsRows f → IsPending f job → AreAtPlaces 0 (layers_of f.layers job)
+layers_at : (f : Farm) (job : ℕ) → KeepsRows f → IsPending f job → AreAtPlaces 0 (layers_of f.layers job)
 layers_at f job kept it = subst (λ n. AreAtPlaces 0 (layers_of f.layers n)) it.number_is ((kept.jobs.jobs_layered it.place it.job it.at it.pending).places)
-
-few_by : (place : ℕ) (ls : List LayerRow) → AreAtPlaces place ls → ((l : LayerRow) → Has ls l → l.place < MOST_LAYERS) → place ≤ MOST_LAYERS → place + length ls ≤ MOST_LAYERS
-few_by place [] at below low = omega arith
-few_by place (l ∷ ls) at below low =
-    let here = at.0 in
-    let first = below l (has_first l ls) in
-    let later = few_by (place + 1) ls at.1 (λ m h. below m (has_later l m ls h)) (omega (arith, here, first)) in
-    omega (arith, later)
-
-layer_place : (l : LayerRow) → is_formed_layer l ≡ true → l.place < MOST_LAYERS
-layer_place l h = ltb-true l.place MOST_LAYERS (second_of h)
-  where
-    second_by : (a b c : Bool) → (a && (b && c)) ≡ true → b ≡ true
-    second_by a b c e = (and_both b c (and_both a (b && c) e).1).0
-
-    second_of : is_formed_layer l ≡ true → nat_lt l.place MOST_LAYERS ≡ true
-    second_of e = second_by _ (nat_lt l.place MOST_LAYERS) _ e
-
--- there are as many at most as a job has
-pub layers_few : (f : Farm) (job : ℕ) → KeepsRows f → IsPending f job → length (layers_of f.layers job) ≤ MOST_LAYERS
-layers_few f job kept it =
-    let few = few_by 0 (layers_of f.layers job) (layers_at f job kept it)
-    (λ l h. let in_all = (has_filter (λ (m : LayerRow). eqb m.job job) f.layers l h).there in layer_place l (list_all-at is_formed_layer f.layers in_all.place l kept.jobs.layers_formed in_all.at)) (omega arith) in
-    omega (arith, few)
 
 -- ---- a list of pieces
 
@@ -100,7 +74,7 @@ pub piece_step : {X : Type 0} (g : X → List Rank) (xs : List X) (n : ℕ) (x :
 piece_step g xs n x plan at = ap (λ ys. offered plan (flat_map g ys)) (drop_at xs n x at) ∙ sym (offered_more plan (g x) (flat_map g (drop (n + 1) xs)))
 
 -- past the last there is none
-pub piece_end : {X : Type 0} (g : X → List Rank) (xs : List X) (n : ℕ) (plan : List Candidate) → slice_get xs n ≡ None → offered plan (flat_map g (drop n xs)) ≡ offered plan []
+piece_end : {X : Type 0} (g : X → List Rank) (xs : List X) (n : ℕ) (plan : List Candidate) → slice_get xs n ≡ None → offered plan (flat_map g (drop n xs)) ≡ offered plan []
 piece_end g xs n plan past = ap (λ ys. offered plan (flat_map g ys)) (drop_past xs n past)
 
 -- ---- a job's layers
@@ -110,35 +84,28 @@ layer_found f job n l e =
     let both = and_both (eqb l.job job) (eqb l.place n) (found_is (λ (m : LayerRow). eqb m.job job && eqb m.place n) f.layers l e) in
     (eqb-true l.job job both.0, eqb-true l.place n both.1)
 
--- a layer that is found is the one of its own numbers
-pub layer_there : (f : Farm) (job n : ℕ) (l : LayerRow) → layer_at f job n ≡ Some l → layer_at f l.job l.place ≡ Some l
-layer_there f job n l e = (let is = layer_found f job n l e in ap (λ j. layer_at f j l.place) is.0 ∙ (ap (layer_at f job) is.1 ∙ e))
+-- what a layer of a pending job's list is asked for
+pub record IsOfJob (f : Farm) (job : ℕ) (l : LayerRow) : Type 0 where
+  pub there : layer_at f l.job l.place ≡ Some l
+  pub job_is : job ≡ l.job
+  pub short : length (range_numbers l.range) ≤ MOST_FRAMES
 
-pub layer_billed : (f : Farm) (host job n sub : ℕ) (l : LayerRow) → layer_at f job n ≡ Some l → IsBilled f host job sub → IsBilled f host l.job sub
-layer_billed f host job n sub l e billed = subst (λ j. IsBilled f host j sub) (sym (layer_found f job n l e).0) billed
+pub of_job : (f : Farm) (job n : ℕ) (l : LayerRow) → KeepsRows f → IsPending f job → slice_get (layers_of f.layers job) n ≡ Some l → IsOfJob f job l
+of_job f job n l kept it at =
+    let found : layer_at f job n ≡ Some l = layer_is f job n (layers_at f job kept it) ∙ at in
+    let is = layer_found f job n l found in
+    record {
+      there = ap (λ j. layer_at f j l.place) is.0 ∙ (ap (layer_at f job) is.1 ∙ found);
+      job_is = sym is.0;
+      short = layer_short f job n l kept it at;
+    }
 
--- what holds of the job's number holds of the layer's
-pub layer_owned : (P : ℕ → Type 0) (f : Farm) (job n : ℕ) (l : LayerRow) → layer_at f job n ≡ Some l → P job → P l.job
-layer_owned P f job n l e holds = subst P (sym (layer_found f job n l e).0) holds
-
--- the next layer is offered
-pub job_step : (f : Farm) (host job n : ℕ) (l : LayerRow) (plan : List Candidate) → KeepsRows f → IsPending f job → layer_at f job n ≡ Some l
-    → offered plan (flat_map (ranks_in_layer f host) (drop n (layers_of f.layers job))) ≡ offered (offered plan (ranks_in_layer f host l)) (flat_map (ranks_in_layer f host) (drop (n + 1) (layers_of f.layers job)))
-job_step f host job n l plan kept it e = piece_step (ranks_in_layer f host) (layers_of f.layers job) n l plan (sym (layer_is f job n (layers_at f job kept it)) ∙ e)
-
--- there is none any more
-pub job_end : (f : Farm) (host job n : ℕ) (plan : List Candidate) → KeepsRows f → IsPending f job → layer_at f job n ≡ None → length plan ≤ CANDIDATES_EACH
-    → offered plan (flat_map (ranks_in_layer f host) (drop n (layers_of f.layers job))) ≡ plan
-job_end f host job n plan kept it e few = piece_end (ranks_in_layer f host) (layers_of f.layers job) n plan (sym (layer_is f job n (layers_at f job kept it)) ∙ e) ∙ offered_none plan few
+-- ---- the end
 
 past_last : {X : Type 0} (xs : List X) (n : ℕ) → length xs ≤ n → slice_get xs n ≡ None
 past_last [] n h = refl
 past_last (x ∷ xs) zero h = absurd (omega arith)
 past_last (x ∷ xs) (suc n) h = past_last xs n (omega arith)
-
-pub job_past : (f : Farm) (host job : ℕ) (plan : List Candidate) → KeepsRows f → IsPending f job → length plan ≤ CANDIDATES_EACH → offered plan (flat_map (ranks_in_layer f host) (drop MOST_LAYERS (layers_of f.layers job))) ≡ plan
-job_past f host job plan kept it few =
-    piece_end (ranks_in_layer f host) (layers_of f.layers job) MOST_LAYERS plan (past_last (layers_of f.layers job) MOST_LAYERS (layers_few f job kept it)) ∙ offered_none plan few
 
 -- what is left past the last piece
 pub all_offered : {X : Type 0} (g : X → List Rank) (xs : List X) (n : ℕ) (plan : List Candidate) → length xs ≤ n → length plan ≤ CANDIDATES_EACH → offered plan (flat_map g (drop n xs)) ≡ plan

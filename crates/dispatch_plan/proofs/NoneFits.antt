@@ -81,28 +81,29 @@ job_unoffered f host job plan refused few =
 
 -- ---- a subscription
 
-left_by : (f : Farm) (sub cores : ℕ) → LEAST_CORES ≤ cores → for_some (sub_at f sub) (λ (s : SubRow). nat_le (booked_in f sub + cores) s.burst) ≡ true → has_least_left f sub ≡ true
-left_by f sub cores least h =
-    let s = for_some_true (sub_at f sub) (λ (s : SubRow). nat_le (booked_in f sub + cores) s.burst) h in
-    let within = leb-true (booked_in f sub + cores) s.0.burst s.2 in
-    for_some-there (sub_at f sub) (λ (s : SubRow). nat_le (booked_in f sub + LEAST_CORES) s.burst) s.0 s.1 (le-leb (booked_in f sub + LEAST_CORES) s.0.burst (omega (arith, within, least)))
+left_by : (f : Farm) (sub : SubRow) (cores : ℕ) → sub_at f sub.sub ≡ Some sub → LEAST_CORES ≤ cores → for_some (sub_at f sub.sub) (λ (s : SubRow). nat_le (booked_in f sub.sub + cores) s.burst) ≡ true → has_least_left f sub ≡ true
+left_by f sub cores found least h =
+    let s = for_some_true (sub_at f sub.sub) (λ (s : SubRow). nat_le (booked_in f sub.sub + cores) s.burst) h in
+    let same = ap (λ (z : SubRow). z.burst) (same_Some s.0 sub (sym s.1 ∙ found)) in
+    let within = leb-true (booked_in f sub.sub + cores) s.0.burst s.2 in
+    le-leb (booked_in f sub.sub + LEAST_CORES) sub.burst (omega (arith, within, least, same))
 
-sub_left : (f : Farm) (host show sub : ℕ) (r : Rank) → KeepsRows f → IsShowBilled f host show sub → Has (ranks_in_show f host show) r → has_least_left f sub ≡ true
-sub_left f host show sub r kept billed h =
+sub_left : (f : Farm) (host show : ℕ) (sub : SubRow) (r : Rank) → KeepsRows f → sub_at f sub.sub ≡ Some sub → IsShowBilled f host show sub.sub → Has (ranks_in_show f host show) r → has_least_left f sub ≡ true
+sub_left f host show sub r kept found billed h =
     let from = flat_from (ranks_in_job f host) (ready_of (lists_of f) show) r h in
-    let ready = ready_offered f host show sub from.there.place from.from kept billed from.there.at in
+    let ready = ready_offered f host show sub.sub from.there.place from.from kept billed from.there.at in
     let got = in_job f host from.from r from.within in
     let it = got.within.found in
     let has = ranked f host it.slot it.row r it.at it.rank_is in
     let at = stands_there f got.layer.job got.layer.place got.within.position it.slot it.row has.frame it.stands_at it.at has.frame_is in
-    let billed_so : sub_of has.job.show has.row.alloc ≡ sub = ready.billed has.job has.row (ap (job_at f) (sym (at.job_is ∙ got.job_is)) ∙ has.job_is) has.row_is in
+    let billed_so : sub_of has.job.show has.row.alloc ≡ sub.sub = ready.billed has.job has.row (ap (job_at f) (sym (at.job_is ∙ got.job_is)) ∙ has.job_is) has.row_is in
     let there = find_has (λ (l : LayerRow). eqb l.job has.frame.job && eqb l.place has.frame.layer) f.layers has.layer has.layer_is in
-    left_by f sub has.layer.cores (has_least f has.layer kept there).cores (subst (λ n. within_burst f n has.layer ≡ true) billed_so has.burst)
+    left_by f sub has.layer.cores found (has_least f has.layer kept there).cores (subst (λ n. within_burst f n has.layer ≡ true) billed_so has.burst)
 
-pub show_unoffered : (f : Farm) (host show sub : ℕ) (plan : List Candidate) → KeepsRows f → IsShowBilled f host show sub → has_least_left f sub ≡ false → length plan ≤ CANDIDATES_EACH
+pub show_unoffered : (f : Farm) (host show : ℕ) (sub : SubRow) (plan : List Candidate) → KeepsRows f → sub_at f sub.sub ≡ Some sub → IsShowBilled f host show sub.sub → has_least_left f sub ≡ false → length plan ≤ CANDIDATES_EACH
     → plan ≡ offered plan (ranks_in_show f host show)
-show_unoffered f host show sub plan kept billed reached few =
-    none_offered plan (ranks_in_show f host show) (empty_by (ranks_in_show f host show) (λ r h. false≢true (sym reached ∙ sub_left f host show sub r kept billed h))) few
+show_unoffered f host show sub plan kept found billed reached few =
+    none_offered plan (ranks_in_show f host show) (empty_by (ranks_in_show f host show) (λ r h. false≢true (sym reached ∙ sub_left f host show sub r kept found billed h))) few
 
 -- ---- a host
 

@@ -32,7 +32,7 @@ use Rattle.dispatch_law.proofs.InShow.{job_found, ready_job, ready_jobs}
 use Rattle.dispatch_law.proofs.RankFacts.{ranked}
 use Rattle.dispatch_law.proofs.Strict.{Has}
 use Rattle.dispatch_plan.proofs.SubList.{show_below, subs_from_is}
-use Rattle.dispatch_law.proofs.Subs.{sub_to}
+use Rattle.dispatch_law.proofs.Subs.{sub_found, sub_to}
 
 -- ---- ready jobs
 
@@ -100,6 +100,7 @@ subs_billed f host row kept hosted n s at =
     let to = sub_to f kept.shows (length f.allocs) kept.subs row.alloc s (record { place = n; at = at }) in
     let alloc = to.alloc_is in
     record {
+      there = sub_found f kept.shows (length f.allocs) kept.subs s to.there;
       show_within = show_below f s kept to.there;
       billed = λ h there.
           let same : h.alloc ≡ row.alloc = ap (λ (r : HostRow). r.alloc) (same_Some h row (sym there ∙ hosted)) in

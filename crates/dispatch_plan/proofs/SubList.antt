@@ -3,15 +3,16 @@ use Rattle.std.proofs.Common.{◌≡◌, ℕ, zero, suc, ◌+◌, ◌-◌, ◌/�
 use Rattle.std.proofs.Math.Numerals.{one-add}
 use Rattle.std.specs.List.{insert, prefix_len}
 use Rattle.std.specs.Ordering.{is_gt, nat_cmp}
-use Rattle.std.proofs.lemmas.Bool.{eqb-true, eq-eqb}
+use Rattle.std.specs.Prelude.{nat_lt}
+use Rattle.std.proofs.lemmas.Bool.{eqb-true, eq-eqb, ltb-true}
 use Rattle.std.proofs.lemmas.Cmp.{nat_cmp_total, on_total}
 use Rattle.farm_types.specs.declared.rows.SubRow.{SubRow}
 use Rattle.farm_types.specs.declared.limits.TheConstants.{MOST_ALLOCS, MOST_SHOWS, SUB_NUMBERS}
 use Rattle.farm_types.specs.Dispatch.{with_found}
 use Rattle.farm_types.specs.Farm.{Farm, sub_at, sub_of}
-use Rattle.farm_types.specs.Kept.{KeepsRows}
+use Rattle.farm_types.specs.Kept.{KeepsRows, is_kept_sub}
 use Rattle.farm_types.specs.Rising.{IsRising, sub_key}
-use Rattle.farm_types.proofs.Lists.{found_is}
+use Rattle.farm_types.proofs.Lists.{and_both, found_is, list_all-at}
 use Rattle.dispatch_law.specs.ByIndex.{insert_sub, sorted_subs, sub_cmp, subs_to}
 use Rattle.dispatch_plan.specs.Offers.{subs_from}
 use Rattle.dispatch_law.proofs.Found.{find_has, has_filter, filter_has}
@@ -107,6 +108,28 @@ subs_from_is f alloc kept within =
     have_sub f alloc 0 MOST_SHOWS (s.sub / MOST_ALLOCS) s (ap (sub_at f) (sym number) ∙ sub_found f kept.shows (length f.allocs) kept.subs s got.there) (omega arith) (omega (arith, below)))
 
 -- ---- sorted as they are read, from the last show to the first
+
+-- a subscription that is found is of a show that is there
+show_there : (f : Farm) (alloc show : ℕ) (s : SubRow) → KeepsRows f → sub_at f (sub_of show alloc) ≡ Some s → show < length f.shows
+show_there f alloc show s kept found =
+    let there = find_has (λ (z : SubRow). eqb z.sub (sub_of show alloc)) f.subs s found in
+    let each = list_all-at (is_kept_sub (length f.shows) (length f.allocs)) f.subs there.place s kept.subs.each there.at in
+    let within = ltb-true (s.sub / MOST_ALLOCS) (length f.shows) (and_both (nat_lt (s.sub / MOST_ALLOCS) (length f.shows)) _ each).0 in
+    let number = number_is f (sub_of show alloc) s found in
+    omega (arith, within, number)
+
+-- past the last show there is none
+pub none_past : (f : Farm) (alloc show count : ℕ) → KeepsRows f → length f.shows ≤ show → subs_from f alloc show count ≡ []
+none_past f alloc show zero kept past = refl
+none_past f alloc show (suc count) kept past = by (sub_at f (sub_of show alloc)) refl (none_past f alloc (show + 1) count kept (omega (arith, past)))
+  where
+    by : (o : Option SubRow) → sub_at f (sub_of show alloc) ≡ o → subs_from f alloc (show + 1) count ≡ [] → with_found o (subs_from f alloc (show + 1) count) ≡ []
+    by None found later = later
+    by (Some s) found later = absurd (omega (arith, past, show_there f alloc show s kept found))
+
+-- so that none is read there
+pub none_read : (f : Farm) (alloc show : ℕ) (subs : List SubRow) → KeepsRows f → subs ≡ [] → show ≡ length f.shows → subs ≡ sorted_subs f (subs_from f alloc show (MOST_SHOWS - show))
+none_read f alloc show subs kept none is = none ∙ ap (sorted_subs f) (sym (none_past f alloc show (MOST_SHOWS - show) kept (omega (arith, is))))
 
 from_step : (f : Farm) (alloc show : ℕ) → 0 < show → show ≤ MOST_SHOWS
     → subs_from f alloc (show - 1) (MOST_SHOWS - (show - 1)) ≡ with_found (sub_at f (sub_of (show - 1) alloc)) (subs_from f alloc show (MOST_SHOWS - show))

@@ -6,7 +6,7 @@ use Rattle.farm_types.specs.declared.rows.JobRow.{JobRow}
 use Rattle.farm_types.specs.declared.rows.HostRow.{HostRow}
 use Rattle.farm_types.specs.declared.rows.SubRow.{SubRow}
 use Rattle.farm_types.specs.Dispatch.{with_found}
-use Rattle.farm_types.specs.Farm.{Farm, for_some, job_at, sub_at, sub_of}
+use Rattle.farm_types.specs.Farm.{Farm, job_at, sub_at, sub_of}
 use Rattle.farm_types.specs.Kept.{is_pending_job}
 use Rattle.farm_types.specs.Sums.{booked_in, used_cores, used_memory}
 use Rattle.farm_types.specs.declared.limits.TheConstants.{CANDIDATES_EACH, LEAST_CORES, LEAST_MEMORY, MOST_SHOWS}
@@ -45,17 +45,18 @@ subs_from f alloc show (suc count) = with_found (sub_at f (sub_of show alloc)) (
 abbrev pub IsShowBilled : Farm → ℕ → ℕ → ℕ → Type 0
 IsShowBilled f host show sub = (row : HostRow) → slice_get f.hosts host ≡ Some row → sub_of show row.alloc ≡ sub
 
--- the subscription is to the host's allocation, of a show that there can be
+-- the subscription is there, to the host's allocation, of a show that there can be
 pub record IsToHost (f : Farm) (host : ℕ) (s : SubRow) : Type 0 where
+  pub there : sub_at f s.sub ≡ Some s
   pub show_within : show_of s < MOST_SHOWS
   pub billed : IsShowBilled f host (show_of s) s.sub
 
 abbrev pub AreBilled : Farm → ℕ → List SubRow → Type 0
 AreBilled f host subs = (n : ℕ) (s : SubRow) → slice_get subs n ≡ Some s → IsToHost f host s
 
--- the subscription is there, and its burst has the least cores of a layer left
-abbrev pub has_least_left : Farm → ℕ → Bool
-has_least_left f sub = for_some (sub_at f sub) (λ s. nat_le (booked_in f sub + LEAST_CORES) s.burst)
+-- the subscription's burst has the least cores of a layer left
+abbrev pub has_least_left : Farm → SubRow → Bool
+has_least_left f s = nat_le (booked_in f s.sub + LEAST_CORES) s.burst
 
 -- the host has the least amounts of a layer free
 abbrev pub has_least_free : Farm → ℕ → HostRow → Bool

@@ -5,7 +5,7 @@ ghost use Rattle.std.specs.Vec.{vec_capacity};
 ghost use Rattle.farm_types.specs.Booking.{may_book};
 ghost use Rattle.farm_types.specs.Depends.{is_open};
 ghost use Rattle.farm_books.specs.Reads.{takes_job};
-ghost use Rattle.farm_types.specs.Farm.{layer_at};
+ghost use Rattle.farm_types.specs.Farm.{layer_at, sub_at};
 ghost use Rattle.farm_types.specs.declared.limits.TheConstants.{CANDIDATES_EACH, LAST_VERSION, MOST_FRAMES, MOST_SHOWS};
 ghost use Rattle.farm_types.specs.Ranges.{range_numbers};
 ghost use Rattle.dispatch_law.specs.ByIndex.{ranks_in_job, ranks_in_layer, ranks_in_show};
@@ -13,21 +13,21 @@ ghost use Rattle.dispatch_plan.specs.Offers.{IsBilled, IsPending, IsShowBilled, 
 
 use farm_core::Farm;
 use farm_types::{
-    CANDIDATES_EACH, Candidate, HostNo, JobNo, LAST_VERSION, LEAST_CORES, LayerRow, MOST_LAYERS,
-    ShowNo, Slot, SubNo, Version,
+    CANDIDATES_EACH, Candidate, HostNo, JobNo, LAST_VERSION, LEAST_CORES, LayerRow, ShowNo, Slot,
+    SubNo, SubRow, Version,
 };
 
-/// Offers the waiting frames of a show's ready jobs, of which the subscription of that number is billed. Where its burst is reached, none is
-/// looked at.
+/// Offers the waiting frames of a show's ready jobs, of which the subscription is billed. Where its burst is reached, none is looked at.
 pub(crate) fn offer_show(
     farm: &Farm,
     host: HostNo,
-    sub: SubNo,
+    sub: &SubRow,
     show: ShowNo,
     plan: &mut Vec<Candidate>,
 )
     requires within { show < MOST_SHOWS }
-    requires billed { IsShowBilled farm.now host show sub }
+    requires there { sub_at farm.now sub.now.sub ≡ Some sub.now }
+    requires billed { IsShowBilled farm.now host show sub.now.sub }
     requires few { length plan.old.items ≤ CANDIDATES_EACH }
     requires capacity { CANDIDATES_EACH ≤ vec_capacity plan.old }
     ensures items { plan.new.items ≡ offered plan.old.items (ranks_in_show farm.now host show) }
@@ -38,25 +38,20 @@ pub(crate) fn offer_show(
     if !has_least_left(farm, sub) {
         return;
     }
-    let jobs = farm.jobs().ready(show);
+    let jobs = farm.books().jobs().ready(show);
     for job in jobs {
         if plan.len() >= CANDIDATES_EACH as usize {
             return;
         }
-        offer_job(farm, host, sub, *job, plan);
+        offer_job(farm, host, sub.sub, *job, plan);
     }
 }
 
-// Whether the subscription is there and its burst has the least cores of a layer left.
-fn has_least_left(farm: &Farm, sub: SubNo) -> bool
-    ensures { result ≡ has_least_left farm.now sub }
+// Whether the subscription's burst has the least cores of a layer left.
+fn has_least_left(farm: &Farm, sub: &SubRow) -> bool
+    ensures { result ≡ has_least_left farm.now sub.now }
 {
-    match farm.sub(sub) {
-        None => false,
-        Some(s) => {
-            u64::from(farm.booked(sub).0) + u64::from(LEAST_CORES) <= u64::from(s.burst.0)
-        }
-    }
+    u64::from(farm.books().booked(sub.sub).0) + u64::from(LEAST_CORES) <= u64::from(sub.burst.0)
 }
 
 // Offers the waiting frames of a pending job's layers. Where the job itself shows that none may be booked, none is looked at.
@@ -70,13 +65,11 @@ fn offer_job(farm: &Farm, host: HostNo, sub: SubNo, job: JobNo, plan: &mut Vec<C
     ensures capacity { vec_capacity plan.new ≡ vec_capacity plan.old }
 {
     farm.kept();
-    if !farm.takes_job(host, job) {
+    if !farm.books().takes_job(host, job) {
         return;
     }
-    for place in 0..MOST_LAYERS {
-        let Some(layer) = farm.layer(job, place) else {
-            return;
-        };
+    let layers = farm.books().jobs().layers_of(job);
+    for layer in layers {
         offer_layer(farm, host, sub, layer, plan);
     }
 }
@@ -96,10 +89,10 @@ fn offer_layer(farm: &Farm, host: HostNo, sub: SubNo, layer: &LayerRow, plan: &m
     ensures capacity { vec_capacity plan.new ≡ vec_capacity plan.old }
 {
     farm.kept();
-    if !farm.takes_layer(host, sub, layer) {
+    if !farm.books().takes_layer(host, sub, layer) {
         return;
     }
-    let jobs = farm.jobs();
+    let jobs = farm.books().jobs();
     let mut from = 0;
     while plan.len() < CANDIDATES_EACH as usize {
         let Some(slot) = jobs.waiting(layer.job, layer.place, from) else {
@@ -123,11 +116,12 @@ fn offer(
     requires known { may_book farm.now slot host ≡ (nat_lt version LAST_VERSION && is_open farm.now slot) }
     requires room { length plan.old.items + 1 ≤ CANDIDATES_EACH }
     requires capacity { CANDIDATES_EACH ≤ vec_capacity plan.old }
-    ensures items { plan.new.items ≡ with_candidate (may_book farm.now slot host) plan.old.items (record { slot = slot; version = version; sub = sub; host = host }) }
+    ensures items { plan.new.items ≡ with_candidate (may_book farm.now slot host) plan.old.items
+        (record { slot = slot; version = version; sub = sub; host = host }) }
     ensures few { length plan.new.items ≤ CANDIDATES_EACH }
     ensures capacity { vec_capacity plan.new ≡ vec_capacity plan.old }
 {
-    if version.0 < LAST_VERSION && farm.is_open(slot) {
+    if version.0 < LAST_VERSION && farm.books().is_open(slot) {
         plan.push_reserved(Candidate {
             slot,
             version,

@@ -22,7 +22,7 @@ use std::alloc::{AllocError, Global};
 pub fn plan(alloc: Global, farm: &Farm, host: HostNo) -> Result<Items<Candidate>, AllocError>
     ensures { IfOk result (λ cs. cs ≡ plan_for farm.now host) }
 {
-    match farm.host(host) {
+    match farm.books().host(host) {
         None => Ok(Items::new(alloc)),
         Some(row) => Ok(Items::from_vec(candidates(alloc, farm, host, row)?)),
     }
@@ -68,6 +68,6 @@ fn offer_subs(farm: &Farm, host: HostNo, subs: &[SubRow], plan: &mut Vec<Candida
     ensures { plan.new.items ≡ offered plan.old.items (flat_map (λ s. ranks_in_show farm.now host (show_of s)) subs.now) }
 {
     for sub in subs {
-        offer_show(farm, host, sub.sub, show_of(sub.sub), plan);
+        offer_show(farm, host, sub, show_of(sub.sub), plan);
     }
 }

@@ -10,7 +10,7 @@ ghost use Rattle.dispatch_law.specs.ByIndex.{insert_sub, sorted_subs};
 ghost use Rattle.dispatch_plan.specs.Offers.{subs_from};
 
 use farm_core::Farm;
-use farm_types::{AllocNo, MOST_ALLOCS, MOST_SHOWS, ShowNo, SubNo, SubRow};
+use farm_types::{AllocNo, MOST_ALLOCS, ShowNo, SubNo, SubRow};
 use std::alloc::{AllocError, Global};
 use std::cmp::Ordering;
 use sub_ledger::by_ratio;
@@ -23,13 +23,15 @@ pub(crate) fn subs_in_order(
 ) -> Result<Vec<SubRow>, AllocError>
     ensures { IfOk result (λ subs. subs.items ≡ sorted_subs farm.now (subs_from farm.now allocation 0 MOST_SHOWS)) }
 {
+    farm.kept();
     let mut subs = Vec::new(alloc);
-    let mut show = MOST_SHOWS;
+    let mut show = farm.books().count_shows();
     while show > 0 {
         show -= 1;
-        if let Some(sub) = farm.sub_of(ShowNo(show as u16), allocation) {
-            put(farm, &mut subs, sub)?;
-        }
+        let Some(sub) = farm.books().sub_of(ShowNo(show as u16), allocation) else {
+            continue;
+        };
+        put(farm, &mut subs, sub)?;
     }
     Ok(subs)
 }
@@ -62,9 +64,9 @@ fn sub_cmp(farm: &Farm, a: &SubRow, b: &SubRow) -> Ordering
 {
     let by_name = show_name(farm, show_of(a.sub)).cmp(show_name(farm, show_of(b.sub)));
     by_ratio(
-        u64::from(farm.booked(a.sub).0),
+        u64::from(farm.books().booked(a.sub).0),
         u64::from(a.size.0),
-        u64::from(farm.booked(b.sub).0),
+        u64::from(farm.books().booked(b.sub).0),
         u64::from(b.size.0),
     )
     .then(by_name)
@@ -81,7 +83,7 @@ pub(crate) fn show_of(sub: SubNo) -> ShowNo
 fn show_name(farm: &Farm, show: ShowNo) -> &str
     ensures { result.now ≡ dispatch.show_name farm.now show }
 {
-    match farm.show(show) {
+    match farm.books().show(show) {
         None => "",
         Some(show) => show.name.as_str(),
     }

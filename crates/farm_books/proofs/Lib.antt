@@ -1,6 +1,10 @@
 pub mod BookedRow
+pub mod ClearedFlags
+pub mod ClearedLayer
+pub mod Clears
 pub mod FreedProcs
 pub mod NumberedSubs
 pub mod PushedRows
 pub mod RestoredBooks
 pub mod SlotAttempts
+pub mod WholeBooks

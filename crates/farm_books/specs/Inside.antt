@@ -1,10 +1,12 @@
 -- The farm that the code's fields hold.
-use Rattle.std.specs.Prelude.{◌≡◌, []}
+use Rattle.std.specs.Prelude.{◌≡◌}
 use Rattle.farm_types.specs.Farm.{Farm}
+use Rattle.depend_book.specs.Book.{marks_of}
 use Rattle.farm_books.specs.declared.books.Books.TheInside.{Inside}
+use Rattle.farm_books.specs.Books.{FarmBooks}
 use Rattle.farm_books.specs.Install.{procs_of}
 
--- its books and counters; depends have a book of their own, and none stand here
+-- its books and counters
 abbrev pub farm_of : Inside → Farm
 farm_of a =
     record {
@@ -15,14 +17,18 @@ farm_of a =
       jobs = a.jobs.jobs;
       layers = a.jobs.layers;
       slots = a.jobs.slots;
-      depends = [];
-      met = [];
+      depends = a.depends.rows;
+      met = marks_of a.depends.graph.depends;
       next_job = a.jobs.next_job;
-      next_depend = 1;
+      next_depend = a.depends.next;
       next_finish = a.jobs.next_finish;
       moment = a.moment;
       recorded = a.recorded;
     }
+
+-- and the graph of its depends
+abbrev pub books_of : Inside → FarmBooks
+books_of a = record { farm = farm_of a; graph = a.depends.graph }
 
 -- the book of attempts has those of the slots
 pub record KeepsAttempts (a : Inside) : Type 0 where

@@ -1,4 +1,7 @@
 pub mod Bookings
+pub mod Books
+pub mod Cleared
+pub mod Coming
 pub mod Finish
 pub mod Inside
 pub mod Install

@@ -4,6 +4,7 @@ ghost use Rattle.std.specs.Prelude.{◌≡◌, ◌<◌, true, None, Some, is_som
 ghost use Rattle.farm_types.specs.Booking.{may_book, may_record};
 ghost use Rattle.farm_types.specs.Run.{live_at};
 ghost use Rattle.farm_books.specs.Bookings.{booked_at, row_of_booking};
+ghost use Rattle.farm_books.specs.Books.{IsWhole, with_farm};
 ghost use Rattle.farm_types.specs.Step.{after, moment_of};
 ghost use Rattle.farm_types.specs.declared.entry.Act.TheVariants as act;
 ghost use Rattle.farm_types.specs.declared.limits.TheConstants.{LAST_VERSION};
@@ -54,9 +55,12 @@ impl Books {
     /// Books the slot's frame on the host, at the later of the farm's moment and this one (seconds), where it may be booked, and says whether
     /// it was. It takes no memory.
     pub fn book_if(&mut self, slot: Slot, host: HostNo, moment: u64) -> bool
-        requires { may_book self.old slot host ≡ true → live_at self.old slot ≡ None }
-        ensures said { result ≡ may_book self.old slot host }
-        ensures farm { self.new ≡ (if may_book self.old slot host then after self.old (record { moment = moment; act = act.Book slot host }) else self.old) }
+        requires whole { IsWhole self.old }
+        requires free { may_book self.old.farm slot host ≡ true → live_at self.old.farm slot ≡ None }
+        ensures said { result ≡ may_book self.old.farm slot host }
+        ensures farm { self.new ≡ (if may_book self.old.farm slot host
+            then with_farm self.old (after self.old.farm (record { moment = moment; act = act.Book slot host }))
+            else self.old) }
     {
         let Some(booking) = self.booking(slot, host) else {
             return false;
@@ -75,8 +79,9 @@ impl Books {
 
     /// The slot's row with the attempt that a booking of its frame on the host adds, where that may be recorded.
     pub fn booked_at(&self, slot: Slot, host: HostNo, moment: u64) -> Option<SlotRow>
-        ensures row { result ≡ booked_at self.now slot host moment }
-        ensures there { is_some result ≡ may_record self.now slot host }
+        requires { IsWhole self.now }
+        ensures row { result ≡ booked_at self.now.farm slot host moment }
+        ensures there { is_some result ≡ may_record self.now.farm slot host }
     {
         match self.booking(slot, host) {
             None => None,
@@ -86,7 +91,7 @@ impl Books {
 
     /// The later of the farm's moment and this one (seconds).
     pub fn later_of(&self, moment: u64) -> u64
-        ensures { result ≡ moment_of self.now moment }
+        ensures { result ≡ moment_of self.now.farm moment }
     {
         self.moment.max(moment)
     }

@@ -6,6 +6,7 @@ ghost use Rattle.farm_types.specs.Depends.{is_open};
 ghost use Rattle.farm_types.specs.declared.limits.TheConstants.{LAST_VERSION};
 ghost use Rattle.farm_types.specs.Booking.{is_ready, in_facility, has_capacity, within_burst, may_place, may_record, may_book, tags_match};
 ghost use Rattle.farm_books.specs.Bookings.{booked_at, row_of_booking};
+ghost use Rattle.farm_books.specs.Books.{IsWhole};
 ghost use Rattle.farm_books.specs.Reads.{rows_share_tag, takes_job, takes_layer};
 
 use crate::begin::Booking;
@@ -19,14 +20,16 @@ use farm_types::{
 impl Books {
     /// Whether a booking of the slot's frame on the host may be recorded.
     pub fn may_record(&self, slot: Slot, host: HostNo) -> bool
-        ensures { result ≡ may_record self.now slot host }
+        requires { IsWhole self.now }
+        ensures { result ≡ may_record self.now.farm slot host }
     {
         self.booking(slot, host).is_some()
     }
 
     /// Whether the slot's frame may be booked on the host.
     pub fn may_book(&self, slot: Slot, host: HostNo) -> bool
-        ensures { result ≡ may_book self.now slot host }
+        requires { IsWhole self.now }
+        ensures { result ≡ may_book self.now.farm slot host }
     {
         match self.booking(slot, host) {
             None => false,
@@ -37,7 +40,7 @@ impl Books {
     /// Whether frames of the job may be booked on the host, as far as host and job decide it: the host is up and open, and the job isn't paused and of
     /// the host's facility.
     pub fn takes_job(&self, host: HostNo, job: JobNo) -> bool
-        ensures { result ≡ takes_job self.now host job }
+        ensures { result ≡ takes_job self.now.farm host job }
     {
         let Some(row) = self.host(host) else {
             return false;
@@ -53,7 +56,7 @@ impl Books {
     /// Whether frames of the layer may be booked on the host of the subscription of that number, as far as the layer decides it: the host
     /// has the capacity, the burst is not passed, and the tags match.
     pub fn takes_layer(&self, host: HostNo, sub: SubNo, layer: &LayerRow) -> bool
-        ensures { result ≡ takes_layer self.now host sub layer.now }
+        ensures { result ≡ takes_layer self.now.farm host sub layer.now }
     {
         match self.host(host) {
             None => false,
@@ -68,10 +71,12 @@ impl Books {
     // What a booking of the slot's frame on the host is made of, where it may be recorded. A frame that doesn't wait is seen before
     // the others are looked up.
     pub(crate) fn booking(&self, slot: Slot, host: HostNo) -> Option<Booking<'_>>
-        ensures allowed { is_some result ≡ may_record self.now slot host }
+        requires { IsWhole self.now }
+        ensures allowed { is_some result ≡ may_record self.now.farm slot host }
         ensures version { IfSome result (λ b. b.version < LAST_VERSION) }
-        ensures tags { IfSome result (λ b. tags_match self.now slot host ≡ rows_share_tag self.now b.layer.now b.host.now) }
-        ensures makes { IfSome result (λ b. (moment : ℕ) → booked_at self.now slot host moment ≡ Some (row_of_booking slot host moment b.version b.frame b.layer.now b.host.now b.sub)) }
+        ensures tags { IfSome result (λ b. tags_match self.now.farm slot host ≡ rows_share_tag self.now.farm b.layer.now b.host.now) }
+        ensures makes { IfSome result (λ b. (moment : ℕ) → booked_at self.now.farm slot host moment
+            ≡ Some (row_of_booking slot host moment b.version b.frame b.layer.now b.host.now b.sub)) }
     {
         let Some(row) = self.slot(slot) else {
             return None;
@@ -114,7 +119,8 @@ impl Books {
         layer: &LayerRow,
         host_row: &HostRow,
     ) -> Option<SubNo>
-        ensures allowed { is_some result ≡ may_place self.now slot host version frame.now job.now layer.now host_row.now }
+        requires { IsWhole self.now }
+        ensures allowed { is_some result ≡ may_place self.now.farm slot host version frame.now job.now layer.now host_row.now }
         ensures version { IfSome result (λ sub. version < LAST_VERSION) }
         ensures number { IfSome result (λ sub. sub ≡ sub_of job.now.show host_row.now.alloc) }
     {
@@ -136,18 +142,18 @@ impl Books {
         }
     }
 
-    /// Whether the frame in the slot waits for no other. In these books none does: depends stand in a book of their own.
+    /// Whether the frame in the slot waits for no other.
     pub fn is_open(&self, slot: Slot) -> bool
-        ensures { result ≡ is_open self.now slot }
+        requires { IsWhole self.now }
+        ensures { result ≡ is_open self.now.farm slot }
     {
-        let _moment = self.moment;
-        let _slot = slot;
-        true
+        self.kept();
+        self.depends.unmet(slot) == 0
     }
 
     // Whether the facility is that of the allocation.
     fn in_facility(&self, alloc: AllocNo, facility: &Text) -> bool
-        ensures { result ≡ in_facility self.now alloc facility.now }
+        ensures { result ≡ in_facility self.now.farm alloc facility.now }
     {
         match self.allocation(alloc) {
             None => false,
@@ -157,7 +163,7 @@ impl Books {
 
     // Whether the host has capacity for the layer's amounts.
     fn has_capacity(&self, host: HostNo, host_row: &HostRow, layer: &LayerRow) -> bool
-        ensures { result ≡ has_capacity self.now host host_row.now layer.now }
+        ensures { result ≡ has_capacity self.now.farm host host_row.now layer.now }
     {
         u128::from(self.used_cores(host)) + u128::from(layer.cores.0)
             <= u128::from(host_row.cores.0)
@@ -166,7 +172,7 @@ impl Books {
 
     // Whether the booked cores with the layer's are within the burst of the subscription of that number.
     fn has_burst(&self, sub: SubNo, layer: &LayerRow) -> bool
-        ensures { result ≡ within_burst self.now sub layer.now }
+        ensures { result ≡ within_burst self.now.farm sub layer.now }
     {
         match self.sub(sub) {
             None => false,
@@ -176,7 +182,7 @@ impl Books {
 
     // Whether the tags of the layer and those of the host share a word.
     pub(crate) fn tags_match(&self, layer: &LayerRow, host_row: &HostRow) -> bool
-        ensures { result ≡ rows_share_tag self.now layer.now host_row.now }
+        ensures { result ≡ rows_share_tag self.now.farm layer.now host_row.now }
     {
         match self.allocation(host_row.alloc) {
             None => false,

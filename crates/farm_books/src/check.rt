@@ -20,7 +20,7 @@ use std::alloc::Global;
 impl Books {
     /// How many shows there are.
     pub fn count_shows(&self) -> usize
-        ensures value { result ≡ length self.now.shows }
+        ensures value { result ≡ length self.now.farm.shows }
         ensures within { result ≤ MOST_SHOWS }
     {
         self.shows.count()
@@ -28,7 +28,7 @@ impl Books {
 
     /// How many hosts there are.
     pub fn count_hosts(&self) -> usize
-        ensures value { result ≡ length self.now.hosts }
+        ensures value { result ≡ length self.now.farm.hosts }
         ensures within { result ≤ MOST_HOSTS }
     {
         self.hosts.count()
@@ -36,22 +36,22 @@ impl Books {
 
     /// Whether an allocation of that facility and tag may be added: its number, or why not.
     pub fn check_alloc(&self, facility: &str, tag: &str) -> Result<AllocNo, AllocRefusal>
-        ensures { result ≡ check_of self.now.allocs (alloc_name facility.now tag.now) }
+        ensures { result ≡ check_of self.now.farm.allocs (alloc_name facility.now tag.now) }
     {
         self.allocs.check(facility, tag)
     }
 
     /// What a boot comes to, or why it isn't taken.
     pub fn check_boot(&self, line: &BootLine, alloc: AllocNo) -> Result<BootPlan, HostRefusal>
-        ensures { result ≡ plan_of self.now.hosts line.now alloc }
+        ensures { result ≡ plan_of self.now.farm.hosts line.now alloc }
     {
         self.hosts.check_boot(line, alloc)
     }
 
     /// Whether a report of that boot and sequence number may be taken.
     pub fn check_heard(&self, host: HostNo, boot: u32, seq: u64) -> Result<(), HeardRefusal>
-        requires { host < length self.now.hosts }
-        ensures { result ≡ heard_check boot seq (slice_get self.now.hosts host) }
+        requires { host < length self.now.farm.hosts }
+        ensures { result ≡ heard_check boot seq (slice_get self.now.farm.hosts host) }
     {
         self.hosts.check_heard(host, boot, seq)
     }
@@ -64,28 +64,28 @@ impl Books {
         show: ShowNo,
     ) -> Result<Placing, FarmFault>
         requires { JobKeepsLimits spec.now }
-        ensures { Checks (lists_of self.now) show spec.now result }
+        ensures { Checks (lists_of self.now.farm) show spec.now result }
     {
         self.jobs.check(alloc, spec, show)
     }
 
     /// How many hosts are silent at the moment (seconds). Where the book of hosts knows that none is, none is looked at.
     pub fn count_silent(&self, moment: u64) -> u32
-        ensures { result ≡ count_unheard moment self.now.hosts }
+        ensures { result ≡ count_unheard moment self.now.farm.hosts }
     {
         self.hosts.count_expired(moment)
     }
 
     /// Whether a host may be silent at the moment: `false` at once where the book of hosts knows that none is. After `true` there may still be none.
     pub fn may_be_silent(&self, moment: u64) -> bool
-        ensures { result ≡ false → count_unheard moment self.now.hosts ≡ 0 }
+        ensures { result ≡ false → count_unheard moment self.now.farm.hosts ≡ 0 }
     {
         self.hosts.may_expire(moment)
     }
 
     /// Whether the host is silent at the moment.
     pub fn is_silent(&self, host: HostNo, moment: u64) -> bool
-        ensures { result ≡ is_silent self.now moment host }
+        ensures { result ≡ is_silent self.now.farm moment host }
     {
         self.hosts.expired(host, moment)
     }

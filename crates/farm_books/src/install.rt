@@ -11,6 +11,7 @@ ghost use Rattle.farm_types.specs.Subs.{with_sub};
 ghost use Rattle.farm_types.specs.declared.limits.TheConstants.{MOST_SHOWS, SUB_NUMBERS};
 ghost use Rattle.host_book.specs.Book.{alloc_of, plan_of};
 ghost use Rattle.host_book.specs.Life.{with_life};
+ghost use Rattle.farm_books.specs.Books.{with_farm};
 ghost use Rattle.farm_books.specs.Install.{CanInstall};
 
 use crate::books::Books;
@@ -21,7 +22,7 @@ use host_book::{BootPlan, HostLife, HostSpare};
 impl Books {
     /// The farm comes to the moment (seconds), and is recorded as one that an entry made.
     pub fn advance_to(&mut self, moment: u64)
-        ensures { self.new ≡ at_moment self.old moment }
+        ensures { self.new ≡ with_farm self.old (at_moment self.old.farm moment) }
     {
         self.moment = moment;
         self.recorded = true;
@@ -29,16 +30,16 @@ impl Books {
 
     /// A show is added.
     pub fn install_show(&mut self, name: Text)
-        requires { length self.old.shows < MOST_SHOWS }
-        ensures { self.new ≡ record self.old { shows = self.old.shows ++ record { name = name } ∷ [] } }
+        requires { length self.old.farm.shows < MOST_SHOWS }
+        ensures { self.new ≡ with_farm self.old (record self.old.farm { shows = self.old.farm.shows ++ record { name = name } ∷ [] }) }
     {
         self.shows.add(name);
     }
 
     /// An allocation is added, in the memory that was taken for it.
     pub fn install_alloc(&mut self, spare: Spare)
-        requires { check_of self.old.allocs (alloc_name spare.facility spare.tag) ≡ Ok (length self.old.allocs) }
-        ensures { self.new ≡ record self.old { allocs = self.old.allocs ++ spare ∷ [] } }
+        requires { check_of self.old.farm.allocs (alloc_name spare.facility spare.tag) ≡ Ok (length self.old.farm.allocs) }
+        ensures { self.new ≡ with_farm self.old (record self.old.farm { allocs = self.old.farm.allocs ++ spare ∷ [] }) }
     {
         self.allocs.add(spare);
     }
@@ -46,23 +47,24 @@ impl Books {
     /// A subscription gets that size and burst, and is added where it isn't there.
     pub fn install_sub(&mut self, sub: SubNo, size: Cores, burst: Cores)
         requires { sub < SUB_NUMBERS }
-        ensures { self.new ≡ record self.old { subs = with_sub (record { sub = sub; size = size; burst = burst }) self.old.subs } }
+        ensures { self.new ≡ with_farm self.old
+            (record self.old.farm { subs = with_sub (record { sub = sub; size = size; burst = burst }) self.old.farm.subs }) }
     {
         self.attempts.set_sub(sub, size, burst);
     }
 
     /// A host has that life.
     pub fn install_life(&mut self, host: HostNo, life: HostLife)
-        requires { host < length self.old.hosts }
-        ensures { self.new ≡ record self.old { hosts = changed_at self.old.hosts host (with_life life) } }
+        requires { host < length self.old.farm.hosts }
+        ensures { self.new ≡ with_farm self.old (record self.old.farm { hosts = changed_at self.old.farm.hosts host (with_life life) }) }
     {
         self.hosts.set_life(host, life);
     }
 
     /// A host boots as planned, in the memory that was taken for it.
     pub fn install_boot(&mut self, spare: HostSpare, plan: BootPlan, moment: u64)
-        requires { plan_of self.old.hosts spare (alloc_of plan) ≡ Ok plan }
-        ensures { self.new ≡ record self.old { hosts = booted self.old.hosts spare (alloc_of plan) moment } }
+        requires { plan_of self.old.farm.hosts spare (alloc_of plan) ≡ Ok plan }
+        ensures { self.new ≡ with_farm self.old (record self.old.farm { hosts = booted self.old.farm.hosts spare (alloc_of plan) moment }) }
     {
         self.hosts.apply_boot(spare, plan, moment);
     }
@@ -70,8 +72,8 @@ impl Books {
     /// A slot holds that row, whose frame is the one that stands there. Where the row has no live attempt, the slot's attempt ends; where it has one, that
     /// begins.
     pub fn install_slot(&mut self, slot: Slot, row: &SlotRow)
-        requires { CanInstall self.old.subs self.old.slots slot row.now }
-        ensures { self.new ≡ record self.old { slots = slice_set self.old.slots slot row.now } }
+        requires { CanInstall self.old.farm.subs self.old.farm.slots slot row.now }
+        ensures { self.new ≡ with_farm self.old (record self.old.farm { slots = slice_set self.old.farm.slots slot row.now }) }
     {
         self.attempts.end(slot);
         if let Some(proc) = row.proc {
@@ -82,7 +84,7 @@ impl Books {
 
     /// A job is paused, or resumed. Nothing changes where it isn't there.
     pub fn install_paused(&mut self, job: JobNo, paused: bool)
-        ensures { self.new ≡ record self.old { jobs = map (paused_row job paused) self.old.jobs } }
+        ensures { self.new ≡ with_farm self.old (record self.old.farm { jobs = map (paused_row job paused) self.old.farm.jobs }) }
     {
         self.jobs.set_paused(job, paused);
     }

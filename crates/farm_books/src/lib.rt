@@ -5,6 +5,8 @@ mod begin;
 mod booking;
 mod books;
 mod check;
+mod clearing;
+mod depending;
 mod finish;
 mod install;
 mod install_job;

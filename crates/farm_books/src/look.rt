@@ -10,36 +10,36 @@ use farm_types::{AllocNo, Attempt, HostNo, ProcRow, ShowNo, Text, Version};
 impl Books {
     /// The number of the host of that name.
     pub fn host_named(&self, name: &str) -> Option<HostNo>
-        ensures value { result ≡ host_named self.now name.now }
-        ensures within { IfSome result (λ host. host < length self.now.hosts) }
+        ensures value { result ≡ host_named self.now.farm name.now }
+        ensures within { IfSome result (λ host. host < length self.now.farm.hosts) }
     {
         self.hosts.find(name)
     }
 
     /// The number of the show of that name.
     pub fn show_named(&self, name: &str) -> Option<ShowNo>
-        ensures { result ≡ show_named self.now name.now }
+        ensures { result ≡ show_named self.now.farm name.now }
     {
         self.shows.find(name)
     }
 
     /// The number of the allocation of that name, `facility.tag`.
     pub fn alloc_named(&self, name: &str) -> Option<AllocNo>
-        ensures { result ≡ alloc_named self.now name.now }
+        ensures { result ≡ alloc_named self.now.farm name.now }
     {
         self.allocs.find(name)
     }
 
     /// Whether an allocation has the facility.
     pub fn has_facility(&self, facility: &Text) -> bool
-        ensures { result ≡ has_facility self.now facility.now }
+        ensures { result ≡ has_facility self.now.farm facility.now }
     {
         self.allocs.has_facility(facility.as_str())
     }
 
     /// Whether the attempt is live, on that host in that boot of it.
     pub fn is_live(&self, host: HostNo, boot: u32, attempt: Attempt) -> bool
-        ensures { result ≡ is_live self.now host boot attempt.slot attempt.version }
+        ensures { result ≡ is_live self.now.farm host boot attempt.slot attempt.version }
     {
         let Some(row) = self.slot(attempt.slot) else {
             return false;

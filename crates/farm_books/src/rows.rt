@@ -17,7 +17,7 @@ impl Books {
     /// Copies of the books' rows go behind the others, by kind, then number: shows, allocations, subscriptions, hosts, jobs, layers, and the slots
     /// that were ever used. Without the farm's own row, and those of depends.
     pub fn push_rows(&self, alloc: Global, rows: &mut Vec<FarmRow>) -> Result<(), AllocError>
-        ensures { OnOk result (rows.new.items ≡ rows.old.items ++ book_rows self.now) }
+        ensures { OnOk result (rows.new.items ≡ rows.old.items ++ book_rows self.now.farm) }
     {
         push_shows(alloc, self.shows.rows(), rows)?;
         push_allocs(alloc, self.allocs.rows(), rows)?;

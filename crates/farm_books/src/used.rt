@@ -11,14 +11,14 @@ use farm_types::{Cores, HostNo, Slot, SubNo};
 impl Books {
     /// The cores (hundredths) that live attempts use on a host: none where there is no such host.
     pub fn used_cores(&self, host: HostNo) -> u64
-        ensures { result ≡ used_cores self.now host }
+        ensures { result ≡ used_cores self.now.farm host }
     {
         self.attempts.cores(host)
     }
 
     /// The memory (KB) that live attempts use on a host: none where there is no such host.
     pub fn used_memory(&self, host: HostNo) -> u128
-        ensures value { result ≡ used_memory self.now host }
+        ensures value { result ≡ used_memory self.now.farm host }
         ensures within { result < 2 ^ 127 }
     {
         self.attempts.memory(host)
@@ -26,21 +26,21 @@ impl Books {
 
     /// The cores that are booked of a subscription.
     pub fn booked(&self, sub: SubNo) -> Cores
-        ensures { result ≡ booked_in self.now sub }
+        ensures { result ≡ booked_in self.now.farm sub }
     {
         self.attempts.subs().booked(sub)
     }
 
     /// The first slot with a live attempt on the host.
     pub fn first_attempt(&self, host: HostNo) -> Option<Slot>
-        ensures { result ≡ first_on (procs_of self.now.slots) host 0 }
+        ensures { result ≡ first_on (procs_of self.now.farm.slots) host 0 }
     {
         self.attempts.first(host)
     }
 
     /// The next slot with a live attempt on the host of this slot's attempt, none where this one has no attempt.
     pub fn next_attempt(&self, slot: Slot) -> Option<Slot>
-        ensures { result ≡ next_on (procs_of self.now.slots) slot }
+        ensures { result ≡ next_on (procs_of self.now.farm.slots) slot }
     {
         self.attempts.next(slot)
     }

@@ -1,15 +1,17 @@
 -- The rows of the slots that frames are put into.
-use Rattle.std.proofs.Common.{◌≡◌, ◌≢◌, ℕ, zero, suc, ◌+◌, ◌≤◌, Bool, true, false, not, cond, eqb, List, [], ◌∷◌, ◌++◌, drop, Option, None, Some, refl, sym, ap, ◌∙◌, arith, append_assoc}
+use Rattle.std.proofs.Common.{◌≡◌, ◌≢◌, ℕ, zero, suc, ◌+◌, ◌≤◌, Bool, true, false, cond, eqb, List, [], ◌∷◌, ◌++◌, length, Option, None, Some, refl, sym, ap, ◌∙◌, arith, append_assoc, append-nil, length-append}
 use Rattle.std.specs.Prelude.{is_none, option_and_then}
 use Rattle.std.specs.List.{slice_get, slice_set}
 use Rattle.std.proofs.lemmas.Bool.{eq-eqb, ne_eqb}
-use Rattle.std.proofs.lemmas.List.{append-nil, drop_all}
+use Rattle.std.proofs.lemmas.Option.{slice_get_past}
 use Rattle.farm_types.specs.declared.rows.SubRow.{SubRow}
 use Rattle.farm_types.specs.declared.slot_row.Frame.{Frame}
 use Rattle.farm_types.specs.declared.slot_row.SlotRow.{SlotRow}
 use Rattle.farm_types.specs.Farm.{Farm}
 use Rattle.farm_types.specs.Jobs.{fresh_slot, is_free, place_frames, slot_with}
-use Rattle.job_book.specs.Book.{IsSameFrame, KeepsFrame, first_free}
+use Rattle.job_book.specs.Book.{IsSameFrame, KeepsFrame}
+use Rattle.job_book.specs.Lowest.{lowest_free, places_from, slot_for}
+use Rattle.job_book.proofs.FreeSlots.{get_mid}
 use Rattle.farm_draft.specs.Rows.{AreInstallable, put_slots}
 use Rattle.farm_rows.specs.declared.farm_row.FarmRow.{FarmRow}
 use Rattle.farm_rows.specs.declared.farm_row.FarmRow.TheVariants as row
@@ -18,7 +20,7 @@ use Rattle.farm_rows.specs.declared.row_key.RowKey.TheVariants as key
 use Rattle.farm_rows.specs.declared.row_change.RowChange.{RowChange}
 use Rattle.farm_rows.specs.Changes.{MakesRows, is_key, row_after, row_at, used_row}
 use Rattle.farm_rows.specs.Rows.{frame_row}
-use Rattle.farm_changes.specs.RowChanges.{PutsRows, frame_put, frames_put, slot_for}
+use Rattle.farm_changes.specs.RowChanges.{frame_put, frames_put, rows_put}
 
 -- ---- the rows that they make
 
@@ -100,98 +102,57 @@ module _ (r : SlotRow) where
       ap (λ (cs : List RowChange). cond (is_free s) (frame_put p (slot_with x s) ∷ cs) (frames_put (p + 1) (slice_set ss i r) (x ∷ xs))) (frames_put-set (p + 1) ss i xs keeps)
       ∙ ap (cond (is_free s) (frame_put p (slot_with x s) ∷ frames_put (p + 1) ss xs)) (frames_put-set (p + 1) ss i (x ∷ xs) keeps)
 
-  first_free-set : (slots : List SlotRow) (i : ℕ) → KeepsFrame (slice_get slots i) r → first_free (slice_set slots i r) ≡ first_free slots
-  first_free-set [] i keeps = absurd keeps
-  first_free-set (s ∷ ss) zero keeps =
+  lowest_free-set : (p : ℕ) (slots : List SlotRow) (i n : ℕ) → KeepsFrame (slice_get slots i) r → lowest_free p (slice_set slots i r) n ≡ lowest_free p slots n
+  lowest_free-set p [] i n keeps = absurd keeps
+  lowest_free-set p (s ∷ ss) zero zero keeps = refl
+  lowest_free-set p (s ∷ ss) zero (suc n) keeps =
       let both = none_free s.frame r.frame keeps in
-      ap (λ (b : Bool). cond (not b) (1 + first_free ss) 0) (held r both.1) ∙ sym (ap (λ (b : Bool). cond (not b) (1 + first_free ss) 0) (held s both.0))
-  first_free-set (s ∷ ss) (suc i) keeps = ap (λ (n : ℕ). cond (not (is_free s)) (1 + n) 0) (first_free-set ss i keeps)
+      ap (λ (b : Bool). cond b (p ∷ lowest_free (p + 1) ss n) (lowest_free (p + 1) ss (suc n))) (held r both.1)
+      ∙ sym (ap (λ (b : Bool). cond b (p ∷ lowest_free (p + 1) ss n) (lowest_free (p + 1) ss (suc n))) (held s both.0))
+  lowest_free-set p (s ∷ ss) (suc i) zero keeps = refl
+  lowest_free-set p (s ∷ ss) (suc i) (suc n) keeps =
+      ap (λ (ns : List ℕ). cond (is_free s) (p ∷ ns) (lowest_free (p + 1) (slice_set ss i r) (suc n))) (lowest_free-set (p + 1) ss i n keeps)
+      ∙ ap (cond (is_free s) (p ∷ lowest_free (p + 1) ss n)) (lowest_free-set (p + 1) ss i (suc n) keeps)
 
 pub frames_put-slots : (subs : List SubRow) (slots : List SlotRow) (es : List (ℕ × SlotRow)) (xs : List Frame) → AreInstallable subs slots es → frames_put 0 (put_slots slots es) xs ≡ frames_put 0 slots xs
 frames_put-slots subs slots [] xs ready = refl
 frames_put-slots subs slots (e ∷ es) xs ready = frames_put-slots subs (slice_set slots e.0 e.1) es xs ready.1 ∙ frames_put-set e.1 0 slots e.0 xs ready.0.keeps
 
-pub first_free-slots : (subs : List SubRow) (slots : List SlotRow) (es : List (ℕ × SlotRow)) → AreInstallable subs slots es → first_free (put_slots slots es) ≡ first_free slots
-first_free-slots subs slots [] ready = refl
-first_free-slots subs slots (e ∷ es) ready = first_free-slots subs (slice_set slots e.0 e.1) es ready.1 ∙ first_free-set e.1 slots e.0 ready.0.keeps
+pub lowest_free-slots : (subs : List SubRow) (slots : List SlotRow) (es : List (ℕ × SlotRow)) (n : ℕ) → AreInstallable subs slots es → lowest_free 0 (put_slots slots es) n ≡ lowest_free 0 slots n
+lowest_free-slots subs slots [] n ready = refl
+lowest_free-slots subs slots (e ∷ es) n ready = lowest_free-slots subs (slice_set slots e.0 e.1) es n ready.1 ∙ lowest_free-set e.1 0 slots e.0 n ready.0.keeps
 
--- ---- one after the other
+-- ---- frames in the lowest free slots
 
-frames_put-none : (p : ℕ) (slots : List SlotRow) → frames_put p slots [] ≡ []
-frames_put-none p [] = refl
-frames_put-none p (s ∷ ss) = refl
+-- past the last slot
+past_put : (slots : List SlotRow) (p : ℕ) (xs : List Frame) → length slots ≤ p → rows_put slots (places_from p (length xs)) xs ≡ frames_put p [] xs
+past_put slots p [] past = refl
+past_put slots p (x ∷ xs) past =
+    ap (λ (o : Option SlotRow). frame_put p (slot_for x o) ∷ rows_put slots (places_from (p + 1) (length xs)) xs) (slice_get_past slots p past)
+    ∙ ap (λ (cs : List RowChange). frame_put p (fresh_slot x) ∷ cs) (past_put slots (p + 1) xs (omega (arith, past)))
 
--- the first frame goes to the first free slot
-put_first : (p : ℕ) (ss : List SlotRow) (x : Frame) (xs : List Frame) (n : ℕ) → n ≡ p + first_free ss
-    → frames_put p ss (x ∷ xs) ≡ frame_put n (slot_for x (slice_get ss (first_free ss))) ∷ frames_put (n + 1) (drop (suc (first_free ss)) ss) xs
-put_first p [] x xs n is = ap (λ (m : ℕ). frame_put m (fresh_slot x) ∷ frames_put (m + 1) [] xs) (omega (arith, is))
-put_first p (s ∷ ss) x xs n is = by (is_free s) is (λ is. put_first (p + 1) ss x xs n is)
+rows_lowest : (slots before ss : List SlotRow) (xs : List Frame) (p : ℕ) → slots ≡ before ++ ss → p ≡ length before → rows_put slots (lowest_free p ss (length xs)) xs ≡ frames_put p ss xs
+rows_lowest slots before [] xs p is place = past_put slots p xs (omega (arith, place, ap (λ (rs : List SlotRow). length rs) (is ∙ append-nil before)))
+rows_lowest slots before (s ∷ ss) [] p is place = refl
+rows_lowest slots before (s ∷ ss) (x ∷ xs) p is place =
+    let split = is ∙ sym (append_assoc before (s ∷ []) ss) in
+    let next : p + 1 ≡ length (before ++ s ∷ []) = omega (arith, place, length-append before (s ∷ [])) in
+    by (is_free s) refl (rows_lowest slots (before ++ s ∷ []) ss xs (p + 1) split next) (rows_lowest slots (before ++ s ∷ []) ss (x ∷ xs) (p + 1) split next)
   where
-    by : (b : Bool) → n ≡ p + cond (not b) (1 + first_free ss) 0
-        → (n ≡ p + 1 + first_free ss → frames_put (p + 1) ss (x ∷ xs) ≡ frame_put n (slot_for x (slice_get ss (first_free ss))) ∷ frames_put (n + 1) (drop (suc (first_free ss)) ss) xs)
-        → cond b (frame_put p (slot_with x s) ∷ frames_put (p + 1) ss xs) (frames_put (p + 1) ss (x ∷ xs))
-        ≡ frame_put n (slot_for x (slice_get (s ∷ ss) (cond (not b) (1 + first_free ss) 0))) ∷ frames_put (n + 1) (drop (suc (cond (not b) (1 + first_free ss) 0)) (s ∷ ss)) xs
-    by true is later = ap (λ (m : ℕ). frame_put m (slot_with x s) ∷ frames_put (m + 1) ss xs) (omega (arith, is))
-    by false is later =
-        let e : 1 + first_free ss ≡ suc (first_free ss) = omega arith in
-        later (omega (arith, is)) ∙ ap (λ (m : ℕ). frame_put n (slot_for x (slice_get (s ∷ ss) m)) ∷ frames_put (n + 1) (drop m ss) xs) (sym e)
+    by : (b : Bool) → is_free s ≡ b → rows_put slots (lowest_free (p + 1) ss (length xs)) xs ≡ frames_put (p + 1) ss xs
+        → rows_put slots (lowest_free (p + 1) ss (suc (length xs))) (x ∷ xs) ≡ frames_put (p + 1) ss (x ∷ xs)
+        → rows_put slots (lowest_free p (s ∷ ss) (suc (length xs))) (x ∷ xs) ≡ frames_put p (s ∷ ss) (x ∷ xs)
+    by true free here later =
+        let at = ap (λ (rs : List SlotRow). slice_get rs p) is ∙ get_mid before s ss p place in
+        rw free (ap (λ (o : Option SlotRow). frame_put p (slot_for x o) ∷ rows_put slots (lowest_free (p + 1) ss (length xs)) xs) at ∙ ap (λ (cs : List RowChange). frame_put p (slot_with x s) ∷ cs) here)
+    by false free here later = rw free later
 
-slice_get-drop : (k i n : ℕ) (ss : List SlotRow) → n ≡ k + i → slice_get (drop k ss) i ≡ slice_get ss n
-slice_get-drop zero i n ss is = ap (slice_get ss) (omega (arith, is))
-slice_get-drop (suc k) i n [] is = refl
-slice_get-drop (suc k) i zero (s ∷ ss) is = absurd (omega (arith, is))
-slice_get-drop (suc k) i (suc n) (s ∷ ss) is = slice_get-drop k i n ss (omega (arith, is))
+pub rows_all : (slots : List SlotRow) (places : List ℕ) (xs : List Frame) → places ≡ lowest_free 0 slots (length xs) → rows_put slots places xs ≡ frames_put 0 slots xs
+rows_all slots places xs is = ap (λ (ns : List ℕ). rows_put slots ns xs) is ∙ rows_lowest slots [] slots xs 0 refl refl
 
-drop-drop : (k i n : ℕ) (ss : List SlotRow) → n ≡ k + i → drop i (drop k ss) ≡ drop n ss
-drop-drop zero i n ss is = ap (λ (m : ℕ). drop m ss) (omega (arith, is))
-drop-drop (suc k) i n [] is = drop_all i [] (omega arith) ∙ sym (drop_all n [] (omega arith))
-drop-drop (suc k) i zero (s ∷ ss) is = absurd (omega (arith, is))
-drop-drop (suc k) i (suc n) (s ∷ ss) is = drop-drop k i n ss (omega (arith, is))
-
--- a frame is put into the first free slot from a place on
-pub puts_one : (slots : List SlotRow) (from place : ℕ) (x : Frame) (old new : List RowChange) → place ≡ from + first_free (drop from slots) → new ≡ old ++ frame_put place (slot_for x (slice_get slots place)) ∷ []
-    → PutsRows slots (x ∷ []) from (place + 1) old new
-puts_one slots from place x old new found pushed later =
-    let ff = first_free (drop from slots) in
-    ap (λ (cs : List RowChange). old ++ cs)
-    (put_first from (drop from slots) x later place found
-    ∙ ap (λ (o : Option SlotRow). frame_put place (slot_for x o) ∷ frames_put (place + 1) (drop (suc ff) (drop from slots)) later) (slice_get-drop from ff place slots found)
-    ∙ ap (λ (ss : List SlotRow). frame_put place (slot_for x (slice_get slots place)) ∷ frames_put (place + 1) ss later) (drop-drop from (suc ff) (place + 1) slots (omega (arith, found))))
-    ∙ sym (append_assoc old (frame_put place (slot_for x (slice_get slots place)) ∷ []) (frames_put (place + 1) (drop (place + 1) slots) later))
-    ∙ ap (λ (cs : List RowChange). cs ++ frames_put (place + 1) (drop (place + 1) slots) later) (sym pushed)
-
-pub puts_none : (slots : List SlotRow) (place : ℕ) (old : List RowChange) → PutsRows slots [] place place old old
-puts_none slots place old later = refl
-
-pub puts_then : (slots : List SlotRow) (xs ys : List Frame) (first next last : ℕ) (old mid new : List RowChange) → PutsRows slots xs first next old mid → PutsRows slots ys next last mid new → PutsRows slots (xs ++ ys) first last old new
-puts_then slots xs ys first next last old mid new here there later =
-    ap (λ (zs : List Frame). old ++ frames_put first (drop first slots) zs) (append_assoc xs ys later) ∙ here (ys ++ later) ∙ there later
-
--- from the first free slot on, the first free one is the next
-free_there : (ss : List SlotRow) → first_free (drop (first_free ss) ss) ≡ 0
-free_there [] = refl
-free_there (s ∷ ss) = by (is_free s) refl (free_there ss)
-  where
-    by : (b : Bool) → is_free s ≡ b → first_free (drop (first_free ss) ss) ≡ 0 → first_free (drop (cond (not b) (1 + first_free ss) 0) (s ∷ ss)) ≡ 0
-    by true is later = ap (λ (b : Bool). cond (not b) (1 + first_free ss) 0) is
-    by false is later =
-        let e : 1 + first_free ss ≡ suc (first_free ss) = omega arith in
-        ap (λ (m : ℕ). first_free (drop m (s ∷ ss))) e ∙ later
-
--- all frames, from the first free slot on
-first_put : (slots : List SlotRow) (xs : List Frame) → frames_put (first_free slots) (drop (first_free slots) slots) xs ≡ frames_put 0 slots xs
-first_put slots [] = frames_put-none (first_free slots) (drop (first_free slots) slots) ∙ sym (frames_put-none 0 slots)
-first_put slots (x ∷ xs) =
-    let first = first_free slots in
-    let none = free_there slots in
-    put_first first (drop first slots) x xs first (omega (arith, none))
-    ∙ ap (λ (n : ℕ). frame_put first (slot_for x (slice_get (drop first slots) n)) ∷ frames_put (first + 1) (drop (suc n) (drop first slots)) xs) none
-    ∙ ap (λ (o : Option SlotRow). frame_put first (slot_for x o) ∷ frames_put (first + 1) (drop 1 (drop first slots)) xs) (slice_get-drop first 0 first slots (omega arith))
-    ∙ ap (λ (ss : List SlotRow). frame_put first (slot_for x (slice_get slots first)) ∷ frames_put (first + 1) ss xs) (drop-drop first 1 (suc first) slots (omega arith))
-    ∙ sym (put_first 0 slots x xs first (omega arith))
-
-pub puts_all : (slots : List SlotRow) (xs : List Frame) (first next : ℕ) (old new : List RowChange) → first ≡ first_free slots → PutsRows slots xs first next old new → new ≡ old ++ frames_put 0 slots xs
-puts_all slots xs first next old new is puts =
-    sym (append-nil new) ∙ ap (λ (cs : List RowChange). new ++ cs) (sym (frames_put-none next (drop next slots))) ∙ sym (puts [])
-    ∙ ap (λ (ys : List Frame). old ++ frames_put first (drop first slots) ys) (append-nil xs)
-    ∙ ap (λ (n : ℕ). old ++ frames_put n (drop n slots) xs) is ∙ ap (λ (cs : List RowChange). old ++ cs) (first_put slots xs)
+-- some frames, and then others
+pub rows_put-append : (slots : List SlotRow) (ps qs : List ℕ) (xs ys : List Frame) → length ps ≡ length xs → rows_put slots (ps ++ qs) (xs ++ ys) ≡ rows_put slots ps xs ++ rows_put slots qs ys
+rows_put-append slots [] qs [] ys long = refl
+rows_put-append slots [] qs (x ∷ xs) ys long = absurd (omega (arith, long))
+rows_put-append slots (p ∷ ps) qs [] ys long = absurd (omega (arith, long))
+rows_put-append slots (p ∷ ps) qs (x ∷ xs) ys long = ap (λ (cs : List RowChange). frame_put p (slot_for x (slice_get slots p)) ∷ cs) (rows_put-append slots ps qs xs ys (omega (arith, long)))

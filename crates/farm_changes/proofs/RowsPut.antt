@@ -18,7 +18,7 @@ use Rattle.farm_types.specs.declared.slot_row.SlotRow.{SlotRow}
 use Rattle.farm_types.specs.declared.limits.TheConstants.{LAST_BOOT}
 use Rattle.farm_types.specs.Farm.{Farm, changed_at, changed_by, host_from, job_at, layer_at}
 use Rattle.farm_types.specs.Hosts.{booted, booted_at, booted_row, is_same_life, new_host}
-use Rattle.farm_types.specs.Jobs.{frames_of, is_finished_named, job_row, layer_row, layer_rows, place_frames, with_job, without_finished}
+use Rattle.farm_types.specs.Jobs.{frames_in, frames_of, is_finished_named, job_row, layer_row, layer_rows, place_frames, with_job, without_finished}
 use Rattle.farm_types.specs.Operators.{paused_row}
 use Rattle.farm_types.specs.Step.{at_moment, lists_of, with_lists}
 use Rattle.farm_types.proofs.Changed.{changed_at_is, changed_at_other, changed_at_same, length-changed_at, places}
@@ -45,7 +45,7 @@ use Rattle.farm_changes.specs.RowChanges.{HasBoots, HasBootsLeft, IsLeft, Leaves
 use Rattle.farm_changes.specs.declared.change.Change.{Change}
 use Rattle.farm_changes.specs.declared.change.More.{More}
 use Rattle.farm_changes.specs.declared.change.More.TheVariants as more
-use Rattle.farm_changes.proofs.FramesPut.{first_free-slots, frames_put-slots, makes_frames}
+use Rattle.farm_changes.proofs.FramesPut.{frames_put-slots, lowest_free-slots, makes_frames}
 
 -- ---- lives of hosts
 
@@ -326,7 +326,7 @@ pub places_job : (f : Farm) (c : Change) (placing : Placing) (spec : JobSpec) �
 places_job f c placing spec slots is =
     record {
       limits = is.limits;
-      placed = is.placed ∙ ap (λ (n : ℕ). record (placing_of (lists_of f) placing.show spec) { first = n }) (first_free-slots f.subs f.slots c.rows.slots.items slots);
+      placed = is.placed ∙ ap (λ (ns : List ℕ). record (placing_of (lists_of f) placing.show spec) { slots = ns }) (lowest_free-slots f.subs f.slots c.rows.slots.items (frames_in spec.layers) slots);
     }
 
 -- three lists of changes, one after the other

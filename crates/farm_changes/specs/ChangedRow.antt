@@ -12,7 +12,8 @@ use Rattle.farm_changes.specs.declared.change.Reserved.TheVariants as taken
 pub record SetsRow (moment slot ended : ℕ) (row : SlotRow) (change : Change) : Type 0 where
   pub hosts : change.rows.hosts.items ≡ []
   pub slots : change.rows.slots.items ≡ (slot, row) ∷ []
-  pub is : change ≡ record { moment = moment; answer = answer.Ended ended; heard = None; rows = change.rows; more = more.Nothing; reserved = false; memory = taken.None }
+  pub is : change
+      ≡ record { moment = moment; answer = answer.Ended ended; heard = None; rows = change.rows; more = more.Nothing; reserved = false; memory = taken.None }
 
 -- the change sets what becomes of the row that stands in the slot, whose attempt ends
 pub record ChangesRow (f : Farm) (moment slot : ℕ) (become : SlotRow → SlotRow) (change : Change) : Type 0 where

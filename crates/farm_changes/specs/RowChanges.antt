@@ -1,5 +1,5 @@
 -- The changes of the store's rows that a change of the farm comes to.
-use Rattle.std.specs.Prelude.{ℕ, ◌≡◌, ◌<◌, ◌==◌, ◌&&◌, ◌+◌, Bool, false, List, [], ◌∷◌, ◌++◌, drop, find, map, length, slice_get, Option, None, Some, option_map, if◌then◌else◌}
+use Rattle.std.specs.Prelude.{ℕ, ◌≡◌, ◌<◌, ◌==◌, ◌&&◌, ◌+◌, Bool, false, List, [], ◌∷◌, ◌++◌, find, map, length, slice_get, Option, None, Some, option_map, if◌then◌else◌}
 use Rattle.farm_types.specs.declared.boot.BootLine.{BootLine}
 use Rattle.farm_types.specs.declared.job.JobSpec.{JobSpec}
 use Rattle.farm_types.specs.declared.job.LayerSpec.{LayerSpec}
@@ -19,6 +19,7 @@ use Rattle.host_book.specs.Life.{with_life}
 use Rattle.host_book.specs.declared.life.HostLife.{HostLife}
 use Rattle.job_book.specs.Book.{placing_of, with_pause, without_job}
 use Rattle.job_book.specs.declared.placing.Placing.{Placing}
+use Rattle.job_book.specs.Lowest.{slot_for}
 use Rattle.farm_rows.specs.declared.farm_row.FarmRow.TheVariants as row
 use Rattle.farm_rows.specs.declared.row_key.RowKey.TheVariants as key
 use Rattle.farm_rows.specs.declared.row_change.RowChange.{RowChange}
@@ -102,7 +103,9 @@ frames_put place (s ∷ ss) (x ∷ xs) = if is_free s then frame_put place (slot
 -- a job of the next number, where that finished one leaves
 abbrev pub job_put : JobLists → Option ℕ → ℕ → JobSpec → List RowChange
 job_put b left show spec =
-    left_put left ++ (change.Put (row.Job (job_row b.next_job show spec)) ∷ (layers_put b.next_job 0 spec.layers ++ frames_put 0 b.slots (frames_of b.next_job 0 spec.layers)))
+    left_put left
+    ++ (change.Put (row.Job (job_row b.next_job show spec))
+    ∷ (layers_put b.next_job 0 spec.layers ++ frames_put 0 b.slots (frames_of b.next_job 0 spec.layers)))
 
 -- ---- the whole change
 
@@ -135,13 +138,10 @@ pub record Places (b : JobLists) (placing : Placing) (spec : JobSpec) : Type 0 w
   pub limits : JobKeepsLimits spec
   pub placed : placing ≡ placing_of b placing.show spec
 
--- ---- frames that are put one after the other
+-- ---- frames in slots that were found
 
--- the row of a slot that gets a frame
-abbrev pub slot_for : Frame → Option SlotRow → SlotRow
-slot_for x None = fresh_slot x
-slot_for x (Some s) = slot_with x s
-
--- the frames are put from a place on, which adds to the changes, and later ones belong from the next place on
-abbrev pub PutsRows : List SlotRow → List Frame → ℕ → ℕ → List RowChange → List RowChange → Type 0
-PutsRows slots frames place next old new = (later : List Frame) → old ++ frames_put place (drop place slots) (frames ++ later) ≡ new ++ frames_put next (drop next slots) later
+-- the frames in order, each in its slot
+abbrev pub rows_put : List SlotRow → List ℕ → List Frame → List RowChange
+rows_put slots [] frames = []
+rows_put slots (p ∷ ps) [] = []
+rows_put slots (p ∷ ps) (x ∷ xs) = frame_put p (slot_for x (slice_get slots p)) ∷ rows_put slots ps xs

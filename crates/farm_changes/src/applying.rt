@@ -8,6 +8,7 @@ ghost use Rattle.farm_types.specs.Jobs.{with_job};
 ghost use Rattle.farm_types.specs.Step.{lists_of, with_lists};
 ghost use Rattle.host_book.specs.Book.{alloc_of, plan_of};
 ghost use Rattle.job_book.specs.Layers.{spare_of};
+ghost use Rattle.farm_books.specs.Books.{with_farm};
 ghost use Rattle.farm_books.specs.Install.{IsPlacement};
 ghost use Rattle.farm_draft.specs.Rows.{AreInstallable, put_lives, put_slots};
 ghost use Rattle.farm_changes.specs.declared.change.Reserved.TheVariants as taken;
@@ -51,11 +52,11 @@ fn memory_for(books: &mut Books, alloc: Global, more: &More) -> Result<Reserved,
 
 /// Applies a change that fits the books and whose memory was taken. It takes no memory.
 pub fn apply(books: &mut Books, change: Change) -> Answer
-    requires ready { IsReady books.old change }
+    requires ready { IsReady books.old.farm change }
     requires reserved { IsReserved change }
-    ensures farm { books.new ≡ after_change books.old change }
+    ensures farm { books.new ≡ with_farm books.old (after_change books.old.farm change) }
     ensures answer { result ≡ change.answer }
-    ensures hosts { length books.old.hosts ≤ length books.new.hosts }
+    ensures hosts { length books.old.farm.hosts ≤ length books.new.farm.hosts }
 {
     let answer = change.answer;
     let moment = change.moment;
@@ -68,10 +69,10 @@ pub fn apply(books: &mut Books, change: Change) -> Answer
 
 /// Takes the memory that the change needs, and applies it. At an `Err`, where memory ran out, the books are as before.
 pub fn record(books: &mut Books, alloc: Global, change: Change) -> Result<(), AllocError>
-    requires { IsReady books.old change }
-    ensures ok { OnOk result (books.new ≡ after_change books.old change) }
+    requires { IsReady books.old.farm change }
+    ensures ok { OnOk result (books.new ≡ with_farm books.old (after_change books.old.farm change)) }
     ensures err { OnErr result (books.new ≡ books.old) }
-    ensures hosts { length books.old.hosts ≤ length books.new.hosts }
+    ensures hosts { length books.old.farm.hosts ≤ length books.new.farm.hosts }
 {
     let mut change = change;
     reserve(books, alloc, &mut change)?;
@@ -81,9 +82,10 @@ pub fn record(books: &mut Books, alloc: Global, change: Change) -> Result<(), Al
 
 // The rows are put in: lives of hosts, then slots.
 fn install_rows(books: &mut Books, rows: Rows)
-    requires hosts { All (λ e. e.0 < length books.old.hosts) rows.hosts.items }
-    requires slots { AreInstallable books.old.subs books.old.slots rows.slots.items }
-    ensures { books.new ≡ record books.old { hosts = put_lives books.old.hosts rows.hosts.items; slots = put_slots books.old.slots rows.slots.items } }
+    requires hosts { All (λ e. e.0 < length books.old.farm.hosts) rows.hosts.items }
+    requires slots { AreInstallable books.old.farm.subs books.old.farm.slots rows.slots.items }
+    ensures { books.new ≡ with_farm books.old
+        (record books.old.farm { hosts = put_lives books.old.farm.hosts rows.hosts.items; slots = put_slots books.old.farm.slots rows.slots.items }) }
 {
     // There are at most 4,096 hosts, so that the number of one that is there is below that.
     let _hosts = books.count_hosts();
@@ -97,9 +99,9 @@ fn install_rows(books: &mut Books, rows: Rows)
 
 // A row with texts is put in, in the memory that was taken for it.
 fn install_more(books: &mut Books, moment: u64, more: More, memory: Reserved)
-    requires fits { FitsMore books.old more }
+    requires fits { FitsMore books.old.farm more }
     requires memory { memory ≡ memory_of more }
-    ensures { books.new ≡ with_more books.old moment more }
+    ensures { books.new ≡ with_farm books.old (with_more books.old.farm moment more) }
 {
     match more {
         More::Nothing => {}
@@ -114,9 +116,12 @@ fn install_more(books: &mut Books, moment: u64, more: More, memory: Reserved)
 
 // An allocation is added, in the memory that was taken for it.
 fn alloc_in(books: &mut Books, memory: Reserved, facility: &Text, tag: &Text)
-    requires fits { check_of books.old.allocs (alloc_name facility.now tag.now) ≡ Ok (length books.old.allocs) }
+    requires fits { check_of books.old.farm.allocs (alloc_name facility.now tag.now) ≡ Ok (length books.old.farm.allocs) }
     requires memory { memory ≡ taken.Alloc (record { facility = facility.now; tag = tag.now }) }
-    ensures { books.new ≡ record books.old { allocs = books.old.allocs ++ record { facility = facility.now; tag = tag.now } ∷ [] } }
+    ensures { books.new ≡ with_farm books.old (record books.old.farm {
+      allocs = books.old.farm.allocs
+          ++ record { facility = facility.now; tag = tag.now } ∷ [];
+    }) }
 {
     let Reserved::Alloc(spare) = memory else {
         unreachable!()
@@ -126,9 +131,9 @@ fn alloc_in(books: &mut Books, memory: Reserved, facility: &Text, tag: &Text)
 
 // A host boots, in the memory that was taken for it.
 fn boot_in(books: &mut Books, memory: Reserved, plan: BootPlan, line: &BootLine, moment: u64)
-    requires fits { plan_of books.old.hosts line.now (alloc_of plan) ≡ Ok plan }
+    requires fits { plan_of books.old.farm.hosts line.now (alloc_of plan) ≡ Ok plan }
     requires memory { memory ≡ taken.Host line.now }
-    ensures { books.new ≡ record books.old { hosts = booted books.old.hosts line.now (alloc_of plan) moment } }
+    ensures { books.new ≡ with_farm books.old (record books.old.farm { hosts = booted books.old.farm.hosts line.now (alloc_of plan) moment }) }
 {
     let Reserved::Host(spare) = memory else {
         unreachable!()
@@ -138,9 +143,9 @@ fn boot_in(books: &mut Books, memory: Reserved, plan: BootPlan, line: &BootLine,
 
 // A job is placed, in the memory that was taken for it.
 fn job_in(books: &mut Books, memory: Reserved, placing: Placing, spec: JobSpec)
-    requires fits { IsPlacement books.old placing spec }
+    requires fits { IsPlacement books.old.farm placing spec }
     requires memory { memory ≡ taken.Job (spare_of spec) }
-    ensures { books.new ≡ with_lists books.old (with_job (lists_of books.old) placing.show spec) }
+    ensures { books.new ≡ with_farm books.old (with_lists books.old.farm (with_job (lists_of books.old.farm) placing.show spec)) }
 {
     let Reserved::Job(spare) = memory else {
         unreachable!()

@@ -18,8 +18,8 @@ pub(crate) fn prepare_added(
     moment: u64,
     spec: &DependSpec,
 ) -> Result<Change, FarmFault>
-    requires { books.now.moment ≤ moment }
-    ensures { Prepares books.now (record { moment = moment; act = act.AddDepend spec.now }) result }
+    requires { books.now.farm.moment ≤ moment }
+    ensures { Prepares books.now.farm (record { moment = moment; act = act.AddDepend spec.now }) result }
 {
     let _books = books;
     let _spec = spec;
@@ -37,8 +37,8 @@ pub(crate) fn prepare_dropped(
     moment: u64,
     depend: DependNo,
 ) -> Result<Change, FarmFault>
-    requires { books.now.moment ≤ moment }
-    ensures { Prepares books.now (record { moment = moment; act = act.DropDepend depend }) result }
+    requires { books.now.farm.moment ≤ moment }
+    ensures { Prepares books.now.farm (record { moment = moment; act = act.DropDepend depend }) result }
 {
     let _books = books;
     let _depend = depend;

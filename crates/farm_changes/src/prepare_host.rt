@@ -31,9 +31,9 @@ use std::alloc::Global;
 
 /// Prepares that every host that is up counts as heard.
 pub(crate) fn prepare_opened(alloc: Global, books: &Books, moment: u64) -> Result<Change, FarmFault>
-    requires kept { KeepsRows books.now }
-    requires ahead { books.now.moment ≤ moment }
-    ensures { Prepares books.now (record { moment = moment; act = act.Opened }) result }
+    requires kept { KeepsRows books.now.farm }
+    requires ahead { books.now.farm.moment ≤ moment }
+    ensures { Prepares books.now.farm (record { moment = moment; act = act.Opened }) result }
 {
     let rows = opened_rows(alloc, books, moment)?;
     Ok(change_of(moment, Answer::Opened, rows, More::Nothing))
@@ -46,10 +46,10 @@ pub(crate) fn prepare_boot(
     moment: u64,
     line: &BootLine,
 ) -> Result<Change, FarmFault>
-    requires kept { KeepsRows books.now }
-    requires ahead { books.now.moment ≤ moment }
+    requires kept { KeepsRows books.now.farm }
+    requires ahead { books.now.farm.moment ≤ moment }
     requires limits { BootKeepsLimits line.now }
-    ensures { Prepares books.now (record { moment = moment; act = act.Boot line.now }) result }
+    ensures { Prepares books.now.farm (record { moment = moment; act = act.Boot line.now }) result }
 {
     let Some(allocation) = books.alloc_named(line.alloc.as_str()) else {
         return Err(FarmFault::unknown(alloc, &line.alloc));
@@ -80,7 +80,7 @@ fn boot_of(plan: &BootPlan) -> u32
 
 // Why a boot isn't taken.
 fn boot_fault(alloc: Global, books: &Books, refusal: HostRefusal) -> FarmFault
-    ensures { IsBootFault books.now refusal result }
+    ensures { IsBootFault books.now.farm refusal result }
 {
     match refusal {
         HostRefusal::OtherAlloc { alloc: other } => existing_number(alloc, books, other),
@@ -91,7 +91,7 @@ fn boot_fault(alloc: Global, books: &Books, refusal: HostRefusal) -> FarmFault
 
 // That the allocation of that number is there. A number without one has an empty name.
 fn existing_number(alloc: Global, books: &Books, number: AllocNo) -> FarmFault
-    ensures { IsRefusal (Exists (name_of_alloc (slice_get books.now.allocs number))) result }
+    ensures { IsRefusal (Exists (name_of_alloc (slice_get books.now.farm.allocs number))) result }
 {
     match books.allocation(number) {
         None => FarmFault::existing(alloc, &Text::from_string(String::new(alloc))),
@@ -106,9 +106,9 @@ pub(crate) fn prepare_heard(
     moment: u64,
     heard: &HeardAct,
 ) -> Result<Change, FarmFault>
-    requires kept { KeepsRows books.now }
-    requires ahead { books.now.moment ≤ moment }
-    ensures { Prepares books.now (record { moment = moment; act = act.Heard heard.now }) result }
+    requires kept { KeepsRows books.now.farm }
+    requires ahead { books.now.farm.moment ≤ moment }
+    ensures { Prepares books.now.farm (record { moment = moment; act = act.Heard heard.now }) result }
 {
     let Some(host) = books.host_named(heard.host.as_str()) else {
         return Err(FarmFault::unknown(alloc, &heard.host));
@@ -120,7 +120,8 @@ pub(crate) fn prepare_heard(
 
 // The change of a host's report, which leaves those rows.
 fn report_change(moment: u64, host: HostNo, rows: Rows) -> Change
-    ensures { result ≡ record { moment = moment; answer = answer.Heard; heard = Some host; rows = rows; more = more.Nothing; reserved = false; memory = taken.None } }
+    ensures { result
+        ≡ record { moment = moment; answer = answer.Heard; heard = Some host; rows = rows; more = more.Nothing; reserved = false; memory = taken.None } }
 {
     let mut change = change_of(moment, Answer::Heard, rows, More::Nothing);
     change.heard = Some(host);
@@ -135,9 +136,9 @@ pub(crate) fn prepare_lock(
     host: &Text,
     lock: LockState,
 ) -> Result<Change, FarmFault>
-    requires kept { KeepsRows books.now }
-    requires ahead { books.now.moment ≤ moment }
-    ensures { Prepares books.now (record { moment = moment; act = act.Lock host.now lock }) result }
+    requires kept { KeepsRows books.now.farm }
+    requires ahead { books.now.farm.moment ≤ moment }
+    ensures { Prepares books.now.farm (record { moment = moment; act = act.Lock host.now lock }) result }
 {
     let Some(number) = books.host_named(host.as_str()) else {
         return Err(FarmFault::unknown(alloc, host));
@@ -148,9 +149,9 @@ pub(crate) fn prepare_lock(
 
 /// Prepares that time passed.
 pub(crate) fn prepare_tick(alloc: Global, books: &Books, moment: u64) -> Result<Change, FarmFault>
-    requires kept { KeepsRows books.now }
-    requires ahead { books.now.moment ≤ moment }
-    ensures { Prepares books.now (record { moment = moment; act = act.Tick }) result }
+    requires kept { KeepsRows books.now.farm }
+    requires ahead { books.now.farm.moment ≤ moment }
+    ensures { Prepares books.now.farm (record { moment = moment; act = act.Tick }) result }
 {
     let rows = expired_rows(alloc, books, moment)?;
     let answer = Answer::Tick {
@@ -163,7 +164,7 @@ pub(crate) fn prepare_tick(alloc: Global, books: &Books, moment: u64) -> Result<
 // How many attempts are on hosts that are silent. Where no host is silent, none is looked at, and else each silent host's own attempts, never all
 // slots.
 fn count_lost(books: &Books, moment: u64) -> u32
-    ensures { result ≡ count_on (is_silent books.now moment) books.now.slots }
+    ensures { result ≡ count_on (is_silent books.now.farm moment) books.now.farm.slots }
 {
     if books.count_silent(moment) == 0 {
         return 0;
@@ -179,7 +180,7 @@ fn count_lost(books: &Books, moment: u64) -> u32
 
 // How many attempts are on the host, where it is silent.
 fn count_silenced(books: &Books, host: HostNo, moment: u64) -> u32
-    ensures { result ≡ count_on (is_silent_one books.now moment host) books.now.slots }
+    ensures { result ≡ count_on (is_silent_one books.now.farm moment host) books.now.farm.slots }
 {
     if books.is_silent(host, moment) {
         count_attempts(books, host)
@@ -190,7 +191,7 @@ fn count_silenced(books: &Books, host: HostNo, moment: u64) -> u32
 
 // How many attempts are on the host.
 fn count_attempts(books: &Books, host: HostNo) -> u32
-    ensures { result ≡ count_on (λ n. n == host) books.now.slots }
+    ensures { result ≡ count_on (λ n. n == host) books.now.farm.slots }
 {
     // There are at most 65,536 slots, so that their attempts can be counted.
     let _slots = books.slots();

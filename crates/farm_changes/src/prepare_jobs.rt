@@ -24,8 +24,8 @@ pub(crate) fn prepare_pause(
     job: &Text,
     paused: bool,
 ) -> Result<Change, FarmFault>
-    requires ahead { books.now.moment ≤ moment }
-    ensures { Prepares books.now (record { moment = moment; act = act.Pause job.now paused }) result }
+    requires ahead { books.now.farm.moment ≤ moment }
+    ensures { Prepares books.now.farm (record { moment = moment; act = act.Pause job.now paused }) result }
 {
     let jobs = books.jobs();
     let Some(job) = jobs.pending(job.as_str()) else {
@@ -42,9 +42,9 @@ pub(crate) fn prepare_kill_job(
     moment: u64,
     job: &Text,
 ) -> Result<Change, FarmFault>
-    requires kept { KeepsRows books.now }
-    requires ahead { books.now.moment ≤ moment }
-    ensures { Prepares books.now (record { moment = moment; act = act.KillJob job.now }) result }
+    requires kept { KeepsRows books.now.farm }
+    requires ahead { books.now.farm.moment ≤ moment }
+    ensures { Prepares books.now.farm (record { moment = moment; act = act.KillJob job.now }) result }
 {
     let jobs = books.jobs();
     let Some(job) = jobs.pending(job.as_str()) else {
@@ -59,9 +59,10 @@ pub(crate) fn prepare_kill_job(
 
 // The rows of the job's frames that aren't done, eaten.
 fn killed_rows(alloc: Global, books: &Books, moment: u64, job: JobNo) -> Result<Rows, AllocError>
-    requires kept { KeepsRows books.now }
-    ensures farm { IfOk result (λ rows. installed (at_moment books.now moment) rows ≡ record (at_moment books.now moment) { slots = map (killed_row job) books.now.slots }) }
-    ensures ready { IfOk result (λ rows. AreReady books.now rows) }
+    requires kept { KeepsRows books.now.farm }
+    ensures farm { IfOk result (λ rows. installed (at_moment books.now.farm moment) rows
+        ≡ record (at_moment books.now.farm moment) { slots = map (killed_row job) books.now.farm.slots }) }
+    ensures ready { IfOk result (λ rows. AreReady books.now.farm rows) }
 {
     let mut draft = Draft::new(alloc, books, moment);
     draft.kill(job)?;

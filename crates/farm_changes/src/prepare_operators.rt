@@ -25,9 +25,9 @@ pub(crate) fn prepare_kill_frame(
     moment: u64,
     place: &FramePlace,
 ) -> Result<Change, FarmFault>
-    requires kept { KeepsRows books.now }
-    requires ahead { books.now.moment ≤ moment }
-    ensures { Prepares books.now (record { moment = moment; act = act.KillFrame place.now }) result }
+    requires kept { KeepsRows books.now.farm }
+    requires ahead { books.now.farm.moment ≤ moment }
+    ensures { Prepares books.now.farm (record { moment = moment; act = act.KillFrame place.now }) result }
 {
     let slot = find_frame(alloc, books, place)?;
     check_kill(books, slot)?;
@@ -41,9 +41,9 @@ pub(crate) fn prepare_eat(
     moment: u64,
     place: &FramePlace,
 ) -> Result<Change, FarmFault>
-    requires kept { KeepsRows books.now }
-    requires ahead { books.now.moment ≤ moment }
-    ensures { Prepares books.now (record { moment = moment; act = act.EatFrame place.now }) result }
+    requires kept { KeepsRows books.now.farm }
+    requires ahead { books.now.farm.moment ≤ moment }
+    ensures { Prepares books.now.farm (record { moment = moment; act = act.EatFrame place.now }) result }
 {
     let slot = find_frame(alloc, books, place)?;
     check_eat(books, slot)?;
@@ -57,9 +57,9 @@ pub(crate) fn prepare_retry(
     moment: u64,
     place: &FramePlace,
 ) -> Result<Change, FarmFault>
-    requires kept { KeepsRows books.now }
-    requires ahead { books.now.moment ≤ moment }
-    ensures { Prepares books.now (record { moment = moment; act = act.RetryFrame place.now }) result }
+    requires kept { KeepsRows books.now.farm }
+    requires ahead { books.now.farm.moment ≤ moment }
+    ensures { Prepares books.now.farm (record { moment = moment; act = act.RetryFrame place.now }) result }
 {
     let slot = find_frame(alloc, books, place)?;
     check_retry(alloc, books, place, slot)?;
@@ -74,8 +74,8 @@ fn stop(
     slot: Slot,
     state: FrameState,
 ) -> Result<Change, AllocError>
-    requires { has_frame (lists_of books.now) slot ≡ true }
-    ensures { IfOk result (ChangesRow books.now moment slot (stopped_row state)) }
+    requires { has_frame (lists_of books.now.farm) slot ≡ true }
+    ensures { IfOk result (ChangesRow books.now.farm moment slot (stopped_row state)) }
 {
     let Some(row) = books.slot(slot) else {
         unreachable!()
@@ -85,8 +85,8 @@ fn stop(
 
 // The change in which the slot's attempt ends, and its frame waits as at first.
 fn retry(alloc: Global, books: &Books, moment: u64, slot: Slot) -> Result<Change, AllocError>
-    requires { has_frame (lists_of books.now) slot ≡ true }
-    ensures { IfOk result (ChangesRow books.now moment slot retried_row) }
+    requires { has_frame (lists_of books.now.farm) slot ≡ true }
+    ensures { IfOk result (ChangesRow books.now.farm moment slot retried_row) }
 {
     let Some(row) = books.slot(slot) else {
         unreachable!()

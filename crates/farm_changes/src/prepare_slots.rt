@@ -2,8 +2,8 @@
 
 ghost use Rattle.std.specs.Prelude.{◌≡◌, ◌≤◌, ◌∷◌, [], true, IfOk};
 ghost use Rattle.farm_types.specs.Booking.{may_record};
-ghost use Rattle.farm_types.specs.Kept.{KeepsRows};
 ghost use Rattle.farm_types.specs.declared.entry.Act.TheVariants as act;
+ghost use Rattle.farm_books.specs.Books.{IsWhole};
 ghost use Rattle.farm_changes.specs.Change.{Prepares};
 
 use crate::change::{Change, More};
@@ -21,10 +21,10 @@ pub(crate) fn prepare_book(
     slot: Slot,
     host: HostNo,
 ) -> Result<Change, FarmFault>
-    requires kept { KeepsRows books.now }
-    requires ahead { books.now.moment ≤ moment }
-    requires allowed { may_record books.now slot host ≡ true }
-    ensures { Prepares books.now (record { moment = moment; act = act.Book slot host }) result }
+    requires whole { IsWhole books.now }
+    requires ahead { books.now.farm.moment ≤ moment }
+    requires allowed { may_record books.now.farm slot host ≡ true }
+    ensures { Prepares books.now.farm (record { moment = moment; act = act.Book slot host }) result }
 {
     let Some(row) = books.booked_at(slot, host, moment) else {
         unreachable!()

@@ -8,6 +8,7 @@ ghost use Rattle.farm_types.specs.Kept.{KeepsRows};
 ghost use Rattle.farm_types.specs.Step.{HasCondition};
 ghost use Rattle.farm_types.specs.declared.entry.Act.TheVariants as act;
 ghost use Rattle.farm_changes.specs.declared.change.Reserved.TheVariants as taken;
+ghost use Rattle.farm_books.specs.Books.{IsWhole};
 ghost use Rattle.farm_changes.specs.Change.{Prepares};
 
 use crate::change::{Change, More, Reserved};
@@ -27,13 +28,13 @@ use farm_types::{
 };
 use std::alloc::Global;
 
-/// Prepares what the entry's act does, and changes nothing. The farm keeps what every farm keeps of its rows, the entry is within its forms and
-/// limits, and an entry to book is one whose booking may be recorded. What follows of depends is known to the layer above.
+/// Prepares what the entry's act does, and changes nothing. The books are whole, the entry is within its forms and limits, and an entry to book is one
+/// whose booking may be recorded. What follows of depends is known to the layer above.
 pub fn prepare(alloc: Global, books: &Books, entry: &Entry) -> Result<Change, FarmFault>
-    requires kept { KeepsRows books.now }
-    requires condition { HasCondition books.now entry.now.act }
+    requires whole { IsWhole books.now }
+    requires condition { HasCondition books.now.farm entry.now.act }
     requires formed { IsFormed entry.now }
-    ensures { Prepares books.now entry.now result }
+    ensures { Prepares books.now.farm entry.now result }
 {
     let moment = books.later_of(entry.moment);
     match &entry.act {
@@ -74,8 +75,8 @@ pub(crate) fn change_of(moment: u64, answer: Answer, rows: Rows, more: More) -> 
 
 // Prepares that a show is added. Its name is new, then there are not too many.
 fn prepare_show(alloc: Global, books: &Books, moment: u64, name: &Text) -> Result<Change, FarmFault>
-    requires { books.now.moment ≤ moment }
-    ensures { Prepares books.now (record { moment = moment; act = act.Show name.now }) result }
+    requires { books.now.farm.moment ≤ moment }
+    ensures { Prepares books.now.farm (record { moment = moment; act = act.Show name.now }) result }
 {
     if books.show_named(name.as_str()).is_some() {
         return Err(FarmFault::existing(alloc, name));
@@ -95,8 +96,8 @@ fn prepare_alloc(
     facility: &Text,
     tag: &Text,
 ) -> Result<Change, FarmFault>
-    requires { books.now.moment ≤ moment }
-    ensures { Prepares books.now (record { moment = moment; act = act.Alloc facility.now tag.now }) result }
+    requires { books.now.farm.moment ≤ moment }
+    ensures { Prepares books.now.farm (record { moment = moment; act = act.Alloc facility.now tag.now }) result }
 {
     match books.check_alloc(facility.as_str(), tag.as_str()) {
         Ok(_) => {
@@ -121,10 +122,10 @@ fn prepare_sub(
     moment: u64,
     line: &SubLine,
 ) -> Result<Change, FarmFault>
-    requires kept { KeepsRows books.now }
-    requires ahead { books.now.moment ≤ moment }
+    requires kept { KeepsRows books.now.farm }
+    requires ahead { books.now.farm.moment ≤ moment }
     requires limits { SubKeepsLimits line.now }
-    ensures { Prepares books.now (record { moment = moment; act = act.Sub line.now }) result }
+    ensures { Prepares books.now.farm (record { moment = moment; act = act.Sub line.now }) result }
 {
     let Some(show) = books.show_named(line.show.as_str()) else {
         return Err(FarmFault::unknown(alloc, &line.show));
@@ -155,9 +156,9 @@ fn prepare_submit(
     moment: u64,
     spec: &JobSpec,
 ) -> Result<Change, FarmFault>
-    requires ahead { books.now.moment ≤ moment }
+    requires ahead { books.now.farm.moment ≤ moment }
     requires limits { JobKeepsLimits spec.now }
-    ensures { Prepares books.now (record { moment = moment; act = act.Submit spec.now }) result }
+    ensures { Prepares books.now.farm (record { moment = moment; act = act.Submit spec.now }) result }
 {
     let Some(show) = books.show_named(spec.show.as_str()) else {
         return Err(FarmFault::unknown(alloc, &spec.show));

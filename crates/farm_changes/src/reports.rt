@@ -23,9 +23,10 @@ pub(crate) fn heard_rows(
     host: HostNo,
     heard: &HeardAct,
 ) -> Result<Rows, AllocError>
-    requires kept { KeepsRows books.now }
-    ensures farm { IfOk result (λ rows. installed (at_moment books.now moment) rows ≡ heard_farm (expire (at_moment books.now moment) moment) host moment heard.now) }
-    ensures ready { IfOk result (λ rows. AreReady books.now rows) }
+    requires kept { KeepsRows books.now.farm }
+    ensures farm { IfOk result (λ rows. installed (at_moment books.now.farm moment) rows
+        ≡ heard_farm (expire (at_moment books.now.farm moment) moment) host moment heard.now) }
+    ensures ready { IfOk result (λ rows. AreReady books.now.farm rows) }
 {
     if is_word_alone(books, moment, heard) {
         life_rows(alloc, books, moment, host, heard.seq)
@@ -37,7 +38,7 @@ pub(crate) fn heard_rows(
 // Whether the report is no more than a word of its host: nothing completes, and no host is silent.
 fn is_word_alone(books: &Books, moment: u64, heard: &HeardAct) -> bool
     ensures done { result ≡ true → length heard.now.done ≡ 0 }
-    ensures quiet { result ≡ true → count_unheard moment books.now.hosts ≡ 0 }
+    ensures quiet { result ≡ true → count_unheard moment books.now.farm.hosts ≡ 0 }
 {
     heard.done.is_empty() && !books.may_be_silent(moment)
 }
@@ -50,8 +51,9 @@ fn life_rows(
     host: HostNo,
     seq: u64,
 ) -> Result<Rows, AllocError>
-    ensures farm { IfOk result (λ rows. installed (at_moment books.now moment) rows ≡ record (at_moment books.now moment) { hosts = changed_at books.now.hosts host (heard_row seq moment) }) }
-    ensures ready { IfOk result (λ rows. AreReady books.now rows) }
+    ensures farm { IfOk result (λ rows. installed (at_moment books.now.farm moment) rows
+        ≡ record (at_moment books.now.farm moment) { hosts = changed_at books.now.farm.hosts host (heard_row seq moment) }) }
+    ensures ready { IfOk result (λ rows. AreReady books.now.farm rows) }
 {
     let Some(life) = books.life(host) else {
         return Ok(Rows::none(alloc));
@@ -89,9 +91,10 @@ fn drafted_rows(
     host: HostNo,
     heard: &HeardAct,
 ) -> Result<Rows, AllocError>
-    requires kept { KeepsRows books.now }
-    ensures farm { IfOk result (λ rows. installed (at_moment books.now moment) rows ≡ heard_farm (expire (at_moment books.now moment) moment) host moment heard.now) }
-    ensures ready { IfOk result (λ rows. AreReady books.now rows) }
+    requires kept { KeepsRows books.now.farm }
+    ensures farm { IfOk result (λ rows. installed (at_moment books.now.farm moment) rows
+        ≡ heard_farm (expire (at_moment books.now.farm moment) moment) host moment heard.now) }
+    ensures ready { IfOk result (λ rows. AreReady books.now.farm rows) }
 {
     let mut draft = Draft::new(alloc, books, moment);
     draft.expire()?;

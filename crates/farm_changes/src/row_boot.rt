@@ -23,8 +23,9 @@ pub(crate) fn put_boot(
     moment: u64,
     into: &mut Vec<RowChange>,
 ) -> Result<(), AllocError>
-    requires { HasBoots books.now.hosts line.now (host_named books.now line.now.host) }
-    ensures { OnOk result (into.new.items ≡ into.old.items ++ boot_put books.now.hosts lives.now line.now (alloc_of plan.now) moment (host_named books.now line.now.host)) }
+    requires { HasBoots books.now.farm.hosts line.now (host_named books.now.farm line.now.host) }
+    ensures { OnOk result (into.new.items ≡ into.old.items
+        ++ boot_put books.now.farm.hosts lives.now line.now (alloc_of plan.now) moment (host_named books.now.farm line.now.host)) }
 {
     match books.host_named(line.host.as_str()) {
         None => put_new_host(alloc, books, alloc_of(plan), line, moment, into),
@@ -52,7 +53,7 @@ fn put_new_host(
     moment: u64,
     into: &mut Vec<RowChange>,
 ) -> Result<(), AllocError>
-    ensures { OnOk result (into.new.items ≡ into.old.items ++ boot_put books.now.hosts [] line.now allocation moment None) }
+    ensures { OnOk result (into.new.items ≡ into.old.items ++ boot_put books.now.farm.hosts [] line.now allocation moment None) }
 {
     let host = HostNo(books.count_hosts() as u16);
     let row = new_host(alloc, allocation, line, moment)?;
@@ -94,8 +95,9 @@ fn put_reboot(
     moment: u64,
     into: &mut Vec<RowChange>,
 ) -> Result<(), AllocError>
-    requires { HasBootsLeft line.now (slice_get books.now.hosts host) }
-    ensures { OnOk result (into.new.items ≡ into.old.items ++ reboot_put line.now moment host (option_map (life_over (last_life host lives.now None)) (slice_get books.now.hosts host))) }
+    requires { HasBootsLeft line.now (slice_get books.now.farm.hosts host) }
+    ensures { OnOk result (into.new.items ≡ into.old.items
+        ++ reboot_put line.now moment host (option_map (life_over (last_life host lives.now None)) (slice_get books.now.farm.hosts host))) }
 {
     let Some(row) = books.host(host) else {
         return Ok(());

@@ -27,8 +27,8 @@ impl Change {
     /// The rows of the store that the change makes other ones in these books, but for the farm's own, each as it will be, in the order in which they
     /// change. A row that stays as it is may be among them, and one that changes more than once. Depends and marks stay as they are.
     pub fn row_changes(&self, alloc: Global, books: &Books) -> Result<Vec<RowChange>, AllocError>
-        requires { IsReady books.now self.now }
-        ensures { IfOk result (λ changes. MakesBookRows books.now (after_change books.now self.now) changes.items) }
+        requires { IsReady books.now.farm self.now }
+        ensures { IfOk result (λ changes. MakesBookRows books.now.farm (after_change books.now.farm self.now) changes.items) }
     {
         let mut changes = Vec::new(alloc);
         put_lives(alloc, books, self.rows.hosts.as_slice(), &mut changes)?;
@@ -46,8 +46,8 @@ fn put_lives(
     lives: &[(u32, HostLife)],
     into: &mut Vec<RowChange>,
 ) -> Result<(), AllocError>
-    requires { All (λ e. e.0 < length books.now.hosts) lives.now }
-    ensures { OnOk result (into.new.items ≡ into.old.items ++ lives_put books.now.hosts lives.now) }
+    requires { All (λ e. e.0 < length books.now.farm.hosts) lives.now }
+    ensures { OnOk result (into.new.items ≡ into.old.items ++ lives_put books.now.farm.hosts lives.now) }
 {
     for entry in lives {
         put_life(alloc, books, entry.0, &entry.1, into)?;
@@ -63,8 +63,8 @@ fn put_life(
     life: &HostLife,
     into: &mut Vec<RowChange>,
 ) -> Result<(), AllocError>
-    requires { host < length books.now.hosts }
-    ensures { OnOk result (into.new.items ≡ into.old.items ++ life_put (host, life.now) (slice_get books.now.hosts host)) }
+    requires { host < length books.now.farm.hosts }
+    ensures { OnOk result (into.new.items ≡ into.old.items ++ life_put (host, life.now) (slice_get books.now.farm.hosts host)) }
 {
     // There are at most 4,096 hosts, so that the number of one that is there is below that.
     let _hosts = books.count_hosts();
@@ -101,7 +101,7 @@ fn put_slots(slots: &[(u32, SlotRow)], into: &mut Vec<RowChange>) -> Result<(), 
 
 // The finished job that leaves where the change places a job of its name.
 fn leaving(books: &Books, more: &More) -> Option<JobNo>
-    ensures { IsLeft books.now result more.now }
+    ensures { IsLeft books.now.farm result more.now }
 {
     match more {
         More::Job { spec, .. } => left_by(books, spec),
@@ -111,7 +111,7 @@ fn leaving(books: &Books, more: &More) -> Option<JobNo>
 
 // The finished job that leaves where a job of its name is placed.
 fn left_by(books: &Books, spec: &JobSpec) -> Option<JobNo>
-    ensures { Leaves (lists_of books.now) result spec.now }
+    ensures { Leaves (lists_of books.now.farm) result spec.now }
 {
     let jobs = books.jobs();
     let _number = jobs.next_number();
@@ -126,8 +126,8 @@ fn put_more(
     left: Option<JobNo>,
     into: &mut Vec<RowChange>,
 ) -> Result<(), AllocError>
-    requires { IsReady books.now change.now }
-    ensures { OnOk result (into.new.items ≡ into.old.items ++ more_put books.now change.now.rows.hosts.items change.now.moment left change.now.more) }
+    requires { IsReady books.now.farm change.now }
+    ensures { OnOk result (into.new.items ≡ into.old.items ++ more_put books.now.farm change.now.rows.hosts.items change.now.moment left change.now.more) }
 {
     let moment = change.moment;
     match &change.more {
@@ -156,7 +156,7 @@ fn put_show(
     name: &Text,
     into: &mut Vec<RowChange>,
 ) -> Result<(), AllocError>
-    ensures { OnOk result (into.new.items ≡ into.old.items ++ change.Put (row.Show (length books.now.shows) (record { name = name.now })) ∷ []) }
+    ensures { OnOk result (into.new.items ≡ into.old.items ++ change.Put (row.Show (length books.now.farm.shows) (record { name = name.now })) ∷ []) }
 {
     let show = ShowNo(books.count_shows() as u16);
     let row = ShowRow {
@@ -174,8 +174,9 @@ fn put_alloc(
     tag: &Text,
     into: &mut Vec<RowChange>,
 ) -> Result<(), AllocError>
-    requires { check_of books.now.allocs (alloc_name facility.now tag.now) ≡ Ok (length books.now.allocs) }
-    ensures { OnOk result (into.new.items ≡ into.old.items ++ change.Put (row.Alloc (length books.now.allocs) (record { facility = facility.now; tag = tag.now })) ∷ []) }
+    requires { check_of books.now.farm.allocs (alloc_name facility.now tag.now) ≡ Ok (length books.now.farm.allocs) }
+    ensures { OnOk result (into.new.items ≡ into.old.items ++ change.Put (row.Alloc (length books.now.farm.allocs)
+        (record { facility = facility.now; tag = tag.now })) ∷ []) }
 {
     let Ok(number) = books.check_alloc(facility.as_str(), tag.as_str()) else {
         unreachable!()
@@ -209,7 +210,7 @@ fn put_paused(
     paused: bool,
     into: &mut Vec<RowChange>,
 ) -> Result<(), AllocError>
-    ensures { OnOk result (into.new.items ≡ into.old.items ++ paused_put paused (job_at books.now job)) }
+    ensures { OnOk result (into.new.items ≡ into.old.items ++ paused_put paused (job_at books.now.farm job)) }
 {
     let Some(row) = books.job(job) else {
         return Ok(());

@@ -1,17 +1,17 @@
 //! The rows of a job that is placed: its own, its layers', and its frames' slots.
 
-ghost use Rattle.std.specs.Prelude.{◌≡◌, ◌≤◌, ◌+◌, ◌++◌, ◌∷◌, [], drop, length, max, slice_get, IfOk, OnOk};
-ghost use Rattle.farm_types.specs.Jobs.{frames_from, frames_in, frames_of, is_free, job_row, layer_row, new_frame};
+ghost use Rattle.std.specs.Prelude.{◌≡◌, ◌≤◌, ◌++◌, ◌∷◌, [], length, slice_get, IfOk, OnOk};
+ghost use Rattle.farm_types.specs.Jobs.{frames_from, frames_in, frames_of, job_row, layer_row, new_frame};
 ghost use Rattle.farm_types.specs.Step.{lists_of};
-ghost use Rattle.farm_types.specs.declared.limits.TheConstants.{MOST_FRAMES, MOST_LAYERS, SLOT_LIMIT};
-ghost use Rattle.job_book.specs.Book.{first_free};
-ghost use Rattle.farm_changes.specs.RowChanges.{Places, PutsRows, frames_put, job_put, layers_put, left_put, slot_for};
+ghost use Rattle.farm_types.specs.declared.limits.TheConstants.{MOST_FRAMES, MOST_LAYERS};
+ghost use Rattle.job_book.specs.Lowest.{lowest_free, slot_for};
+ghost use Rattle.farm_changes.specs.RowChanges.{Places, frame_put, frames_put, job_put, layers_put, left_put, rows_put};
 
 use farm_books::Books;
 use farm_rows::{FarmRow, FrameRow, RowChange, RowKey};
 use farm_types::{
-    Frame, FrameState, JobNo, JobRow, JobSpec, JobState, LAST_VERSION, LayerRow, LayerSpec, Slot,
-    SlotRow, Version,
+    Frame, FrameState, JobNo, JobRow, JobSpec, JobState, LayerRow, LayerSpec, Slot, SlotRow,
+    Version,
 };
 use job_book::Placing;
 use std::alloc::{AllocError, Global};
@@ -25,8 +25,8 @@ pub(crate) fn put_job(
     spec: &JobSpec,
     into: &mut Vec<RowChange>,
 ) -> Result<(), AllocError>
-    requires { Places (lists_of books.now) placing.now spec.now }
-    ensures { OnOk result (into.new.items ≡ into.old.items ++ job_put (lists_of books.now) left placing.now.show spec.now) }
+    requires { Places (lists_of books.now.farm) placing.now spec.now }
+    ensures { OnOk result (into.new.items ≡ into.old.items ++ job_put (lists_of books.now.farm) left placing.now.show spec.now) }
 {
     put_left(left, into)?;
     let row = job_row(alloc, placing, spec)?;
@@ -34,7 +34,7 @@ pub(crate) fn put_job(
     put_layers(alloc, placing.job, spec.layers.as_slice(), into)?;
     put_frames(
         books.slots(),
-        placing.first,
+        placing.slots.as_slice(),
         placing.job,
         spec.layers.as_slice(),
         into,
@@ -116,94 +116,68 @@ fn layer_row(
     })
 }
 
-// The slots that the frames of a job's layers get, of which the first is told.
+// The frames of a job's layers in these slots, the lowest free ones.
 fn put_frames(
     slots: &[SlotRow],
-    first: Slot,
+    places: &[Slot],
     job: JobNo,
     layers: &[LayerSpec],
     into: &mut Vec<RowChange>,
 ) -> Result<(), AllocError>
-    requires first { first ≡ first_free slots.now }
-    requires slot_count { length slots.now ≤ SLOT_LIMIT }
+    requires places { places.now ≡ lowest_free 0 slots.now (frames_in layers.now) }
     requires layer_count { length layers.now ≤ MOST_LAYERS }
     requires frame_count { frames_in layers.now ≤ MOST_FRAMES }
     ensures { OnOk result (into.new.items ≡ into.old.items ++ frames_put 0 slots.now (frames_of job 0 layers.now)) }
 {
-    let mut next = first.0 as usize;
+    let mut done = 0;
     for (place, layer) in layers.iter().enumerate() {
-        next = put_layer(
+        let end = done + layer.numbers.len();
+        put_layer(
             slots,
-            next,
+            &places[done..end],
             job,
             place as u32,
             layer.numbers.as_slice(),
             into,
         )?;
+        done = end;
     }
     Ok(())
 }
 
-// The slots that the frames of a layer's numbers get, from a place on. Says the place after the last one.
+// The frames of a layer's numbers in these slots.
 fn put_layer(
     slots: &[SlotRow],
-    first: usize,
+    places: &[Slot],
     job: JobNo,
     layer: u32,
     numbers: &[i32],
     into: &mut Vec<RowChange>,
-) -> Result<usize, AllocError>
-    requires slot_count { length slots.now ≤ SLOT_LIMIT }
+) -> Result<(), AllocError>
+    requires count { length places.now ≡ length numbers.now }
     requires frame_count { length numbers.now ≤ MOST_FRAMES }
-    requires first { first ≤ SLOT_LIMIT + MOST_FRAMES }
-    ensures puts { IfOk result (λ next. PutsRows slots.now (frames_from job layer 0 numbers.now) first next into.old.items into.new.items) }
-    ensures within { IfOk result (λ next. next ≤ max first SLOT_LIMIT + length numbers.now) }
+    ensures { OnOk result (into.new.items ≡ into.old.items ++ rows_put slots.now places.now (frames_from job layer 0 numbers.now)) }
 {
-    let mut next = first;
     for (position, number) in numbers.iter().enumerate() {
         let frame = new_frame(job, layer, position as u32, *number);
-        next = put_frame(slots, next, frame, into)?;
+        put_frame(slots, places[position], frame, into)?;
     }
-    Ok(next)
+    Ok(())
 }
 
-// The slot that a frame gets, the first free one from a place on. Says the place after it.
+// A frame in a slot.
 fn put_frame(
     slots: &[SlotRow],
-    from: usize,
+    slot: Slot,
     frame: Frame,
     into: &mut Vec<RowChange>,
-) -> Result<usize, AllocError>
-    requires slot_count { length slots.now ≤ SLOT_LIMIT }
-    requires from { from ≤ SLOT_LIMIT + MOST_FRAMES + MOST_FRAMES }
-    ensures puts { IfOk result (λ next. PutsRows slots.now (frame ∷ []) from next into.old.items into.new.items) }
-    ensures within { IfOk result (λ next. next ≤ max from SLOT_LIMIT + 1) }
+) -> Result<(), AllocError>
+    ensures { OnOk result (into.new.items ≡ into.old.items ++ frame_put slot (slot_for frame (slice_get slots.now slot)) ∷ []) }
 {
-    let place = next_free(slots, from);
-    let row = slot_for(slots, place, frame);
-    let row = FrameRow::of_slot(Slot(place as u32), &row);
+    let row = slot_for(slots, slot.0 as usize, frame);
+    let row = FrameRow::of_slot(slot, &row);
     into.push(RowChange::Put(FarmRow::Frame(row)))?;
-    Ok(place + 1)
-}
-
-// The first free slot from a place on, and that place where it is past the last that was ever used.
-fn next_free(slots: &[SlotRow], from: usize) -> usize
-    ensures value { result ≡ from + first_free (drop from slots.now) }
-    ensures bound { result ≤ max from (length slots.now) }
-{
-    for place in from..slots.len() {
-        if is_free(&slots[place]) {
-            return place;
-        }
-    }
-    from.max(slots.len())
-}
-
-// Whether the slot has no frame and may still rise in version.
-fn is_free(row: &SlotRow) -> bool
-    ensures { result ≡ is_free row.now }
-{
-    row.frame.is_none() && row.version.0 < LAST_VERSION
+    Ok(())
 }
 
 // The row of the slot at a place, with that frame.

@@ -15,8 +15,9 @@ use std::alloc::{AllocError, Global};
 
 /// Every host that is up counts as heard.
 pub(crate) fn opened_rows(alloc: Global, books: &Books, moment: u64) -> Result<Rows, AllocError>
-    ensures farm { IfOk result (λ rows. installed (at_moment books.now moment) rows ≡ record (at_moment books.now moment) { hosts = map (reopened_row moment) books.now.hosts }) }
-    ensures ready { IfOk result (λ rows. AreReady books.now rows) }
+    ensures farm { IfOk result (λ rows. installed (at_moment books.now.farm moment) rows
+        ≡ record (at_moment books.now.farm moment) { hosts = map (reopened_row moment) books.now.farm.hosts }) }
+    ensures ready { IfOk result (λ rows. AreReady books.now.farm rows) }
 {
     let mut draft = Draft::new(alloc, books, moment);
     draft.reopen()?;
@@ -25,9 +26,9 @@ pub(crate) fn opened_rows(alloc: Global, books: &Books, moment: u64) -> Result<R
 
 /// Silent hosts go down, and the attempts on them are lost.
 pub(crate) fn expired_rows(alloc: Global, books: &Books, moment: u64) -> Result<Rows, AllocError>
-    requires kept { KeepsRows books.now }
-    ensures farm { IfOk result (λ rows. installed (at_moment books.now moment) rows ≡ expire (at_moment books.now moment) moment) }
-    ensures ready { IfOk result (λ rows. AreReady books.now rows) }
+    requires kept { KeepsRows books.now.farm }
+    ensures farm { IfOk result (λ rows. installed (at_moment books.now.farm moment) rows ≡ expire (at_moment books.now.farm moment) moment) }
+    ensures ready { IfOk result (λ rows. AreReady books.now.farm rows) }
 {
     let mut draft = Draft::new(alloc, books, moment);
     draft.expire()?;
@@ -42,8 +43,9 @@ pub(crate) fn locked_rows(
     host: HostNo,
     lock: LockState,
 ) -> Result<Rows, AllocError>
-    ensures farm { IfOk result (λ rows. installed (at_moment books.now moment) rows ≡ record (at_moment books.now moment) { hosts = changed_at books.now.hosts host (locked_row lock) }) }
-    ensures ready { IfOk result (λ rows. AreReady books.now rows) }
+    ensures farm { IfOk result (λ rows. installed (at_moment books.now.farm moment) rows
+        ≡ record (at_moment books.now.farm moment) { hosts = changed_at books.now.farm.hosts host (locked_row lock) }) }
+    ensures ready { IfOk result (λ rows. AreReady books.now.farm rows) }
 {
     let mut draft = Draft::new(alloc, books, moment);
     draft.lock(host, lock)?;
@@ -57,9 +59,10 @@ pub(crate) fn boot_rows(
     moment: u64,
     line: &BootLine,
 ) -> Result<Rows, AllocError>
-    requires kept { KeepsRows books.now }
-    ensures farm { IfOk result (λ rows. installed (at_moment books.now moment) rows ≡ lives_ended (expire (at_moment books.now moment) moment) line.now) }
-    ensures ready { IfOk result (λ rows. AreReady books.now rows) }
+    requires kept { KeepsRows books.now.farm }
+    ensures farm { IfOk result (λ rows. installed (at_moment books.now.farm moment) rows
+        ≡ lives_ended (expire (at_moment books.now.farm moment) moment) line.now) }
+    ensures ready { IfOk result (λ rows. AreReady books.now.farm rows) }
 {
     let mut draft = Draft::new(alloc, books, moment);
     draft.expire()?;
@@ -71,7 +74,7 @@ pub(crate) fn boot_rows(
 
 // The host of the boot, where it is there and its life another one.
 fn ending_life(books: &Books, line: &BootLine) -> Option<HostNo>
-    ensures { result ≡ ending_life books.now line.now (host_named books.now line.now.host) }
+    ensures { result ≡ ending_life books.now.farm line.now (host_named books.now.farm line.now.host) }
 {
     let host = books.host_named(line.host.as_str())?;
     let row = books.host(host)?;

@@ -21,13 +21,12 @@ use Rattle.farm_rows.specs.Rows.{head_row}
 use Rattle.farm_rows.proofs.MadeLists.{makes_counters, makes_slot}
 use Rattle.farm_rows.proofs.MadeRows.{makes_all, makes_then}
 use Rattle.farm_books.specs.Bookings.{booked_at}
-use Rattle.depend_book.specs.Book.{DependLists, joined}
 
 -- the farm at a moment, with that row in the slot
 abbrev with_booked : Farm → ℕ → ℕ → SlotRow → Farm
 with_booked f slot moment s = record f { slots = slice_set f.slots slot s; moment = moment; recorded = true }
 
-module _ (f : Farm) (b : DependLists) (slot host moment : ℕ) (may : may_record f slot host ≡ true) where
+module _ (f : Farm) (slot host moment : ℕ) (may : may_record f slot host ≡ true) where
   abbrev pub booking : Entry
   booking = record { moment = moment; act = Book slot host }
 
@@ -47,10 +46,10 @@ module _ (f : Farm) (b : DependLists) (slot host moment : ℕ) (may : may_record
   proc_is = new_proc_is f slot host now rows found
 
   -- the farm after the booking
-  farm_is : after (joined f b) booking ≡ with_booked (joined f b) slot now (booked_row proc rows.slot)
+  farm_is : after f booking ≡ with_booked f slot now (booked_row proc rows.slot)
   farm_is =
-      ap (with_proc (at_moment (joined f b) now) slot) proc_is
-      ∙ ap (λ (ss : List SlotRow). record (at_moment (joined f b) now) { slots = ss }) (changed_at_is f.slots slot (booked_row proc) rows.slot found.slot_is)
+      ap (with_proc (at_moment f now) slot) proc_is
+      ∙ ap (λ (ss : List SlotRow). record (at_moment f now) { slots = ss }) (changed_at_is f.slots slot (booked_row proc) rows.slot found.slot_is)
 
   -- the row that the books tell
   row_is : (s : SlotRow) → booked_at f slot host now ≡ Some s → booked_row proc rows.slot ≡ s
@@ -62,17 +61,17 @@ module _ (f : Farm) (b : DependLists) (slot host moment : ℕ) (may : may_record
       in
       same_Some (booked_row proc rows.slot) s (sym read ∙ told)
 
-  slot_made : (s : SlotRow) → MakesRows (joined f b) (with_booked (joined f b) slot now s) (slot_change slot s ∷ [])
+  slot_made : (s : SlotRow) → MakesRows f (with_booked f slot now s) (slot_change slot s ∷ [])
   slot_made s =
-      let slots = record (joined f b) { slots = slice_set f.slots slot s } in
-      makes_then (joined f b) slots (with_booked (joined f b) slot now s) (slot_change slot s ∷ []) [] (makes_slot (joined f b) slot s rows.slot found.slot_is)
+      let slots = record f { slots = slice_set f.slots slot s } in
+      makes_then f slots (with_booked f slot now s) (slot_change slot s ∷ []) [] (makes_slot f slot s rows.slot found.slot_is)
       (makes_counters slots slots.next_job slots.next_depend slots.next_finish now true)
 
   -- both changes, one after the other
-  pub booking_made : (s : SlotRow) (head : HeadRow) → booked_at f slot host now ≡ Some s → head ≡ record (head_row (joined f b)) { moment = now }
-      → (k : RowKey) → row_at (after (joined f b) booking) k ≡ row_after (slot_change slot s ∷ change.Put (row.Head head) ∷ []) k (row_at (joined f b) k)
+  pub booking_made : (s : SlotRow) (head : HeadRow) → booked_at f slot host now ≡ Some s → head ≡ record (head_row f) { moment = now }
+      → (k : RowKey) → row_at (after f booking) k ≡ row_after (slot_change slot s ∷ change.Put (row.Head head) ∷ []) k (row_at f k)
   booking_made s head told head_is k =
-      let farm : after (joined f b) booking ≡ with_booked (joined f b) slot now s = farm_is ∙ ap (with_booked (joined f b) slot now) (row_is s told) in
+      let farm : after f booking ≡ with_booked f slot now s = farm_is ∙ ap (with_booked f slot now) (row_is s told) in
       ap (λ (g : Farm). row_at g k) farm
-      ∙ (makes_all (joined f b) (with_booked (joined f b) slot now s) (slot_change slot s ∷ []) refl (slot_made s) k
-      ∙ ap (λ (h : HeadRow). row_after (slot_change slot s ∷ change.Put (row.Head h) ∷ []) k (row_at (joined f b) k)) (sym head_is))
+      ∙ (makes_all f (with_booked f slot now s) (slot_change slot s ∷ []) refl (slot_made s) k
+      ∙ ap (λ (h : HeadRow). row_after (slot_change slot s ∷ change.Put (row.Head h) ∷ []) k (row_at f k)) (sym head_is))

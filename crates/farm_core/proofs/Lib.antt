@@ -1,8 +1,6 @@
-pub mod ActApart
 pub mod Amounts
 pub mod Applying
 pub mod BookedRows
-pub mod Bookings
 pub mod HeadAfter
 pub mod Kept
 pub mod MarksTold

@@ -15,8 +15,8 @@ use Rattle.depend_graph.specs.Graph.{Watch, Watched, groups_at, is_met, is_satis
 use Rattle.depend_graph.specs.MetAt.{has_mark, is_met_at}
 use Rattle.depend_book.specs.Book.{DependLists, IsBook, mark_of, marks_in, marks_of, watch_number}
 use Rattle.depend_book.proofs.MarkedAt.{AreNumbered, marks_at, numbered_book, numbered_head}
-use Rattle.farm_depends.specs.Fits.{Fits, group_in}
-use Rattle.farm_depends.proofs.Pairs.{row_at}
+use Rattle.depend_book.specs.Fits.{Fits, group_in}
+use Rattle.depend_book.proofs.Pairs.{row_at}
 use Rattle.farm_core.specs.AllRows.{is_told, marks_there, marks_told}
 
 abbrev watched_key : Watched → ℕ

@@ -5,7 +5,7 @@ use Rattle.std.proofs.lemmas.Result.{err_from_is_err_and}
 use Rattle.farm_types.specs.declared.answer.Answer.{Answer}
 use Rattle.farm_types.specs.declared.answer.Answer.TheVariants as answer
 use Rattle.farm_types.specs.declared.entry.Act.{Act}
-use Rattle.farm_types.specs.declared.entry.Act.TheVariants.{Heard, AddDepend, DropDepend}
+use Rattle.farm_types.specs.declared.entry.Act.TheVariants.{AddDepend, DropDepend}
 use Rattle.farm_types.specs.declared.entry.Entry.{Entry}
 use Rattle.farm_types.specs.declared.refusal.Refusal.{Refusal}
 use Rattle.farm_types.specs.DependActs.{or_else}
@@ -19,106 +19,115 @@ use Rattle.farm_types.specs.Step.{HasCondition, acted, after, closed, finish_eac
 use Rattle.depend_law.specs.Ending.{CanEnd, IsSettled}
 use Rattle.depend_law.proofs.KeptRuns.{followed_step, kept_step}
 use Rattle.farm_changes.specs.Change as books
-use Rattle.farm_changes.specs.Change.{AnswersAct, HasHeard}
+use Rattle.farm_changes.specs.Change.{AnswersAct}
 use Rattle.farm_changes.specs.declared.change.Change as act_change
-use Rattle.depend_book.specs.Book.{DependLists, joined}
 use Rattle.farm_types.specs.declared.fault.FarmFault.{FarmFault}
 use Rattle.farm_types.specs.declared.fault.FarmFault.TheVariants.{Refused, NoMemory}
 use Rattle.farm_depends.specs.declared.follow.Follow.{Follow}
-use Rattle.farm_depends.specs.Fits.{IsWhole}
-use Rattle.farm_depends.specs.Follow.{Counts, FollowFits, Follows, after_follow}
-use Rattle.farm_depends.proofs.Beside.{joined_change, ready_joined, refusal_joined}
-use Rattle.farm_depends.proofs.Joined.{joined_acted}
+use Rattle.farm_depends.specs.Follow.{Counts, Follows, after_follow}
 use Rattle.farm_finish.specs.Closing.{closing}
 use Rattle.farm_finish.proofs.Closes.{closed_is, closing_ends}
 use Rattle.farm_core.specs.Answers.{told}
 use Rattle.farm_core.specs.declared.change.Change.{Change}
-use Rattle.farm_core.specs.Change.{Makes, Prepares}
+use Rattle.farm_rows.specs.declared.row_change.RowChange.{RowChange}
+use Rattle.farm_rows.specs.Changes.{NamesExactly}
+use Rattle.farm_core.specs.Change.{IsPrepared, Makes, Plans, Prepares, after_change}
 
--- ---- what doesn't ask for depends
+-- ---- the answer
 
-heard_joined : (f : Farm) (b : DependLists) (done : Act) (named : Option ℕ) → HasHeard f done named → HasHeard (joined f b) done named
-heard_joined f b (Heard heard) None there = there
-heard_joined f b (Heard heard) (Some host) there = there
-heard_joined f b other named there = tt
-
-told_by : (f : Farm) (b : DependLists) (moment count : ℕ) (done : Act) (said : Answer) → AnswersAct f moment done said → Counts (joined f b) done count → told b.next count done said ≡ answer_at (joined f b) moment done
+told_by : (f : Farm) (moment count : ℕ) (done : Act) (said : Answer) → AnswersAct f moment done said → Counts f done count → told f.next_depend count done said ≡ answer_at f moment done
 unfolding slot_named
-told_by f b moment count (AddDepend spec) said is counts = ap (answer.DependAdded b.next) counts
-told_by f b moment count (DropDepend depend) said is counts = ap answer.DependDropped counts
-told_by f b moment count other said is counts = is
+told_by f moment count (AddDepend spec) said is counts = ap (answer.DependAdded f.next_depend) counts
+told_by f moment count (DropDepend depend) said is counts = ap answer.DependDropped counts
+told_by f moment count other said is counts = is
 
 -- ---- the act is refused
 
-act_refused : (f : Farm) (b : DependLists) (e : Entry) (fault : FarmFault) → books.Prepares f e (Err fault) → Prepares (joined f b) e (Err fault)
-act_refused f b e (Refused why) is = ap (λ (first : Option Refusal). or_else first (follow_refusal (joined f b) e.act)) (refusal_joined f b e.act ∙ is)
-act_refused f b e NoMemory is = tt
+act_refused : (f : Farm) (e : Entry) (fault : FarmFault) → books.Prepares f e (Err fault) → Prepares f e (Err fault)
+act_refused f e (Refused why) is = ap (λ (first : Option Refusal). or_else first (follow_refusal f e.act)) is
+act_refused f e NoMemory is = tt
 
 -- its fault is passed on
-pub act_fails : (f : Farm) (b : DependLists) (e : Entry) (fault : FarmFault) (r : Result Change FarmFault) → IsErrAnd r (λ x. x ≡ fault) → books.Prepares f e (Err fault)
-    → Prepares (joined f b) e r
-act_fails f b e fault r err is =
+pub act_fails : (f : Farm) (e : Entry) (fault : FarmFault) (r : Result Change FarmFault) → IsErrAnd r (λ x. x ≡ fault) → books.Prepares f e (Err fault) → Prepares f e r
+act_fails f e fault r err is =
     let x = err_from_is_err_and r err in
-    subst (Prepares (joined f b) e) (sym x.1) (act_refused f b e x.0 (subst (λ (y : FarmFault). books.Prepares f e (Err y)) (sym x.2) is))
+    subst (Prepares f e) (sym x.1) (act_refused f e x.0 (subst (λ (y : FarmFault). books.Prepares f e (Err y)) (sym x.2) is))
+
+-- what follows is refused, or memory ran out
+not_planned : (f : Farm) (e : Entry) (fault : FarmFault) → IsPrepared (Plans f e) f e (Err fault) → Prepares f e (Err fault)
+not_planned f e (Refused why) is = is
+not_planned f e NoMemory is = tt
+
+-- its fault is passed on
+pub plan_fails : (f : Farm) (e : Entry) (fault : FarmFault) (r : Result Change FarmFault) → IsErrAnd r (λ x. x ≡ fault) → IsPrepared (Plans f e) f e (Err fault) → Prepares f e r
+plan_fails f e fault r err is =
+    let x = err_from_is_err_and r err in
+    subst (Prepares f e) (sym x.1) (not_planned f e x.0 (subst (λ (y : FarmFault). IsPrepared (Plans f e) f e (Err y)) (sym x.2) is))
+
+-- ---- the rows
+
+-- a change is planned whatever rows it has
+rows_stay : (f : Farm) (e : Entry) (change : Change) (rows : List RowChange) → Plans f e change → Plans f e (record change { rows = rows })
+rows_stay f e change rows plan =
+    record {
+      accepted = plan.accepted;
+      heard = plan.heard;
+      ready = record { fits = plan.ready.fits; follows = plan.ready.follows; ends = plan.ready.ends; kept = plan.ready.kept };
+      unreserved = record { act = plan.unreserved.act; follow = plan.unreserved.follow };
+      staged = record { act = plan.staged.act; follows = plan.staged.follows; jobs = plan.staged.jobs };
+      farm = plan.farm;
+      answer = plan.answer;
+    }
+
+-- with those that change it makes the entry
+pub with_rows : (f : Farm) (e : Entry) (change : Change) (rows : List RowChange) → Plans f e change → NamesExactly f (after_change f change) rows → Makes f e (record change { rows = rows })
+with_rows f e change rows plan names = record { planned = rows_stay f e change rows plan; rows = names }
 
 -- ---- a change
 
-module _ (f : Farm) (b : DependLists) (e : Entry) (done : act_change.Change) (m : books.Makes f e done) where
-  abbrev pub beside : Farm
-  beside = joined f b
-
-  judged : (o : Option Refusal) → follow_refusal beside e.act ≡ o → refusal_of beside e ≡ o
-  judged o is = ap (λ (first : Option Refusal). or_else first (follow_refusal beside e.act)) (refusal_joined f b e.act ∙ m.accepted) ∙ is
+module _ (f : Farm) (e : Entry) (done : act_change.Change) (m : books.Makes f e done) where
+  judged : (o : Option Refusal) → follow_refusal f e.act ≡ o → refusal_of f e ≡ o
+  judged o is = ap (λ (first : Option Refusal). or_else first (follow_refusal f e.act)) m.accepted ∙ is
 
   -- what follows is refused
-  pub refused : (why : Refusal) → follow_refusal beside e.act ≡ Some why → refusal_of beside e ≡ Some why
+  pub refused : (why : Refusal) → follow_refusal f e.act ≡ Some why → refusal_of f e ≡ Some why
   refused why is = judged (Some why) is
 
-  module _ (whole : IsWhole f b) (formed : IsFormed e) (condition : HasCondition beside e.act) (w : Follow) (follows : Follows beside (joined (books.after_change f done) b) e.act w) where
+  module _ (kept : IsKeptFarm f) (formed : IsFormed e) (condition : HasCondition f e.act) (w : Follow) (follows : Follows f (books.after_change f done) e.act w) where
     abbrev settled_farm : Farm
-    settled_farm = after_follow (books.after_change beside done) w
+    settled_farm = after_follow (books.after_change f done) w
 
-    followed_is : settled_farm ≡ followed e.act (acted beside e)
-    followed_is =
-        ap (λ (g : Farm). after_follow g w) (sym (joined_change f b done)) ∙ (follows.farm ∙ ap (followed e.act) (ap (λ (g : Farm). joined g b) m.farm ∙ joined_acted b f e))
+    followed_is : settled_farm ≡ followed e.act (acted f e)
+    followed_is = follows.farm ∙ ap (followed e.act) m.farm
 
-    legal : refusal_of beside e ≡ None
+    legal : refusal_of f e ≡ None
     legal = judged None follows.accepted
 
-    step : IsLegalStep beside e
+    step : IsLegalStep f e
     step = record { formed = formed; accepted = legal; condition = condition }
 
-    module _ (jobs : List ℕ) (closes : jobs ≡ closing e.act (after_follow (joined (books.after_change f done) b) w)) where
-      closes_here : jobs ≡ closing e.act settled_farm
-      closes_here = closes ∙ ap (λ (g : Farm). closing e.act (after_follow g w)) (joined_change f b done)
-
+    module _ (jobs : List ℕ) (closes : jobs ≡ closing e.act settled_farm) where
       ends : CanEnd settled_farm jobs
-      ends = subst (CanEnd settled_farm) (sym closes_here) (closing_ends e.act settled_farm (subst IsSettled (sym followed_is) (followed_step beside e step whole.kept)))
+      ends = subst (CanEnd settled_farm) (sym closes) (closing_ends e.act settled_farm (subst IsSettled (sym followed_is) (followed_step f e step kept)))
 
-      makes_farm : finish_each jobs settled_farm ≡ after beside e
-      makes_farm =
-          ap (λ (js : List ℕ). finish_each js settled_farm) closes_here ∙ (sym (closed_is e.act settled_farm) ∙ ap (closed e.act) followed_is)
+      makes_farm : finish_each jobs settled_farm ≡ after f e
+      makes_farm = ap (λ (js : List ℕ). finish_each js settled_farm) closes ∙ (sym (closed_is e.act settled_farm) ∙ ap (closed e.act) followed_is)
 
       -- the change with its answer
-      pub made : Makes beside e (record { act = record done { answer = told b.next w.count e.act done.answer }; follow = w; finish = jobs })
-      made =
+      pub made : (rows : List RowChange) → Plans f e (record { act = record done { answer = told f.next_depend w.count e.act done.answer }; follow = w; finish = jobs; rows = rows })
+      made rows =
           record {
             accepted = legal;
-            heard = heard_joined f b e.act done.heard m.heard;
+            heard = m.heard;
             ready =
                 record {
-                  fits = record { rows = (ready_joined f b done m.ready).rows; more = (ready_joined f b done m.ready).more };
-                  follows = subst (λ (g : Farm). FollowFits beside g w) (joined_change f b done) follows.fits;
+                  fits = record { rows = m.ready.rows; more = m.ready.more };
+                  follows = follows.fits;
                   ends = ends;
-                  kept = subst IsKeptFarm (sym makes_farm) (kept_step beside e step whole.kept);
+                  kept = subst IsKeptFarm (sym makes_farm) (kept_step f e step kept);
                 };
             unreserved = record { act = m.unreserved; follow = follows.unreserved };
-            staged =
-                record {
-                  act = sym (joined_change f b done) ∙ (ap (λ (g : Farm). joined g b) m.farm ∙ joined_acted b f e);
-                  follows = subst (λ (g : Farm). Follows beside g e.act w) (joined_change f b done) follows;
-                  jobs = closes_here;
-                };
+            staged = record { act = m.farm; follows = follows; jobs = closes };
             farm = makes_farm;
-            answer = told_by f b (moment_of f e.moment) w.count e.act done.answer m.answer follows.counts;
+            answer = told_by f (moment_of f e.moment) w.count e.act done.answer m.answer follows.counts;
           }

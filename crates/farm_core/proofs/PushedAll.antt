@@ -10,7 +10,7 @@ use Rattle.farm_rows.specs.Rows.{head_row, recorded_rows, rows_of}
 use Rattle.farm_books.specs.Rows.{book_rows}
 use Rattle.farm_books.proofs.PushedRows.{recorded_are, then_more}
 use Rattle.depend_book.specs.Book.{DependLists, IsBook, joined}
-use Rattle.farm_depends.specs.Fits.{Fits}
+use Rattle.depend_book.specs.Fits.{Fits}
 use Rattle.farm_core.specs.AllRows.{depend_rows, marks_told, rows_told}
 use Rattle.farm_core.proofs.MarksTold.{marks_all}
 use Rattle.farm_core.proofs.RowsTold.{all_told}

@@ -1,10 +1,14 @@
 -- The rows that a change makes, stage after stage: its act's, those of what follows, those of the jobs that finish, and the farm's own.
-use Rattle.std.proofs.Common.{◌≡◌, ◌≤◌, List, [], ◌∷◌, ◌++◌, length, sym, ap, subst, ◌∙◌}
+use Rattle.std.proofs.Common.{◌≡◌, ℕ, List, [], ◌∷◌, ◌++◌, Option, None, Some, refl, sym, ap, subst, ◌∙◌}
+use Rattle.std.proofs.lemmas.Option.{none-some}
+use Rattle.farm_types.specs.declared.answer.Answer.{Answer}
+use Rattle.farm_types.specs.declared.entry.Act.{Act}
+use Rattle.farm_types.specs.declared.entry.Act.TheVariants.{AddDepend, DropDepend}
 use Rattle.farm_types.specs.declared.entry.Entry.{Entry}
 use Rattle.farm_types.specs.Farm.{Farm}
-use Rattle.farm_types.specs.Step.{finish_each}
-use Rattle.farm_types.specs.declared.limits.TheConstants.{SLOT_LIMIT}
-use Rattle.depend_law.specs.Ending.{CanEnd}
+use Rattle.farm_types.specs.DependActs.{or_else}
+use Rattle.farm_types.specs.EntryAnswers.{answer_at}
+use Rattle.farm_types.specs.Step.{act_refusal, finish_each, follow_refusal, moment_of}
 use Rattle.farm_rows.specs.declared.farm_row.FarmRow.TheVariants as row
 use Rattle.farm_rows.specs.declared.head_row.HeadRow.{HeadRow}
 use Rattle.farm_rows.specs.declared.row_change.RowChange.{RowChange}
@@ -14,60 +18,64 @@ use Rattle.farm_rows.specs.Changes.{MakesBookRows, MakesRows, row_after, row_at}
 use Rattle.farm_rows.specs.Rows.{head_row}
 use Rattle.farm_rows.proofs.MadeRows.{makes_all, makes_then}
 use Rattle.farm_changes.specs.Change as books
-use Rattle.depend_book.specs.Book.{DependLists, joined, marks_of}
-use Rattle.farm_depends.specs.Fits.{IsWhole}
-use Rattle.farm_depends.specs.Follow.{FollowFits, Follows, after_follow, slots_after}
+use Rattle.farm_changes.specs.Change.{AnswersAct}
+use Rattle.farm_depends.specs.Follow.{after_follow}
 use Rattle.farm_depends.specs.FollowRows.{IsActed}
-use Rattle.farm_depends.proofs.Beside.{depends_stay, joined_change}
-use Rattle.farm_finish.specs.Closing.{closing}
+use Rattle.farm_depends.proofs.Beside.{depends_stay}
 use Rattle.farm_core.specs.declared.change.Change.{Change}
-use Rattle.farm_core.specs.Change.{Makes, after_act, after_change}
+use Rattle.farm_core.specs.Change.{Plans, after_act, after_change}
 use Rattle.farm_core.proofs.HeadAfter.{change_recorded}
 
-module _ (f : Farm) (b : DependLists) (e : Entry) (change : Change) (m : Makes (joined f b) e change) where
-  -- the books after the act
-  abbrev pub acted_books : Farm
-  acted_books = books.after_change f change.act
+first_none : {X : Type 0} (o p : Option X) → or_else o p ≡ None → o ≡ None
+first_none None p none = refl
+first_none (Some x) p none = absurd (none-some x (sym none))
 
+answers : (moment : ℕ) (f : Farm) (done : Act) (said : Answer) → said ≡ answer_at f moment done → AnswersAct f moment done said
+answers moment f (AddDepend spec) said is = tt
+answers moment f (DropDepend depend) said is = tt
+answers moment f other said is = is
+
+module _ (f : Farm) (e : Entry) (change : Change) (m : Plans f e change) where
   -- the farm after the act, and after what follows
   abbrev pub acted_farm : Farm
-  acted_farm = joined acted_books b
+  acted_farm = after_act f change
 
   abbrev pub followed_farm : Farm
   followed_farm = after_follow acted_farm change.follow
 
-  here : acted_farm ≡ after_act (joined f b) change
-  here = joined_change f b change.act
+  -- the act's rows lead to it
+  acts_made : (rows : List RowChange) → MakesBookRows f acted_farm rows → MakesRows f acted_farm rows
+  acts_made rows made = subst (λ (g : Farm). MakesRows f g rows) (depends_stay f change.act) (made f.depends f.met f.next_depend)
 
   -- what follows may ask of the act
-  pub is_acted : IsWhole f b → (rows : List RowChange) → MakesBookRows f acted_books rows → IsActed f b rows change.follow acted_books
-  is_acted whole rows made =
+  pub is_acted : (rows : List RowChange) → MakesBookRows f acted_farm rows → IsActed f rows change.follow acted_farm
+  is_acted rows made =
       record {
-        alone = depends_stay f change.act ∙ whole.alone;
-        rows = made b.rows (marks_of b.graph.depends) b.next;
-        fits = subst (λ (g : Farm). FollowFits (joined f b) g change.follow) (sym here) m.ready.follows;
-        count = subst (λ (g : Farm). length (slots_after g.slots change.follow) ≤ SLOT_LIMIT) (sym here) m.ready.ends.settled.rows.jobs.slot_count;
+        depends = depends_stay f change.act;
+        rows = acts_made rows made;
+        fits = m.ready.follows;
+        count = m.ready.ends.settled.rows.jobs.slot_count;
       }
 
-  -- what jobs that finish may ask of both
-  pub follows : Follows (joined f b) acted_farm e.act change.follow
-  follows = subst (λ (g : Farm). Follows (joined f b) g e.act change.follow) (sym here) m.staged.follows
-
-  pub closes : change.finish ≡ closing e.act followed_farm
-  closes = m.staged.jobs ∙ ap (λ (g : Farm). closing e.act (after_follow g change.follow)) (sym here)
-
-  pub ends : CanEnd followed_farm change.finish
-  ends = subst (λ (g : Farm). CanEnd (after_follow g change.follow) change.finish) (sym here) m.ready.ends
+  -- the act's change makes what the entry's act does
+  pub act_made : books.Makes f e change.act
+  act_made =
+      record {
+        accepted = first_none (act_refusal f e.act) (follow_refusal f e.act) m.accepted;
+        heard = m.heard;
+        ready = m.ready.fits;
+        unreserved = m.unreserved.act;
+        farm = m.staged.act;
+        answer = answers (moment_of f e.moment) f e.act change.act.answer m.answer;
+      }
 
   -- all changes, one after the other
-  pub stages_made : (acts more finished : List RowChange) (head : HeadRow) → MakesBookRows f acted_books acts → MakesRows acted_farm followed_farm more → MakesRows followed_farm (finish_each change.finish followed_farm) finished
-      → head ≡ head_row (after_change (joined f b) change)
-      → (k : RowKey) → row_at (after_change (joined f b) change) k ≡ row_after (((acts ++ more) ++ finished) ++ change_of.Put (row.Head head) ∷ []) k (row_at (joined f b) k)
+  pub stages_made : (acts more finished : List RowChange) (head : HeadRow) → MakesBookRows f acted_farm acts → MakesRows acted_farm followed_farm more → MakesRows followed_farm (finish_each change.finish followed_farm) finished
+      → head ≡ head_row (after_change f change)
+      → (k : RowKey) → row_at (after_change f change) k ≡ row_after (((acts ++ more) ++ finished) ++ change_of.Put (row.Head head) ∷ []) k (row_at f k)
   stages_made acts more finished head first second third head_is k =
-      let all : MakesRows (joined f b) (finish_each change.finish followed_farm) ((acts ++ more) ++ finished) =
-      makes_then (joined f b) followed_farm (finish_each change.finish followed_farm) (acts ++ more) finished
-      (makes_then (joined f b) acted_farm followed_farm acts more (first b.rows (marks_of b.graph.depends) b.next) second) third
+      let all : MakesRows f (finish_each change.finish followed_farm) ((acts ++ more) ++ finished) =
+      makes_then f followed_farm (finish_each change.finish followed_farm) (acts ++ more) finished (makes_then f acted_farm followed_farm acts more (acts_made acts first) second) third
       in
-      let same : finish_each change.finish followed_farm ≡ after_change (joined f b) change = ap (λ (g : Farm). finish_each change.finish (after_follow g change.follow)) here in
-      makes_all (joined f b) (after_change (joined f b) change) ((acts ++ more) ++ finished) (change_recorded (joined f b) change) (subst (λ (g : Farm). MakesRows (joined f b) g ((acts ++ more) ++ finished)) same all) k
-      ∙ ap (λ (h : HeadRow). row_after (((acts ++ more) ++ finished) ++ change_of.Put (row.Head h) ∷ []) k (row_at (joined f b) k)) (sym head_is)
+      makes_all f (after_change f change) ((acts ++ more) ++ finished) (change_recorded f change) all k
+      ∙ ap (λ (h : HeadRow). row_after (((acts ++ more) ++ finished) ++ change_of.Put (row.Head h) ∷ []) k (row_at f k)) (sym head_is)

@@ -8,6 +8,7 @@ use Rattle.farm_types.specs.Step.{refusal_of, acted, after, finish_each}
 use Rattle.depend_law.specs.Ending.{CanEnd}
 use Rattle.farm_changes.specs.Change as books
 use Rattle.farm_changes.specs.Change.{HasHeard}
+use Rattle.farm_rows.specs.Changes.{NamesExactly}
 use Rattle.farm_types.specs.declared.fault.FarmFault.{FarmFault}
 use Rattle.farm_types.specs.declared.fault.FarmFault.TheVariants.{Refused, NoMemory}
 use Rattle.farm_depends.specs.Follow.{FollowFits, Follows, after_follow, follow_reserved, spare_for}
@@ -48,7 +49,7 @@ pub record IsReserved (change : Change) : Type 0 where
 
 -- the same change, with its memory taken
 abbrev pub reserved_of : Change → Change
-reserved_of change = record { act = books.reserved_of change.act; follow = follow_reserved change.follow; finish = change.finish }
+reserved_of change = record { act = books.reserved_of change.act; follow = follow_reserved change.follow; finish = change.finish; rows = change.rows }
 
 -- each part of the change makes what its stage of the entry makes: the act, what follows of depends, and the jobs that finish
 pub record IsStaged (f : Farm) (e : Entry) (change : Change) : Type 0 where
@@ -58,7 +59,7 @@ pub record IsStaged (f : Farm) (e : Entry) (change : Change) : Type 0 where
 
 -- The farm doesn't refuse the entry. The change fits the farm, makes the farm that the entry makes, and has the entry's answer.
 -- Its memory isn't taken yet.
-pub record Makes (f : Farm) (e : Entry) (change : Change) : Type 0 where
+pub record Plans (f : Farm) (e : Entry) (change : Change) : Type 0 where
   pub accepted : refusal_of f e ≡ None
   pub heard : HasHeard f e.act change.act.heard
   pub ready : IsReady f change
@@ -67,8 +68,17 @@ pub record Makes (f : Farm) (e : Entry) (change : Change) : Type 0 where
   pub farm : after_change f change ≡ after f e
   pub answer : change.act.answer ≡ entry_answer f e
 
--- a change that makes the entry, or exactly the farm's refusal; running out of memory needs no cause
+-- and it has exactly the rows in which the farm and the one that it makes differ, each as it will be
+pub record Makes (f : Farm) (e : Entry) (change : Change) : Type 0 where
+  pub planned : Plans f e change
+  pub rows : NamesExactly f (after_change f change) change.rows
+
+-- a change of which that is so, or exactly the farm's refusal of the entry; running out of memory needs no cause
+abbrev pub IsPrepared : (Change → Type 0) → Farm → Entry → Result Change FarmFault → Type 0
+IsPrepared fits f e (Ok change) = fits change
+IsPrepared fits f e (Err (Refused why)) = refusal_of f e ≡ Some why
+IsPrepared fits f e (Err NoMemory) = Unit {0}
+
+-- a change that makes the entry, or its refusal
 abbrev pub Prepares : Farm → Entry → Result Change FarmFault → Type 0
-Prepares f e (Ok change) = Makes f e change
-Prepares f e (Err (Refused why)) = refusal_of f e ≡ Some why
-Prepares f e (Err NoMemory) = Unit {0}
+Prepares f e = IsPrepared (Makes f e) f e

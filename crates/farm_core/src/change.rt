@@ -3,15 +3,17 @@
 ghost use Rattle.std.specs.Prelude.{◌≡◌};
 
 use farm_depends::Follow;
+use farm_rows::RowChange;
 use farm_types::{Answer, HostNo, Items, JobNo};
 
-/// A change that was prepared for an entry: what its act does, what follows of depends, and which jobs finish. It is applied once its memory is
-/// reserved.
+/// A change that was prepared for an entry: what its act does, what follows of depends, which jobs finish, and the rows of the store that change. It is
+/// applied once its memory is reserved.
 #[derive(Debug, Drop)]
 pub struct Change {
     pub(crate) act: farm_changes::Change,
     pub(crate) follow: Follow,
     pub(crate) finish: Items<JobNo>,
+    pub(crate) rows: Items<RowChange>,
 }
 
 impl Change {
@@ -27,5 +29,13 @@ impl Change {
         ensures { result ≡ self.now.act.heard }
     {
         self.act.heard()
+    }
+
+    /// The rows of the store that change: exactly those in which the farm and the one that the change makes differ, each as it will be. They were found
+    /// as the change was prepared.
+    pub fn batch(&self) -> &[RowChange]
+        ensures { result.now ≡ self.now.rows }
+    {
+        self.rows.as_slice()
     }
 }

@@ -3,30 +3,27 @@
 ghost use Rattle.std.specs.Prelude.{◌≡◌, IfOk};
 ghost use Rattle.farm_types.specs.Farm.{empty_farm};
 ghost use Rattle.farm_types.specs.Kept.{IsKeptFarm};
+ghost use Rattle.farm_books.specs.Books.{IsWhole};
 
-use depend_book::Depends;
 use farm_books::Books;
 use std::alloc::{AllocError, Global};
 use std::marker::Model;
 
-/// A farm, which contracts see as its rows. It holds its books and that of the depends, and keeps what every farm keeps (`IsKeptFarm` of
-/// `farm_types`).
+/// A farm, which contracts see as its rows. It holds its books, and keeps what every farm keeps (`IsKeptFarm` of `farm_types`).
 #[derive(Debug, Drop)]
 pub struct Farm {
     pub(crate) books: Books,
-    pub(crate) depends: Depends,
 }
 
 impl Model for Farm {
     ghost use Rattle.farm_types.specs.Farm as types;
-    ghost use Rattle.depend_book.specs.Book.{joined};
-    ghost use Rattle.farm_depends.specs.Fits.{IsWhole};
+    ghost use Rattle.farm_books.specs.Books.{IsWhole};
 
     ghost Value = { types.Farm };
 
-    ghost view = { λ a. joined a.books a.depends };
+    ghost view = { λ a. a.books.farm };
 
-    ghost invariant = { λ a. IsWhole a.books a.depends };
+    ghost invariant = { λ a. IsWhole a.books };
 }
 
 impl Farm {
@@ -34,9 +31,9 @@ impl Farm {
     pub fn make(alloc: Global) -> Result<Farm, AllocError>
         ensures { IfOk result (λ f. f ≡ empty_farm) }
     {
-        let books = Books::make(alloc)?;
-        let depends = Depends::make(alloc)?;
-        Ok(Farm { books, depends })
+        Ok(Farm {
+            books: Books::make(alloc)?,
+        })
     }
 
     /// What this farm keeps, as every farm does.
@@ -44,5 +41,13 @@ impl Farm {
         ensures { IsKeptFarm self.now }
     {
         let _books = &self.books;
+    }
+
+    /// The farm's books, by which it is read.
+    pub fn books(&self) -> &Books
+        ensures farm { result.now.farm ≡ self.now }
+        ensures whole { IsWhole result.now }
+    {
+        &self.books
     }
 }

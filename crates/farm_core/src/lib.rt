@@ -1,12 +1,10 @@
 //! The farm: what an entry does to it, and when a frame may be booked. Each farm keeps what every farm keeps.
 #![tactic(auto)]
 
-mod booking;
 mod change;
 mod changes;
 mod farm;
 mod following;
-mod look;
 mod old_rows;
 mod read;
 mod record;

@@ -17,7 +17,8 @@ use farm_types::{Answer, Entry, FarmFault, HostNo, Slot};
 use std::alloc::{AllocError, Global};
 
 impl Farm {
-    /// Prepares what the entry does, and changes nothing. The entry is within its forms and limits, and an entry to book is
+    /// Prepares what the entry does, with the rows of the store that change, and changes nothing. The entry is within its forms and limits, and an
+    /// entry to book is
     /// one whose booking may be recorded.
     pub fn prepare(&self, alloc: Global, entry: &Entry) -> Result<Change, FarmFault>
         requires condition { HasCondition self.now entry.now.act }
@@ -25,7 +26,8 @@ impl Farm {
         ensures { Prepares self.now entry.now result }
     {
         let act = prepare(alloc, &self.books, entry)?;
-        with_follow(alloc, &self.books, &self.depends, entry, act)
+        let change = with_follow(alloc, &self.books, entry, act)?;
+        Ok(self.with_rows(alloc, entry, change)?)
     }
 
     /// Takes the memory that the change needs, so that applying it takes none. The farm is as before.
@@ -34,7 +36,7 @@ impl Farm {
         ensures ok { OnOk result (change.new ≡ reserved_of change.old) }
         ensures err { OnErr result (change.new ≡ change.old) }
     {
-        let spares = reserve_follow(&mut self.depends, alloc, &change.follow)?;
+        let spares = reserve_follow(&mut self.books, alloc, &change.follow)?;
         reserve(&mut self.books, alloc, &mut change.act)?;
         change.follow.spares = spares;
         Ok(())
@@ -48,15 +50,16 @@ impl Farm {
         ensures answer { result ≡ change.act.answer }
         ensures hosts { length self.old.hosts ≤ length self.new.hosts }
     {
-        self.depends.kept();
+        self.books.kept();
         let Change {
             act,
             follow,
             finish,
+            rows: _rows,
         } = change;
         let answer = apply(&mut self.books, act);
-        apply_follow(&mut self.books, &mut self.depends, follow);
-        apply_finish(&mut self.books, &mut self.depends, finish);
+        apply_follow(&mut self.books, follow);
+        apply_finish(&mut self.books, finish);
         answer
     }
 
@@ -66,7 +69,7 @@ impl Farm {
         ensures said { result ≡ may_book self.old slot host }
         ensures farm { self.new ≡ (if may_book self.old slot host then after self.old (record { moment = moment; act = act.Book slot host }) else self.old) }
     {
-        self.depends.kept();
+        self.books.kept();
         self.books.book_if(slot, host, moment)
     }
 }

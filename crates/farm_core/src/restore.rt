@@ -26,13 +26,13 @@ impl Farm {
         ensures { IfOk result (λ f. f ≡ whole_in lists depends.items met.items next_depend) }
     {
         let books = Books::of_lists(alloc, lists)?;
-        let depends = restore_depends(
+        let whole = restore_depends(
             alloc,
-            &books,
+            books,
             depends.as_slice(),
             met.as_slice(),
             next_depend,
         )?;
-        Ok(Farm { books, depends })
+        Ok(Farm { books: whole })
     }
 }

@@ -4,11 +4,12 @@ ghost use Rattle.std.specs.Prelude.{◌≡◌, ◌++◌, filter, map, IfOk, OnOk
 ghost use Rattle.farm_types.specs.Rising.{depend_key};
 ghost use Rattle.farm_rows.specs.declared.farm_row.FarmRow.TheVariants as row;
 ghost use Rattle.farm_rows.specs.Rows.{rows_of};
-ghost use Rattle.farm_depends.specs.Fits.{IsWhole};
+ghost use Rattle.farm_books.specs.Books.{IsWhole, depends_of};
 ghost use Rattle.farm_core.specs.AllRows.{depend_rows, is_told, marks_there, marks_told, row_told, rows_told};
 ghost use Rattle.depend_book.specs.Book.{row_in};
 
 use crate::farm::Farm;
+use crate::old_rows::head;
 use depend_book::Depends;
 use farm_books::Books;
 use farm_rows::FarmRow;
@@ -20,28 +21,24 @@ impl Farm {
     pub fn rows(&self, alloc: Global) -> Result<Items<FarmRow>, AllocError>
         ensures { IfOk result (λ rows. rows ≡ rows_of self.now) }
     {
-        if !self.is_recorded() {
+        if !self.books.is_recorded() {
             return Ok(Items::new(alloc));
         }
         let mut rows = Vec::new(alloc);
-        rows.push(FarmRow::Head(self.head()))?;
+        rows.push(FarmRow::Head(head(&self.books)))?;
         self.books.push_rows(alloc, &mut rows)?;
-        push_depends(alloc, &self.books, &self.depends, &mut rows)?;
+        push_depends(alloc, &self.books, &mut rows)?;
         Ok(Items::from_vec(rows))
     }
 }
 
 // The rows of depends go behind the others, and behind them those of their marks.
-fn push_depends(
-    alloc: Global,
-    _books: &Books,
-    depends: &Depends,
-    rows: &mut Vec<FarmRow>,
-) -> Result<(), AllocError>
-    requires { IsWhole _books.now depends.now }
-    ensures { OnOk result (rows.new.items ≡ rows.old.items ++ depend_rows depends.now) }
+fn push_depends(alloc: Global, books: &Books, rows: &mut Vec<FarmRow>) -> Result<(), AllocError>
+    requires { IsWhole books.now }
+    ensures { OnOk result (rows.new.items ≡ rows.old.items ++ depend_rows (depends_of books.now)) }
 {
-    depends.kept();
+    books.kept();
+    let depends = books.depends();
     let numbers = numbers_of(alloc, depends)?;
     push_rows_of(alloc, depends, numbers.as_slice(), rows)?;
     push_marks_of(alloc, depends, numbers.as_slice(), rows)

@@ -19,11 +19,11 @@ use Rattle.depend_graph.specs.Graph.{Watch, is_flagged, is_met, is_satisfied, wa
 use Rattle.depend_graph.specs.Graph as graph
 use Rattle.depend_book.specs.declared.new_depend.NewDepend.{NewDepend}
 use Rattle.depend_book.specs.Book.{CanAdd, DependLists, IsBook, added_row, joined, mark_of, marks_in, marks_of, row_of, rows_of, watch_number, with_new}
-use Rattle.farm_depends.specs.Fits.{Fits, group_in}
+use Rattle.depend_book.specs.Fits.{Fits, group_in}
 use Rattle.farm_depends.specs.Follow.{AreRoomy, CanAddAll, IsRoomy, row_for, with_all, with_new_all, with_row}
-use Rattle.farm_depends.proofs.OpenUnmet.{left_is}
+use Rattle.depend_book.proofs.OpenUnmet.{left_is}
 use Rattle.farm_depends.proofs.WithRow.{done_now, marks_now, met_before_all, met_with, new_row, numbered_kept, numbered_row, row_now, with_now}
-use Rattle.farm_depends.proofs.Zips.{filter-map, map_in_turn}
+use Rattle.depend_book.proofs.Zips.{filter-map, map_in_turn}
 use Rattle.farm_depends.proofs.Roomy.{roomy_met}
 
 -- ---- lists with one item more

@@ -30,7 +30,7 @@ use Rattle.farm_types.specs.declared.fault.FarmFault.TheVariants.{Refused, NoMem
 use Rattle.farm_depends.specs.declared.counts.Counts.{Counts}
 use Rattle.farm_depends.specs.declared.follow.Follow.{Follow}
 use Rattle.farm_depends.specs.Coming.{Comes, counts_full, counts_in, follow_added, follow_new, groups_refusal_with, refusal_with, self_refusal, started_refusal, unmet_by, waiters_of, waits_at}
-use Rattle.farm_depends.specs.Fits.{IsWhole}
+use Rattle.depend_book.specs.Fits.{IsBeside}
 use Rattle.farm_depends.specs.Follow.{FollowFits, Follows, IsMovable, IsRoomy, PreparesFollow, coming, is_moved}
 use Rattle.farm_depends.proofs.Agree.{HasRoom, both_none, room_by, unmet_agree, waiters_some}
 use Rattle.farm_depends.proofs.ComingGroups.{new_are_groups, new_waiters_few}
@@ -88,7 +88,7 @@ roomy_by f spec accepted each =
 
 -- ---- the depend
 
-module _ (f : Farm) (b : DependLists) (book : IsBook b) (whole : IsWhole f b) (spec : DependSpec) (formed : IsFormedDepend spec) where
+module _ (f : Farm) (b : DependLists) (book : IsBook b) (whole : IsBeside f b) (spec : DependSpec) (formed : IsFormedDepend spec) where
   abbrev farm : Farm
   farm = joined f b
 

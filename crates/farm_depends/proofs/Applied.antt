@@ -17,17 +17,18 @@ use Rattle.depend_graph.specs.Graph.{Watch, has_depend, watch_of}
 use Rattle.depend_book.specs.declared.new_depend.NewDepend.{NewDepend}
 use Rattle.depend_book.specs.Book.{DependLists, IsBook, all_done_in, joined, with_new}
 use Rattle.farm_depends.specs.declared.follow.Follow.{Follow}
-use Rattle.farm_depends.specs.Fits.{Fits, IsWhole}
+use Rattle.depend_book.specs.Fits.{Fits, IsBeside}
 use Rattle.farm_depends.specs.Follow.{CanAddAll, CanFollow, FollowFits, HasDrop, IsDropThere, IsOneKind, NoneCome, after_follow, depends_after, drop_in, follow_reserved, is_listed, is_one, reopened_in, slots_after, with_all, with_new_all, with_row, without}
 use Rattle.farm_depends.proofs.Added.{Takes, takes_all}
 use Rattle.farm_depends.proofs.Completed.{Completes, completed_book, completed_farm, completed_fits}
 use Rattle.farm_depends.proofs.Dropped.{dropped_book, dropped_farm, dropped_fits}
 use Rattle.farm_depends.proofs.MetDropped.{met_before_drop}
-use Rattle.farm_depends.proofs.OpenUnmet.{depend_there}
-use Rattle.farm_depends.proofs.Pairs.{groups_joined}
-use Rattle.farm_depends.proofs.Reopened.{and_one, cleared_book, cleared_is, done_listed, flag_cleared}
+use Rattle.depend_book.proofs.OpenUnmet.{depend_there}
+use Rattle.depend_book.proofs.Pairs.{groups_joined}
+use Rattle.farm_depends.proofs.Reopened.{done_listed}
+use Rattle.depend_book.proofs.OneCleared.{and_one, cleared_book, cleared_is, flag_cleared}
 use Rattle.farm_depends.proofs.WithRow.{Numbered, numbered_kept, numbered_row}
-use Rattle.farm_depends.proofs.Zips.{or_none, zip_length}
+use Rattle.depend_book.proofs.Zips.{or_none, zip_length}
 use Rattle.farm_depends.proofs.FollowSlots.{follow_done, follow_stand}
 
 -- ---- depends that come
@@ -54,7 +55,7 @@ record Applies (f : Farm) (b : DependLists) (w : Follow) : Type 0 where
   fits : Fits f (depends_after b w)
   book : IsBook (depends_after b w)
 
-module _ (f0 f : Farm) (b : DependLists) (w : Follow) (whole : IsWhole f0 b) (book : IsBook b) (alone : f.depends ≡ [])
+module _ (f0 f : Farm) (b : DependLists) (w : Follow) (whole : IsBeside f0 b) (book : IsBook b)
     (follows : FollowFits (joined f0 b) (joined f b) w) (count : length (slots_after f.slots w) ≤ SLOT_LIMIT) where
   abbrev beside : Farm
   beside = joined f b

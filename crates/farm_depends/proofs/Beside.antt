@@ -1,12 +1,14 @@
 -- The books beside the book of depends: what the one says of the other's farm.
-use Rattle.std.proofs.Common.{◌≡◌, ℕ, refl}
+use Rattle.std.proofs.Common.{◌≡◌, ℕ, Option, None, Some, refl}
 use Rattle.farm_types.specs.declared.entry.Act.{Act}
 use Rattle.farm_types.specs.declared.entry.Act.TheVariants.{Opened, Show, Alloc, Sub, Boot, Heard, Submit, AddDepend, DropDepend, Pause, KillJob, KillFrame, EatFrame, RetryFrame, Lock, Tick, Book}
 use Rattle.farm_types.specs.Farm.{Farm}
 use Rattle.farm_types.specs.Kept.{KeepsAttempts, KeepsRows}
 use Rattle.farm_types.specs.Operators.{slot_named}
 use Rattle.farm_types.specs.Run.{IsSound}
-use Rattle.farm_types.specs.Step.{act_refusal}
+use Rattle.farm_types.specs.declared.job.JobSpec.{JobSpec}
+use Rattle.farm_types.specs.Step.{act_refusal, after_submit}
+use Rattle.farm_rows.specs.Changes.{beside}
 use Rattle.farm_changes.specs.Change.{FitsMore, IsReady, after_change, with_more, with_rows}
 use Rattle.farm_changes.specs.declared.change.Change.{Change}
 use Rattle.farm_changes.specs.declared.change.More.{More}
@@ -100,15 +102,19 @@ refusal_joined f b (Book slot host) = refl
 
 -- ---- depends
 
-alone_more : (f : Farm) (moment : ℕ) (m : More) → (with_more f moment m).depends ≡ f.depends
-alone_more f moment more.Nothing = refl
-alone_more f moment (more.Show name) = refl
-alone_more f moment (more.Alloc facility tag) = refl
-alone_more f moment (more.Sub sub size burst) = refl
-alone_more f moment (more.Boot planned line) = refl
-alone_more f moment (more.Paused job paused) = refl
-alone_more f moment (more.Job placing spec) = refl
+own_more : (f : Farm) (moment : ℕ) (m : More) → beside (with_more f moment m) f.depends f.met f.next_depend ≡ with_more f moment m
+own_more f moment more.Nothing = refl
+own_more f moment (more.Show name) = refl
+own_more f moment (more.Alloc facility tag) = refl
+own_more f moment (more.Sub sub size burst) = refl
+own_more f moment (more.Boot planned line) = refl
+own_more f moment (more.Paused job paused) = refl
+own_more f moment (more.Job placing spec) = refl
 
--- a change of the books leaves their depends
-pub depends_stay : (f : Farm) (change : Change) → (after_change f change).depends ≡ f.depends
-depends_stay f change = alone_more (with_rows f change) change.moment change.more
+-- a change leaves the depends
+pub depends_stay : (f : Farm) (change : Change) → beside (after_change f change) f.depends f.met f.next_depend ≡ after_change f change
+depends_stay f change = own_more (with_rows f change) change.moment change.more
+
+pub depends_placed : (f : Farm) (spec : JobSpec) (o : Option ℕ) → beside (after_submit f spec o) f.depends f.met f.next_depend ≡ after_submit f spec o
+depends_placed f spec None = refl
+depends_placed f spec (Some show) = refl

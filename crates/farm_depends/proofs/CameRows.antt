@@ -25,7 +25,7 @@ use Rattle.farm_depends.specs.Follow.{with_new_all}
 use Rattle.farm_depends.specs.FollowRows.{all_coming_rows, are_met_at_once, coming_rows, delete_mark, once_marks, put_depend, put_mark, put_satisfied, satisfied_rows}
 use Rattle.farm_depends.proofs.Added.{marks_more}
 use Rattle.farm_depends.proofs.DependRows.{leaves_depend, leaves_put, leaves_then, mark_row, marks_put, put_apart}
-use Rattle.farm_depends.proofs.Zips.{filter-map, map_in_turn}
+use Rattle.depend_book.proofs.Zips.{filter-map, map_in_turn}
 
 -- no row has the next number
 none_above : (low : ℕ) (rows : List DependRow) (high n : ℕ) → IsRising depend_key low rows high → high ≤ n → find (λ (d : DependRow). eqb d.depend n) rows ≡ None

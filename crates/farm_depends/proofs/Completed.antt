@@ -15,14 +15,14 @@ use Rattle.farm_types.proofs.Lists.{for_some_true, list_all-from_at}
 use Rattle.depend_law.proofs.Fewer.{are_done_more}
 use Rattle.depend_graph.specs.Graph.{GraphLists, Watch, Watched, is_flagged, is_met, with_all_done}
 use Rattle.depend_book.specs.Book.{DependLists, IsBook, all_done_in, joined}
-use Rattle.farm_depends.specs.Fits.{Fits, group_in}
+use Rattle.depend_book.specs.Fits.{Fits, group_in}
 use Rattle.farm_depends.specs.Follow.{is_listed}
 use Rattle.farm_depends.proofs.BookChanges.{Advances, all_done_is, book_after, groups_after}
 use Rattle.farm_depends.proofs.Flags.{are_done_alike, depends_after, done_after, flags_after, flags_are, length-flags_after, met_after_is, met_stays, watch_after, watched_after}
 use Rattle.farm_depends.proofs.MetNow.{Settles, Tells, done_is_met, settled_farm}
-use Rattle.farm_depends.proofs.OpenUnmet.{each_met, met_is}
-use Rattle.farm_depends.proofs.Pairs.{IsPair, groups_joined, pairs}
-use Rattle.farm_depends.proofs.Zips.{list_any-at, map_in_turn, zip_beside, zip_both, zip_made}
+use Rattle.depend_book.proofs.OpenUnmet.{each_met, met_is}
+use Rattle.depend_book.proofs.Pairs.{IsPair, groups_joined, pairs}
+use Rattle.depend_book.proofs.Zips.{list_any-at, map_in_turn, zip_beside, zip_both, zip_made}
 
 -- Beside the book `b`, exactly what was met in `f0` was marked; `f` is the farm after an act, in which these frames are done too.
 pub record Completes (f0 f : Farm) (b : DependLists) (done : List ℕ) : Type 0 where

@@ -24,7 +24,7 @@ use Rattle.farm_changes.specs.declared.change.More.{More}
 use Rattle.farm_changes.specs.declared.change.More.TheVariants as more
 use Rattle.farm_draft.specs.Rows.{put_slots}
 use Rattle.farm_depends.specs.Completing.{IsCompleting, is_blocked_in, is_left_blocked, left_blocked, newly_done}
-use Rattle.farm_depends.specs.Fits.{IsWhole}
+use Rattle.depend_book.specs.Fits.{IsBeside}
 use Rattle.farm_depends.specs.Follow.{AreRoomy, Counts, Follows, IsDropThere, IsMovable, is_listed}
 use Rattle.farm_depends.specs.declared.follow.Follow.{Follow}
 use Rattle.farm_depends.proofs.Completed.{Completes}
@@ -32,7 +32,7 @@ use Rattle.farm_depends.proofs.Completions.{CompletesFrames, acted_completes, bl
 use Rattle.farm_depends.proofs.Joined.{joined_acted}
 use Rattle.farm_depends.proofs.NewlyDone.{length-put_slots, newly_are, newly_differ, newly_undone}
 use Rattle.farm_depends.proofs.Opens.{blocked_movable, opening, opening_farm}
-use Rattle.farm_depends.proofs.Pairs.{groups_joined}
+use Rattle.depend_book.proofs.Pairs.{groups_joined}
 use Rattle.farm_depends.proofs.Reopened.{done_listed}
 use Rattle.farm_depends.proofs.RowsDiffer.{rows_differ}
 
@@ -78,7 +78,7 @@ left_by false was now listed undone is = refl
 
 -- ---- what follows
 
-module _ (f : Farm) (b : DependLists) (e : Entry) (change : Change) (whole : IsWhole f b) (made : Makes f e change) (c : IsCompleting e.act) where
+module _ (f : Farm) (b : DependLists) (e : Entry) (change : Change) (whole : IsBeside f b) (made : Makes f e change) (c : IsCompleting e.act) where
   abbrev old : Farm
   old = joined f b
 

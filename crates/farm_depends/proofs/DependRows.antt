@@ -18,7 +18,7 @@ use Rattle.depend_graph.specs.declared.marks.Marks.{Marks}
 use Rattle.depend_graph.specs.Graph.{Watched, groups_at, is_mark}
 use Rattle.depend_book.specs.Book.{DependLists, joined, mark_of, marks_of, row_in}
 use Rattle.farm_depends.specs.FollowRows.{all_satisfied_rows, delete_mark, met_rows, put_depend, put_mark, put_satisfied, satisfied_rows}
-use Rattle.farm_depends.proofs.Zips.{or_none}
+use Rattle.depend_book.proofs.Zips.{or_none}
 
 -- ---- rows of other kinds
 

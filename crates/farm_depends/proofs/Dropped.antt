@@ -19,16 +19,16 @@ use Rattle.depend_graph.specs.Graph.{Watch, Watched, is_met, is_satisfied, met_g
 use Rattle.depend_book.specs.Book.{DependLists, IsBook, dropped_in, joined, marks_of, row_of, rows_of}
 use Rattle.depend_law.proofs.Marks.{marks}
 use Rattle.farm_depends.specs.declared.follow.Follow.{Follow}
-use Rattle.farm_depends.specs.Fits.{Fits, group_in}
+use Rattle.depend_book.specs.Fits.{Fits, group_in}
 use Rattle.farm_depends.specs.Follow.{after_follow, is_listed, put_opened}
 use Rattle.farm_depends.proofs.BookChanges.{Advances, book_after, groups_after}
 use Rattle.farm_depends.proofs.Listed.{blocked_in, blocked_waits, listed_count, listed_opens}
 use Rattle.farm_depends.proofs.MetNow.{Settles, Tells, met_now_is, settled_farm}
-use Rattle.farm_depends.proofs.OpenUnmet.{open_unmet}
+use Rattle.depend_book.proofs.OpenUnmet.{open_unmet}
 use Rattle.farm_depends.proofs.Opens.{only_opened, settled_by}
-use Rattle.farm_depends.proofs.Pairs.{IsPair, pairs}
+use Rattle.depend_book.proofs.Pairs.{IsPair, pairs}
 use Rattle.farm_depends.proofs.PutSlots.{opened_list}
-use Rattle.farm_depends.proofs.Zips.{map_in_turn, zip_changed, zip_length, zip_made}
+use Rattle.depend_book.proofs.Zips.{map_in_turn, zip_changed, zip_length, zip_made}
 
 -- the blocked frames that wait in no unmet group once the depend is dropped
 abbrev pub dropping : Farm → DependLists → ℕ → List ℕ

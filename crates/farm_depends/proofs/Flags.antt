@@ -13,7 +13,8 @@ use Rattle.depend_graph.specs.Graph.{GraphLists, Watch, Watched, completed, comp
 use Rattle.farm_depends.specs.Follow.{is_listed}
 use Rattle.depend_law.proofs.Fewer.{are_done_more}
 use Rattle.depend_law.proofs.Stable.{list_all-same}
-use Rattle.farm_depends.proofs.Zips.{list_any-alike, list_any-at, map_in_turn, map_kept, or_none}
+use Rattle.depend_book.proofs.OneCleared.{flagged_within}
+use Rattle.depend_book.proofs.Zips.{list_any-alike, list_any-at, map_in_turn, map_kept, or_none}
 
 -- ---- flags
 
@@ -39,11 +40,6 @@ flag_set flags s slot within (inl e) =
     ap (is_flagged (slice_set flags s true)) e ∙ (flag_here flags s within ∙ sym (or_right (is_flagged flags slot) (eqb s slot) (eq-eqb s slot (sym e))))
 flag_set flags s slot within (inr apart) =
     flag_other flags s slot apart ∙ sym (ap (λ (b : Bool). is_flagged flags slot || b) (ne_eqb s slot (λ e. apart (sym e))) ∙ or_none (is_flagged flags slot))
-
--- what was done is done
-pub flagged_within : (flags : List Bool) (slot : ℕ) (o : Option Bool) → slice_get flags slot ≡ o → for_some o (λ flag. flag) ≡ true → slot < length flags
-flagged_within flags slot None at is = absurd (false≢true is)
-flagged_within flags slot (Some flag) at is = slice_get_within flags slot flag at
 
 flag_more : (flags : List Bool) (s slot : ℕ) → (slot ≡ s) ⊎ (slot ≢ s) → is_flagged flags slot ≡ true → is_flagged (slice_set flags s true) slot ≡ true
 flag_more flags s slot (inl e) is =

@@ -90,13 +90,13 @@ read_by : (slot : ℕ) (o : Option SlotRow) (frame : Option FrameRow) (r : Frame
 read_by slot o None r h = own_by slot o r h
 read_by slot o (Some x) r h = ap Some (frame_same x r h)
 
-pub start_stands : (f0 f : Farm) (b : DependLists) (acted : List RowChange) (w : Follow) (frames : ℕ → Option FrameRow) → IsActed f0 b acted w f → Notes acted frames → Stands (joined f b) f0.slots (joined f b) [] frames
-start_stands f0 f b acted w frames a notes =
+pub start_stands : (f0 f : Farm) (acted : List RowChange) (w : Follow) (frames : ℕ → Option FrameRow) → IsActed f0 acted w f → Notes acted frames → Stands f f0.slots f [] frames
+start_stands f0 f acted w frames a notes =
     record {
       rows_made = λ k named. refl;
       read = λ slot s at framed.
-          let here : row_at (joined f b) (key.Frame slot) ≡ Some (row.Frame (frame_row slot s)) = ap (option_and_then (used_row slot)) at ∙ used_by slot s framed in
-          read_by slot (slice_get f0.slots slot) (frames slot) (frame_row slot s) (notes slot (row_at (joined f0 b) (key.Frame slot)) (frame_row slot s) (sym (a.rows (key.Frame slot) refl) ∙ here));
+          let here : row_at f (key.Frame slot) ≡ Some (row.Frame (frame_row slot s)) = ap (option_and_then (used_row slot)) at ∙ used_by slot s framed in
+          read_by slot (slice_get f0.slots slot) (frames slot) (frame_row slot s) (notes slot (row_at f0 (key.Frame slot)) (frame_row slot s) (sym (a.rows (key.Frame slot) refl) ∙ here));
     }
 
 -- ---- one frame that moves

@@ -15,7 +15,6 @@ use Rattle.farm_types.specs.Depends.{groups_of}
 use Rattle.farm_types.specs.Farm.{Farm, show_named}
 use Rattle.farm_types.specs.Settle.{blocked_from, blocked_row, blocks, in_state, kept_version, met_rows, met_rows_of, opened_from, opens, raised, settle, settled_row, with_blocked, with_met, with_opened}
 use Rattle.farm_types.specs.Step.{after_act, after_submit, at_moment, followed, moment_of}
-use Rattle.depend_book.specs.Book.{DependLists, joined}
 use Rattle.depend_book.specs.declared.new_depend.NewDepend.{NewDepend}
 use Rattle.farm_changes.specs.Change.{Makes, after_change}
 use Rattle.farm_changes.specs.declared.change.Change.{Change}
@@ -151,35 +150,31 @@ module _ (moment : ℕ) where
 
 -- ---- acts that depends follow
 
-module _ (b : DependLists) (f : Farm) (e : Entry) (change : Change) (made : Makes f e change) where
+module _ (f : Farm) (e : Entry) (change : Change) (made : Makes f e change) where
   abbrev moment : ℕ
   moment = moment_of f e.moment
 
-  made_by : (act : Act) → e.act ≡ act → joined (after_change f change) b ≡ joined (after_act (at_moment f moment) moment act) b
-  made_by act is = ap (λ (g : Farm). joined g b) (made.farm ∙ ap (after_act (at_moment f moment) moment) is)
+  made_by : (act : Act) → e.act ≡ act → after_change f change ≡ after_act (at_moment f moment) moment act
+  made_by act is = made.farm ∙ ap (after_act (at_moment f moment) moment) is
 
-  placed_later : (spec : JobSpec) (o : Option ℕ) → joined (after_submit (at_moment f moment) spec o) b ≡ at_moment (joined (after_submit f spec o) b) moment
+  placed_later : (spec : JobSpec) (o : Option ℕ) → after_submit (at_moment f moment) spec o ≡ at_moment (after_submit f spec o) moment
   placed_later spec None = refl
   placed_later spec (Some show) = refl
 
-  as_made : (act : Act) (g : Farm) (result : Result Follow FarmFault) → e.act ≡ act → joined (after_change f change) b ≡ at_moment g moment → PreparesFollow (joined f b) g act result
-      → PreparesFollow (joined f b) (joined (after_change f change) b) e.act result
+  as_made : (act : Act) (g : Farm) (result : Result Follow FarmFault) → e.act ≡ act → after_change f change ≡ at_moment g moment → PreparesFollow f g act result → PreparesFollow f (after_change f change) e.act result
   as_made act g result is later prepares =
-      subst (λ (a : Act). PreparesFollow (joined f b) (joined (after_change f change) b) a result) (sym is)
-      (subst (λ (h : Farm). PreparesFollow (joined f b) h act result) (sym later) (prepares_later moment (joined f b) g act result prepares))
+      subst (λ (a : Act). PreparesFollow f (after_change f change) a result) (sym is)
+      (subst (λ (h : Farm). PreparesFollow f h act result) (sym later) (prepares_later moment f g act result prepares))
 
   -- a job that is placed
-  pub submit_prepared : (spec : JobSpec) (result : Result Follow FarmFault) → e.act ≡ Submit spec → PreparesFollow (joined f b) (joined (after_submit f spec (show_named f spec.show)) b) (Submit spec) result
-      → PreparesFollow (joined f b) (joined (after_change f change) b) e.act result
-  submit_prepared spec result is =
-      as_made (Submit spec) (joined (after_submit f spec (show_named f spec.show)) b) result is (made_by (Submit spec) is ∙ placed_later spec (show_named f spec.show))
+  pub submit_prepared : (spec : JobSpec) (result : Result Follow FarmFault) → e.act ≡ Submit spec → PreparesFollow f (after_submit f spec (show_named f spec.show)) (Submit spec) result
+      → PreparesFollow f (after_change f change) e.act result
+  submit_prepared spec result is = as_made (Submit spec) (after_submit f spec (show_named f spec.show)) result is (made_by (Submit spec) is ∙ placed_later spec (show_named f spec.show))
 
   -- a depend that comes
-  pub depend_prepared : (spec : DependSpec) (result : Result Follow FarmFault) → e.act ≡ AddDepend spec → PreparesFollow (joined f b) (joined f b) (AddDepend spec) result
-      → PreparesFollow (joined f b) (joined (after_change f change) b) e.act result
-  depend_prepared spec result is = as_made (AddDepend spec) (joined f b) result is (made_by (AddDepend spec) is)
+  pub depend_prepared : (spec : DependSpec) (result : Result Follow FarmFault) → e.act ≡ AddDepend spec → PreparesFollow f f (AddDepend spec) result → PreparesFollow f (after_change f change) e.act result
+  depend_prepared spec result is = as_made (AddDepend spec) f result is (made_by (AddDepend spec) is)
 
   -- a depend that is dropped
-  pub drop_prepared : (depend : ℕ) (result : Result Follow FarmFault) → e.act ≡ DropDepend depend → PreparesFollow (joined f b) (joined f b) (DropDepend depend) result
-      → PreparesFollow (joined f b) (joined (after_change f change) b) e.act result
-  drop_prepared depend result is = as_made (DropDepend depend) (joined f b) result is (made_by (DropDepend depend) is)
+  pub drop_prepared : (depend : ℕ) (result : Result Follow FarmFault) → e.act ≡ DropDepend depend → PreparesFollow f f (DropDepend depend) result → PreparesFollow f (after_change f change) e.act result
+  drop_prepared depend result is = as_made (DropDepend depend) f result is (made_by (DropDepend depend) is)

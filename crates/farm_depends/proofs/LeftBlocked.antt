@@ -14,7 +14,7 @@ use Rattle.depend_graph.specs.Graph.{is_flagged}
 use Rattle.farm_depends.specs.Completing.{blocked_among, is_blocked_in, is_left_blocked, left_blocked, unmarked_among}
 use Rattle.farm_depends.specs.Follow.{is_listed}
 use Rattle.farm_depends.proofs.Listed.{filter_twice}
-use Rattle.farm_depends.proofs.Reopened.{and_one}
+use Rattle.depend_book.proofs.OneCleared.{and_one}
 
 module _ (slots : List SlotRow) (done : List ℕ) where
   -- those that are done and were blocked

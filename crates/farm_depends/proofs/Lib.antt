@@ -5,6 +5,7 @@ pub mod Applied
 pub mod Beside
 pub mod Blocking
 pub mod BookChanges
+pub mod BooksTaken
 pub mod CameRows
 pub mod ComingGroups
 pub mod ComingInTurn
@@ -23,19 +24,16 @@ pub mod Later
 pub mod LeftBlocked
 pub mod LeftNames
 pub mod Listed
-pub mod Marked
 pub mod MarksMade
 pub mod MetDropped
 pub mod MetNow
 pub mod Movable
 pub mod MovedSlots
 pub mod NewlyDone
-pub mod OpenUnmet
 pub mod OpenWith
 pub mod Opens
 pub mod OwnFrames
 pub mod OwnNames
-pub mod Pairs
 pub mod PlacedBlocked
 pub mod PlacedEnds
 pub mod PlacedFarm
@@ -54,5 +52,5 @@ pub mod RowsDiffer
 pub mod ToCome
 pub mod Undepended
 pub mod Walks
+pub mod Wholes
 pub mod WithRow
-pub mod Zips

@@ -13,9 +13,9 @@ use Rattle.farm_types.proofs.Changed.{places}
 use Rattle.farm_types.proofs.Lists.{for_some_true}
 use Rattle.depend_graph.specs.Graph.{Watch, has_opened, numbers_from, opened_between, unmet_of}
 use Rattle.depend_book.specs.Book.{DependLists, IsBook, joined}
-use Rattle.farm_depends.specs.Fits.{Fits}
+use Rattle.depend_book.specs.Fits.{Fits}
 use Rattle.farm_depends.specs.Follow.{is_listed}
-use Rattle.farm_depends.proofs.OpenUnmet.{open_unmet}
+use Rattle.depend_book.proofs.OpenUnmet.{open_unmet}
 
 -- the frame in the slot is blocked
 abbrev pub blocked_in : List SlotRow → ℕ → Bool

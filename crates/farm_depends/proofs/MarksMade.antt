@@ -14,7 +14,7 @@ use Rattle.depend_book.proofs.Satisfied.{Keeps, marked_by, rows_marked}
 use Rattle.farm_depends.proofs.BookChanges.{all_done_is}
 use Rattle.farm_depends.proofs.DependRows.{MarksChange, has_position, row_with}
 use Rattle.farm_depends.proofs.Flags.{depends_after, met_stays, watch_after, watched_after}
-use Rattle.farm_depends.proofs.Zips.{same_head, same_tail, nil-cons}
+use Rattle.depend_book.proofs.Zips.{same_head, same_tail, nil-cons}
 
 -- ---- one list of groups
 

@@ -13,10 +13,10 @@ use Rattle.depend_graph.specs.Graph as graph
 use Rattle.depend_book.specs.Book.{DependLists, IsBook, joined, mark_of, marks_in, marks_of, rows_of}
 use Rattle.depend_law.proofs.Marks.{marked_rows, marks}
 use Rattle.depend_law.proofs.MetAgain.{positions_rise}
-use Rattle.farm_depends.specs.Fits.{Fits}
-use Rattle.farm_depends.proofs.Marked.{marked_is}
-use Rattle.farm_depends.proofs.Pairs.{IsPair, group_at, groups_joined, pairs}
-use Rattle.farm_depends.proofs.Zips.{zip_all-alike, zip_at}
+use Rattle.depend_book.specs.Fits.{Fits}
+use Rattle.depend_book.proofs.Marked.{marked_is}
+use Rattle.depend_book.proofs.Pairs.{IsPair, group_at, groups_joined, pairs}
+use Rattle.depend_book.proofs.Zips.{zip_all-alike, zip_at}
 
 -- ---- what the graph has to say
 

@@ -20,7 +20,7 @@ use Rattle.farm_depends.specs.declared.follow.Follow.{Follow}
 use Rattle.farm_depends.specs.Follow.{IsMovable, after_follow, is_listed, is_moved, put_blocked, put_opened, with_all, without}
 use Rattle.farm_depends.proofs.Completed.{Completes, completed_book, completed_farm, completed_fits, completed_graph}
 use Rattle.farm_depends.proofs.Listed.{blocked_waits, listed_opens}
-use Rattle.farm_depends.proofs.OpenUnmet.{open_unmet}
+use Rattle.depend_book.proofs.OpenUnmet.{open_unmet}
 use Rattle.farm_depends.proofs.PutSlots.{opened_list}
 pub use Rattle.farm_depends.proofs.Listed.{blocked_in}
 

@@ -43,7 +43,7 @@ use Rattle.farm_depends.proofs.ComingGroups.{found_groups, new_are_groups, refus
 use Rattle.farm_depends.proofs.LeftNames.{finished_left, pending_left}
 use Rattle.farm_depends.proofs.OwnNames.{name_is}
 use Rattle.farm_depends.proofs.PlacedFarm.{IsPlaced, job_accepted, other_shape, own_waits, placed_is}
-use Rattle.farm_depends.proofs.Zips.{or_none}
+use Rattle.depend_book.proofs.Zips.{or_none}
 use Rattle.farm_places.proofs.ShownParts.{IsPending, all_shown, part_is, pending_is, refusal_shown}
 
 -- equal bytes are one name

@@ -25,7 +25,7 @@ use Rattle.farm_depends.specs.declared.counts.Counts.{Counts}
 use Rattle.farm_depends.specs.declared.follow.Follow.{Follow}
 use Rattle.farm_depends.specs.declared.own.OwnJob.{OwnJob}
 use Rattle.farm_depends.specs.Coming.{ComeAll, all_unmet_waiters, counts_in, each_coming, follow_placed, refusal_with_all}
-use Rattle.farm_depends.specs.Fits.{IsWhole}
+use Rattle.depend_book.specs.Fits.{IsBeside}
 use Rattle.farm_depends.specs.Follow.{FollowFits, Follows, IsMovable, PreparesFollow, after_follow, all_coming, is_listed, nothing_follows}
 use Rattle.farm_depends.specs.Placed.{CanPlace, IsOwn, blocked_own, follow_own, placed}
 use Rattle.farm_depends.proofs.ComingGroups.{new_are_groups}
@@ -58,7 +58,7 @@ depends_by : (f : Farm) (spec : JobSpec) (o : Option ℕ) → record (after_subm
 depends_by f spec None = refl
 depends_by f spec (Some show) = refl
 
-module _ (f : Farm) (b : DependLists) (book : IsBook b) (whole : IsWhole f b) (spec : JobSpec) (formed : IsFormedJob spec) (accepted : act_refusal f (act.Submit spec) ≡ None) where
+module _ (f : Farm) (b : DependLists) (book : IsBook b) (whole : IsBeside f b) (spec : JobSpec) (formed : IsFormedJob spec) (accepted : act_refusal f (act.Submit spec) ≡ None) where
   -- the farm before, the books with the job, and both with the depends
   abbrev old : Farm
   old = joined f b

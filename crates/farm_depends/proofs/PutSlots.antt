@@ -12,7 +12,7 @@ use Rattle.farm_types.specs.Farm.{Farm, changed_at, changed_by}
 use Rattle.farm_types.specs.Settle.{blocked_from, blocked_row, blocks, in_state, kept_version, opened_from, opens}
 use Rattle.farm_types.proofs.Changed.{changed_at_other, changed_at_same}
 use Rattle.farm_depends.specs.Follow.{change_of, is_listed, put_blocked, put_opened}
-use Rattle.farm_depends.proofs.Zips.{option_map_same, same_places}
+use Rattle.depend_book.proofs.Zips.{option_map_same, same_places}
 use Rattle.depend_law.proofs.Shapes.{SameFrames, SamePlace, changed_frames, frames_same, frames_then, state_stays}
 
 -- ---- one change at each place of a list

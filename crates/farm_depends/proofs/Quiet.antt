@@ -34,7 +34,7 @@ use Rattle.depend_law.proofs.Turns.{turns_changed}
 use Rattle.depend_book.specs.Book.{DependLists, joined}
 use Rattle.farm_changes.specs.Change.{Makes, after_change}
 use Rattle.farm_changes.specs.declared.change.Change.{Change}
-use Rattle.farm_depends.specs.Fits.{IsWhole}
+use Rattle.depend_book.specs.Fits.{IsBeside}
 use Rattle.farm_depends.specs.Follow.{Counts, FollowFits, Follows, nothing_follows}
 use Rattle.farm_depends.proofs.Beside.{refusal_joined}
 use Rattle.farm_depends.proofs.Joined.{joined_acted}
@@ -176,7 +176,7 @@ nothing_after f g act quiet c met =
     }
 
 -- nothing follows
-pub quiet_follows : (f : Farm) (b : DependLists) (e : Entry) (change : Change) → IsWhole f b → HasCondition (joined f b) e.act → Makes f e change → IsQuiet e.act
+pub quiet_follows : (f : Farm) (b : DependLists) (e : Entry) (change : Change) → IsBeside f b → HasCondition (joined f b) e.act → Makes f e change → IsQuiet e.act
     → Follows (joined f b) (joined (after_change f change) b) e.act nothing_follows
 quiet_follows f b e change whole allowed made quiet =
     let after : joined (after_change f change) b ≡ acted (joined f b) e = ap (λ (g : Farm). joined g b) made.farm ∙ joined_acted b f e in

@@ -1,22 +1,8 @@
--- A frame that isn't done any more: its flag is cleared, and nothing else of the book of depends changes.
-use Rattle.std.proofs.Common.{◌≡◌, ◌≢◌, ℕ, ◌<◌, ◌&&◌, ◌||◌, not, Bool, true, false, eqb, List, length, Option, None, refl, sym, ap, ◌∙◌, ◌⊎◌, inl, inr, arith}
-use Rattle.std.specs.List.{slice_get, slice_set}
-use Rattle.std.proofs.Math.ListN.{length-set}
-use Rattle.std.proofs.lemmas.Bool.{and_right, eq-eqb, ne_eqb}
-use Rattle.farm_types.specs.Farm.{for_some}
-use Rattle.farm_types.proofs.Changed.{slice_get-set_other, slice_get-set_same}
-use Rattle.farm_types.proofs.Lists.{slice_get_below}
-use Rattle.depend_graph.specs.Graph.{is_flagged}
-use Rattle.depend_book.specs.Book.{DependLists, IsBook, done_in}
+-- Which frames are done, where one may not be any more.
+use Rattle.std.proofs.Common.{◌≡◌, ℕ, ◌&&◌, ◌||◌, not, Bool, true, false, List, None, refl, sym, ap, ◌∙◌}
+use Rattle.depend_book.proofs.OneCleared.{and_one}
 use Rattle.farm_depends.specs.declared.follow.Follow.{Follow}
 use Rattle.farm_depends.specs.Follow.{is_listed, is_one}
-use Rattle.farm_depends.proofs.Flags.{flagged_within}
-
--- ---- which frames are done
-
-pub and_one : (b : Bool) → (b && true) ≡ b
-and_one true = refl
-and_one false = refl
 
 -- where none is named
 pub none_reopened : (was : Bool) → was ≡ ((was && true) || false)
@@ -27,43 +13,3 @@ pub done_listed : (was : Bool) (list : List ℕ) (w : Follow) (slot : ℕ) → w
 done_listed was list w slot done reopened =
     ap (λ (b : Bool). b || is_listed list slot) (sym (and_one was))
     ∙ λ i. (was && not (is_one (sym reopened i) slot)) || is_listed (sym done i) slot
-
--- ---- flags
-
--- the slot's own flag
-flag_gone : (flags : List Bool) (s : ℕ) (b : Bool) → is_flagged (slice_set flags s false) s ≡ b → is_flagged (slice_set flags s false) s ≡ false
-flag_gone flags s false is = is
-flag_gone flags s true is =
-    let within : s < length (slice_set flags s false) = flagged_within (slice_set flags s false) s (slice_get (slice_set flags s false) s) refl is in
-    let there = slice_get_below flags s (omega (arith, within, length-set flags s false)) in
-    ap (λ (o : Option Bool). for_some o (λ flag. flag)) (slice_get-set_same flags s there.0 false there.1)
-
--- exactly the others stay
-pub flag_cleared : (flags : List Bool) (s slot : ℕ) → (slot ≡ s) ⊎ (slot ≢ s) → is_flagged (slice_set flags s false) slot ≡ (is_flagged flags slot && not (eqb s slot))
-flag_cleared flags s slot (inl e) =
-    ap (is_flagged (slice_set flags s false)) e
-    ∙ (flag_gone flags s (is_flagged (slice_set flags s false) s) refl ∙ sym (and_right (is_flagged flags slot) (not (eqb s slot)) (ap not (eq-eqb s slot (sym e)))))
-flag_cleared flags s slot (inr apart) =
-    ap (λ (o : Option Bool). for_some o (λ flag. flag)) (slice_get-set_other flags s slot false apart)
-    ∙ sym (ap (λ (b : Bool). is_flagged flags slot && not b) (ne_eqb s slot (λ e. apart (sym e))) ∙ and_one (is_flagged flags slot))
-
--- ---- the book
-
--- the book without the flag
-abbrev pub cleared : DependLists → ℕ → DependLists
-cleared b slot = record b { graph = record b.graph { done = slice_set b.graph.done slot false } }
-
-pub cleared_is : (b : DependLists) (slot : ℕ) → IsBook b → done_in b slot false ≡ cleared b slot
-cleared_is b slot book i = record (cleared b slot) { rows = book.rows_are i }
-
-pub cleared_book : (b : DependLists) (slot : ℕ) → IsBook b → IsBook (cleared b slot)
-cleared_book b slot book =
-    record {
-      flags = length-set b.graph.done slot false ∙ book.flags;
-      numbers = book.numbers;
-      rows_are = book.rows_are;
-      rise = book.rise;
-      next_within = book.next_within;
-      count = book.count;
-      groups_within = book.groups_within;
-    }

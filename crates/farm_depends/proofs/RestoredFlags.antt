@@ -11,6 +11,7 @@ use Rattle.farm_types.specs.Depends.{is_done}
 use Rattle.farm_types.proofs.Changed.{places}
 use Rattle.depend_graph.specs.Graph.{completed_in, is_flagged}
 use Rattle.depend_book.specs.Book.{DependLists, done_in, no_depends, rows_of}
+use Rattle.farm_books.specs.Books.{FarmBooks, depends_of, with_depends}
 use Rattle.farm_depends.specs.Completing.{is_done_row}
 use Rattle.farm_depends.specs.Restored.{IsFlagged, IsFlagging}
 use Rattle.farm_depends.proofs.Flags.{flag_set}
@@ -47,6 +48,12 @@ one_more (y ∷ ys) zero x zero at = ap is_done_row (same_Some y x at)
 one_more (y ∷ ys) zero x (suc s) at = none_further s ∙ ap (λ b. false || (b && is_done_row x)) (sym (ne_eqb 0 (suc s) (λ e. absurd (omega (arith, e)))))
 one_more (y ∷ ys) (suc k) x zero at = or_off (is_done_row y) ∙ ap (λ b. is_done_row y || (b && is_done_row x)) (sym (ne_eqb (suc k) 0 (λ e. absurd (omega (arith, e)))))
 one_more (y ∷ ys) (suc k) x (suc s) at = one_more ys k x s at ∙ ap (λ b. is_done (take k ys) s || (b && is_done_row x)) (sym (one_later k s))
+
+-- the frame at a place
+pub done_at : (slots : List SlotRow) (k : ℕ) (x : SlotRow) → slice_get slots k ≡ Some x → is_done slots k ≡ is_done_row x
+done_at [] k x at = absurd (none-some x at)
+done_at (y ∷ ys) zero x at = ap is_done_row (same_Some y x at)
+done_at (y ∷ ys) (suc k) x at = done_at ys k x at
 
 -- ---- on the way
 
@@ -108,3 +115,21 @@ flags_end slots k b all so_far =
       next = so_far.next;
       flags = λ s. so_far.flags s ∙ ap (λ (xs : List SlotRow). is_done xs s) all;
     }
+
+-- ---- in the books
+
+-- a frame's flag is set, if it is done
+pub flag_then : (v : FarmBooks) (slot : ℕ) (flag : Bool) → depends_of (cond flag (with_depends v (done_in (depends_of v) slot true)) v) ≡ cond flag (done_in (depends_of v) slot true) (depends_of v)
+flag_then v slot true = refl
+flag_then v slot false = refl
+
+-- where nothing but the depends has changed, nothing else has after it
+pub rest_more : (first v new : FarmBooks) (b : DependLists) → v ≡ with_depends first (depends_of v) → new ≡ with_depends v b → new ≡ with_depends first (depends_of new)
+rest_more first v new b rest is = is ∙ (ap (λ (w : FarmBooks). with_depends w b) rest ∙ ap (λ (w : FarmBooks). with_depends first (depends_of w)) (sym is))
+
+rest_by : (first v : FarmBooks) (slot : ℕ) (flag : Bool) → v ≡ with_depends first (depends_of v) → cond flag (with_depends v (done_in (depends_of v) slot true)) v ≡ with_depends first (depends_of (cond flag (with_depends v (done_in (depends_of v) slot true)) v))
+rest_by first v slot true rest = rest_more first v (with_depends v (done_in (depends_of v) slot true)) (done_in (depends_of v) slot true) rest refl
+rest_by first v slot false rest = rest
+
+pub rest_then : (first v new : FarmBooks) (slot : ℕ) (flag : Bool) → v ≡ with_depends first (depends_of v) → new ≡ cond flag (with_depends v (done_in (depends_of v) slot true)) v → new ≡ with_depends first (depends_of new)
+rest_then first v new slot flag rest is = subst (λ (w : FarmBooks). w ≡ with_depends first (depends_of w)) (sym is) (rest_by first v slot flag rest)

@@ -20,12 +20,13 @@ use Rattle.farm_types.proofs.Passes.{option_map-from}
 use Rattle.farm_law.proofs.KeptJobsLists.{rising_within}
 use Rattle.depend_law.proofs.Waiters.{depend_holds}
 use Rattle.depend_graph.specs.Graph.{IsGroup, Watch, is_flagged, is_met as is_met_in, is_satisfied, watched}
+use Rattle.farm_rows.specs.Changes.{beside}
 use Rattle.depend_graph.specs.Graph as graph
 use Rattle.depend_graph.specs.Marked.{marked_watch, marked_with}
-use Rattle.depend_book.specs.Book.{DependLists, mark_of, marks_in, marks_of}
+use Rattle.depend_book.specs.Book.{DependLists, joined, mark_of, marks_in, marks_of}
 use Rattle.depend_book.specs.Restored.{CanRestore, skipped, with_restored}
-use Rattle.farm_depends.specs.Fits.{group_in}
-use Rattle.farm_depends.specs.Restored.{IsFlagged, IsRestored, IsRestoring, groups_for, is_mark_of, marks_along, rest_along, watch_in, watched_in, with_depends}
+use Rattle.depend_book.specs.Fits.{group_in}
+use Rattle.farm_depends.specs.Restored.{IsFlagged, IsRestored, IsRestoring, groups_for, is_mark_of, marks_along, rest_along, watch_in, watched_in}
 use Rattle.farm_depends.proofs.Agree.{done_agree}
 use Rattle.farm_depends.proofs.RestoredMarks.{IsAlong, along}
 
@@ -241,9 +242,9 @@ module _ (w : Farm) (kept : IsKeptFarm w) where
 
 -- ---- the beginning and the end
 
-module _ (f : Farm) (depends : List DependRow) (met : List MetRow) (next : ℕ) (kept : IsKeptFarm (with_depends f depends met next)) where
+module _ (f : Farm) (depends : List DependRow) (met : List MetRow) (next : ℕ) (kept : IsKeptFarm (beside f depends met next)) where
   abbrev whole : Farm
-  whole = with_depends f depends met next
+  whole = beside f depends met next
 
   pub restoring_begin : (b : DependLists) → IsFlagged f.slots b → IsRestoring whole 0 b met
   restoring_begin b flagged =
@@ -261,6 +262,14 @@ module _ (f : Farm) (depends : List DependRow) (met : List MetRow) (next : ℕ) 
 
   pub groups_for_whole : (d : DependRow) → groups_for whole d ≡ groups_for f d
   groups_for_whole d = ap (cond d.met_all []) (groups_whole d)
+
+  groups_beside : (b : DependLists) (d : DependRow) → groups_of (joined f b) d ≡ groups_of f d
+  unfolding groups_of
+  groups_beside b d = refl
+
+  -- the groups, in books with some of the depends
+  pub groups_for_joined : (g : Farm) (b : DependLists) (d : DependRow) → g ≡ joined f b → groups_for whole d ≡ groups_for g d
+  groups_for_joined g b d is = groups_for_whole d ∙ (sym (ap (cond d.met_all []) (groups_beside b d)) ∙ ap (λ (h : Farm). groups_for h d) (sym is))
 
   module _ (n : ℕ) (b : DependLists) (left : List MetRow) (so_far : IsRestoring whole n b left) (ended : length depends ≤ n) where
     rows_all : b.rows ≡ depends

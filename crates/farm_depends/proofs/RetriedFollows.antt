@@ -31,21 +31,22 @@ use Rattle.depend_law.proofs.Stable.{SameGroups, open_same, same_groups}
 use Rattle.depend_law.proofs.Turns.{on_frame, on_slot}
 use Rattle.depend_graph.specs.Graph.{Watch, unmet_of}
 use Rattle.depend_book.specs.Book.{DependLists, IsBook, joined}
+use Rattle.farm_books.specs.Books.{FarmBooks}
 use Rattle.farm_changes.specs.Change.{Makes, after_change}
 use Rattle.farm_changes.specs.declared.change.Change.{Change}
 use Rattle.farm_types.specs.declared.fault.FarmFault.{FarmFault}
 use Rattle.farm_types.specs.declared.fault.FarmFault.TheVariants.{Refused, NoMemory}
 use Rattle.farm_depends.specs.declared.follow.Follow.{Follow}
-use Rattle.farm_depends.specs.Fits.{IsWhole}
+use Rattle.depend_book.specs.Fits.{IsBeside}
 use Rattle.farm_depends.specs.Follow.{FollowFits, Follows, IsMovable, PreparesFollow, after_follow, is_listed, is_moved, is_one}
 use Rattle.farm_depends.specs.Retrying.{Retries, follow_retry, has_frame, is_shut, reopened_at, shut_at}
 use Rattle.farm_depends.proofs.Blocking.{block_makes, waits_free}
 use Rattle.farm_depends.proofs.Joined.{joined_acted}
-use Rattle.farm_depends.proofs.OpenUnmet.{open_unmet}
+use Rattle.depend_book.proofs.OpenUnmet.{open_unmet}
 use Rattle.farm_depends.proofs.PutSlots.{blocked_list, one_by, picked}
 use Rattle.farm_depends.proofs.Quiet.{none_differ}
-use Rattle.farm_depends.proofs.Reopened.{and_one}
-use Rattle.farm_depends.proofs.Zips.{or_none}
+use Rattle.depend_book.proofs.OneCleared.{and_one}
+use Rattle.depend_book.proofs.Zips.{or_none}
 
 -- ---- the frame
 
@@ -88,7 +89,7 @@ positive_is (suc n) = lt-ltb 0 (suc n) (omega arith) ∙ sym (ap not (false_from
 
 -- ---- the farm after the act
 
-module _ (f : Farm) (b : DependLists) (whole : IsWhole f b) (book : IsBook b) (moment slot : ℕ) where
+module _ (f : Farm) (b : DependLists) (whole : IsBeside f b) (book : IsBook b) (moment slot : ℕ) where
   abbrev old : Farm
   old = joined f b
 
@@ -175,11 +176,15 @@ module _ (f : Farm) (b : DependLists) (whole : IsWhole f b) (book : IsBook b) (m
 
 -- ---- the act
 
+-- books of these two, as the retry is told of them
+abbrev pub books_beside : Farm → DependLists → FarmBooks
+books_beside f b = record { farm = f; graph = b.graph }
+
 named_later : (f : Farm) (b : DependLists) (moment : ℕ) (p : FramePlace) → slot_named (at_moment (joined f b) moment) p ≡ slot_named f p
 unfolding slot_named
 named_later f b moment p = refl
 
-module _ (f : Farm) (b : DependLists) (e : Entry) (change : Change) (whole : IsWhole f b) (made : Makes f e change) (book : IsBook b) (p : FramePlace) (is : e.act ≡ RetryFrame p) where
+module _ (f : Farm) (b : DependLists) (e : Entry) (change : Change) (whole : IsBeside f b) (made : Makes f e change) (book : IsBook b) (p : FramePlace) (is : e.act ≡ RetryFrame p) where
   abbrev made_farm : Farm
   made_farm = joined (after_change f change) b
 
@@ -199,7 +204,7 @@ module _ (f : Farm) (b : DependLists) (e : Entry) (change : Change) (whole : IsW
       let first = neither (frame_act_refusal may_retry f p) (version_refusal (frame_name p.frame p.layer) (slot_row_named f p)) (ap (act_refusal f) (sym is) ∙ made.accepted) in
       (neither (place_refusal f (place_of p)) (state_refusal may_retry (slot_row_named f p)) first.0).0
 
-  retry_by : (result : Result Follow FarmFault) → Retries f b p result → PreparesFollow (joined f b) made_farm (RetryFrame p) result
+  retry_by : (result : Result Follow FarmFault) → Retries (books_beside f b) p result → PreparesFollow (joined f b) made_farm (RetryFrame p) result
   retry_by (Ok w) r =
       subst (λ (g : Farm). Follows (joined f b) g (RetryFrame p) w) (sym (made_again r.0 r.1))
       (subst (Follows (joined f b) (again f b whole book moment r.0) (RetryFrame p)) (sym r.2) (retry_follows f b whole book moment r.0 p))
@@ -207,5 +212,5 @@ module _ (f : Farm) (b : DependLists) (e : Entry) (change : Change) (whole : IsW
   retry_by (Err NoMemory) r = tt
 
   -- what follows the retry, or the refusal
-  pub retry_prepared : (result : Result Follow FarmFault) → Retries f b p result → PreparesFollow (joined f b) made_farm e.act result
+  pub retry_prepared : (result : Result Follow FarmFault) → Retries (books_beside f b) p result → PreparesFollow (joined f b) made_farm e.act result
   retry_prepared result r = subst (λ (act : Act). PreparesFollow (joined f b) made_farm act result) (sym is) (retry_by result r)

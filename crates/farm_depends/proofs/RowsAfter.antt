@@ -16,14 +16,14 @@ use Rattle.depend_graph.proofs.Telling.{never_met}
 use Rattle.depend_book.specs.Book.{DependLists, IsBook, all_done_in, dropped_in, joined}
 use Rattle.depend_book.specs.declared.new_depend.NewDepend.{NewDepend}
 use Rattle.farm_depends.specs.declared.follow.Follow.{Follow}
-use Rattle.farm_depends.specs.Fits.{IsWhole}
+use Rattle.depend_book.specs.Fits.{IsBeside}
 use Rattle.farm_depends.specs.Follow.{AreRoomy, FollowFits, IsDropThere, IsOneKind, NoneCome, after_follow, depends_after, drop_in, reopened_in, slots_after, with_new_all, with_row}
 use Rattle.farm_depends.specs.FollowRows.{all_coming_rows, dropped_rows, met_rows, satisfied_rows}
 use Rattle.farm_depends.proofs.Applied.{joined_then, takes}
 use Rattle.farm_depends.proofs.CameRows.{makes_all_new, satisfied_stays}
 use Rattle.farm_depends.proofs.DependRows.{makes_met}
 use Rattle.farm_depends.proofs.MarksMade.{done_changes, dropped_changes, dropping}
-use Rattle.farm_depends.proofs.Reopened.{cleared_is}
+use Rattle.depend_book.proofs.OneCleared.{cleared_is}
 
 -- ---- where no frame is done
 
@@ -43,7 +43,7 @@ no_rows b marks done none has =
     let satisfied : marks.satisfied ≡ [] = none_listed marks.satisfied (λ n. still.satisfied n ∙ never_satisfied b.graph.depends n) in
     λ i. met_rows b (record { met = met i; satisfied = satisfied i })
 
-module _ (f0 f : Farm) (b : DependLists) (w : Follow) (whole : IsWhole f0 b) (book : IsBook b) (alone : f.depends ≡ []) (fits : FollowFits (joined f0 b) (joined f b) w)
+module _ (f0 f : Farm) (b : DependLists) (w : Follow) (whole : IsBeside f0 b) (book : IsBook b) (fits : FollowFits (joined f0 b) (joined f b) w)
     (count : length (slots_after f.slots w) ≤ SLOT_LIMIT) (marks : Marks) (has : HasMet b.graph.depends (with_all_done b.graph w.done).depends marks)
   where
     abbrev moved : Farm
@@ -80,7 +80,7 @@ module _ (f0 f : Farm) (b : DependLists) (w : Follow) (whole : IsWhole f0 b) (bo
           let two = makes_then (joined f b) (joined moved b) (joined moved c) rows coming made first in
           let three = makes_then (joined f b) (joined moved c) (joined moved d) (rows ++ coming) going two second in
           let four = makes_then (joined f b) (joined moved d) (joined moved e) ((rows ++ coming) ++ going) meeting three third in
-          subst (λ (g : Farm). MakesRows (joined f b) g all_rows) (same ∙ joined_then f0 f b w whole book alone fits count) four
+          subst (λ (g : Farm). MakesRows (joined f b) g all_rows) (same ∙ joined_then f0 f b w whole book fits count) four
 
       -- frames are done
       with_done : NoneCome w → w.reopened ≡ None → MakesRows (joined f b) (after_follow (joined f b) w) all_rows
@@ -94,7 +94,7 @@ module _ (f0 f : Farm) (b : DependLists) (w : Follow) (whole : IsWhole f0 b) (bo
         more = with_new_all b w.depends
 
         more_book : IsBook more
-        more_book = (takes f0 f b w whole book alone fits count none_done none_back).book
+        more_book = (takes f0 f b w whole book fits count none_done none_back).book
 
         dropped_by : (o : Option ℕ) → IsDropThere (joined f b) o → MakesRows (joined moved more) (joined moved (drop_in more o)) (dropped_rows b o)
         dropped_by None there = nothing (joined moved more)

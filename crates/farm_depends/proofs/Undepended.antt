@@ -16,14 +16,14 @@ use Rattle.depend_book.specs.Book.{DependLists, IsBook, joined}
 use Rattle.farm_types.specs.Faults.{IsRefusal}
 use Rattle.farm_types.specs.declared.fault.FarmFault.{FarmFault}
 use Rattle.farm_types.specs.declared.fault.FarmFault.TheVariants.{Refused, NoMemory}
-use Rattle.farm_depends.specs.Fits.{IsWhole}
+use Rattle.depend_book.specs.Fits.{IsBeside}
 use Rattle.farm_depends.specs.Follow.{AreRoomy, Follows, IsDropThere, IsMovable, PreparesFollow}
 use Rattle.farm_depends.specs.declared.follow.Follow.{Follow}
 use Rattle.farm_depends.proofs.Dropped.{dropping, dropping_count, dropping_farm}
-use Rattle.farm_depends.proofs.OpenUnmet.{depend_there}
+use Rattle.depend_book.proofs.OpenUnmet.{depend_there}
 use Rattle.farm_depends.proofs.Opens.{blocked_in, blocked_movable}
 use Rattle.farm_depends.proofs.Reopened.{done_listed}
-use Rattle.farm_depends.proofs.Zips.{or_none}
+use Rattle.depend_book.proofs.Zips.{or_none}
 
 -- ---- how many
 
@@ -53,7 +53,7 @@ none_differ : IsDistinct nat_eq []
 unfolding IsDistinct
 none_differ = tt
 
-module _ (f : Farm) (b : DependLists) (n : ℕ) (whole : IsWhole f b) (book : IsBook b) (d : DependRow) (found : depend_at (joined f b) n ≡ Some d) where
+module _ (f : Farm) (b : DependLists) (n : ℕ) (whole : IsBeside f b) (book : IsBook b) (d : DependRow) (found : depend_at (joined f b) n ≡ Some d) where
   there : is_some (depend_at (joined f b) n) ≡ true
   there = ap is_some found
 

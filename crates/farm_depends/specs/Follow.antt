@@ -1,6 +1,6 @@
 -- What follows an act of depends: which depends come or go, which frames are done, or not any more, and which open or are blocked.
 use Rattle.std.specs.Prelude.{ℕ, ◌≡◌, ◌==◌, ◌&&◌, ◌||◌, ◌+◌, ◌≤◌, ◌<◌, ◌⊎◌, All, Bool, true, false, not, List, [], ◌∷◌, ◌++◌, map, length, slice_get, is_some, Option, None, Some, IsSomeAnd, Result, Ok, Err}
-use Rattle.std.specs.List.{IsDistinct, list_any}
+use Rattle.std.specs.List.{IsDistinct}
 use Rattle.std.specs.Prelude.{nat_eq}
 use Rattle.farm_types.specs.declared.depend.DependRow.{DependRow}
 use Rattle.farm_types.specs.declared.depend.DependSpec.{DependSpec}
@@ -21,6 +21,9 @@ use Rattle.depend_book.specs.Book.{CanAdd, DependLists, all_done_in, done_in, dr
 use Rattle.depend_book.specs.declared.new_depend.NewDepend.{NewDepend}
 use Rattle.farm_types.specs.declared.fault.FarmFault.{FarmFault}
 use Rattle.farm_types.specs.declared.fault.FarmFault.TheVariants.{Refused, NoMemory}
+use Rattle.farm_books.specs.Books.{FarmBooks, depends_of, with_depends, with_farm}
+pub use Rattle.farm_books.specs.Cleared.{is_listed}
+pub use Rattle.farm_books.specs.Coming.{CanAddAll, spare_for, with_new_all}
 use Rattle.farm_depends.specs.declared.follow.Follow.{Follow}
 
 abbrev pub nothing_follows : Follow
@@ -112,9 +115,6 @@ NoneCome w = (w.depends ≡ []) × (w.dropped ≡ None)
 abbrev pub IsOneKind : Follow → Type 0
 IsOneKind w = (NoneCome w × (w.reopened ≡ None)) ⊎ (((w.done ≡ []) × (w.reopened ≡ None)) ⊎ (NoneCome w × (w.done ≡ [])))
 
-abbrev pub is_listed : List ℕ → ℕ → Bool
-is_listed slots slot = list_any (λ n. n == slot) slots
-
 -- the slot is the one named
 abbrev pub is_one : Option ℕ → ℕ → Bool
 is_one None slot = false
@@ -154,17 +154,10 @@ PreparesFollow old f done (Err (Refused why)) = follow_refusal old done ≡ Some
 PreparesFollow old f done (Err NoMemory) = Unit {0}
 
 -- the same, with its memory taken
-abbrev pub spare_for : NewDepend → SpareLists
-spare_for n = spare_of n.groups
-
 abbrev pub follow_reserved : Follow → Follow
 follow_reserved w = record w { spares = map spare_for w.depends }
 
 -- ---- the books after what follows
-
-abbrev pub with_new_all : DependLists → List NewDepend → DependLists
-with_new_all b [] = b
-with_new_all b (n ∷ ns) = with_new_all (with_new b n) ns
 
 abbrev pub drop_in : DependLists → Option ℕ → DependLists
 drop_in b None = b
@@ -178,10 +171,18 @@ reopened_in b (Some slot) = done_in b slot false
 abbrev pub depends_after : DependLists → Follow → DependLists
 depends_after b w = all_done_in (reopened_in (drop_in (with_new_all b w.depends) w.dropped) w.reopened) w.done
 
--- each depend that comes fits the book in turn
-abbrev pub CanAddAll : DependLists → List NewDepend → Type 0
-CanAddAll b [] = Unit {0}
-CanAddAll b (n ∷ ns) = CanAdd b n × CanAddAll (with_new b n) ns
+-- the same of books
+abbrev pub drop_from : FarmBooks → Option ℕ → FarmBooks
+drop_from v None = v
+drop_from v (Some depend) = with_depends v (dropped_in (depends_of v) depend)
+
+abbrev pub reopened_from : FarmBooks → Option ℕ → FarmBooks
+reopened_from v None = v
+reopened_from v (Some slot) = with_depends v (done_in (depends_of v) slot false)
+
+-- the books after what follows
+abbrev pub books_after : FarmBooks → Follow → FarmBooks
+books_after v w = with_depends (with_farm v (record v.farm { slots = slots_after v.farm.slots w })) (depends_after (depends_of v) w)
 
 abbrev pub HasDrop : DependLists → Option ℕ → Type 0
 HasDrop b None = Unit {0}

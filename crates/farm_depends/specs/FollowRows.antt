@@ -17,21 +17,21 @@ use Rattle.farm_rows.specs.declared.frame_row.StoredState.TheVariants as stored
 use Rattle.farm_rows.specs.declared.row_change.RowChange.{RowChange}
 use Rattle.farm_rows.specs.declared.row_change.RowChange.TheVariants as change
 use Rattle.farm_rows.specs.declared.row_key.RowKey.TheVariants as key
-use Rattle.farm_rows.specs.Changes.{MakesRows, row_after}
+use Rattle.farm_rows.specs.Changes.{MakesRows, beside, row_after}
 use Rattle.farm_rows.specs.Rows.{frame_row}
 use Rattle.depend_graph.specs.declared.marks.Marks.{Marks}
 use Rattle.depend_graph.specs.Graph.{groups_at, is_flagged}
 use Rattle.depend_graph.specs.Listed.{mark_for}
 use Rattle.depend_book.specs.declared.new_depend.NewDepend.{NewDepend}
-use Rattle.depend_book.specs.Book.{DependLists, added_row, joined, mark_of, row_in}
+use Rattle.depend_book.specs.Book.{DependLists, added_row, mark_of, row_in}
 use Rattle.farm_depends.specs.declared.follow.Follow.{Follow}
 use Rattle.farm_depends.specs.Follow.{FollowFits, change_of, slots_after}
 
--- `g` is the farm of the other books after an act: these changes of rows lead to it, and what follows fits it.
-pub record IsActed (f : Farm) (b : DependLists) (acted : List RowChange) (w : Follow) (g : Farm) : Type 0 where
-  pub alone : g.depends ≡ []
-  pub rows : MakesRows (joined f b) (joined g b) acted
-  pub fits : FollowFits (joined f b) (joined g b) w
+-- `g` is the farm after an act, with the same depends: these changes of rows lead to it, and what follows fits it.
+pub record IsActed (f : Farm) (acted : List RowChange) (w : Follow) (g : Farm) : Type 0 where
+  pub depends : beside g f.depends f.met f.next_depend ≡ g
+  pub rows : MakesRows f g acted
+  pub fits : FollowFits f g w
   pub count : length (slots_after g.slots w) ≤ SLOT_LIMIT
 
 -- ---- depends and marks
@@ -57,7 +57,8 @@ once_marks done depend groups = map (mark_for depend) (filter (are_done (is_flag
 -- the depend's row, and its marks where it isn't satisfied at once
 abbrev pub coming_rows : List Bool → ℕ → NewDepend → List RowChange
 coming_rows done depend n =
-    put_depend (added_row depend n (are_met_at_once done n.groups)) ∷ (if are_met_at_once done n.groups then [] else map put_mark (once_marks done depend n.groups))
+    put_depend (added_row depend n (are_met_at_once done n.groups))
+    ∷ (if are_met_at_once done n.groups then [] else map put_mark (once_marks done depend n.groups))
 
 abbrev pub all_coming_rows : List Bool → ℕ → List NewDepend → List RowChange
 all_coming_rows done depend [] = []
@@ -117,12 +118,14 @@ laid_over None old = old
 
 -- where the changes put a frame's row in last, it is noted
 abbrev pub Notes : List RowChange → (ℕ → Option FrameRow) → Type 0
-Notes cs frames = (slot : ℕ) (old : Option FarmRow) (r : FrameRow) → row_after cs (key.Frame slot) old ≡ Some (row.Frame r) → laid_over (frames slot) old ≡ Some (row.Frame r)
+Notes cs frames =
+    (slot : ℕ) (old : Option FarmRow) (r : FrameRow) → row_after cs (key.Frame slot) old ≡ Some (row.Frame r) → laid_over (frames slot) old ≡ Some (row.Frame r)
 
 -- The changes so far lead from one farm to the other, of whose slots with frames the rows were noted, or are as the books' slots.
 pub record Stands (g : Farm) (own : List SlotRow) (f : Farm) (rows : List RowChange) (frames : ℕ → Option FrameRow) : Type 0 where
   pub rows_made : MakesRows g f rows
-  pub read : (slot : ℕ) (s : SlotRow) → slice_get f.slots slot ≡ Some s → is_some s.frame ≡ true → frame_or slot (slice_get own slot) (frames slot) ≡ Some (frame_row slot s)
+  pub read : (slot : ℕ) (s : SlotRow) → slice_get f.slots slot ≡ Some s → is_some s.frame ≡ true
+      → frame_or slot (slice_get own slot) (frames slot) ≡ Some (frame_row slot s)
 
 -- the row is put in, and noted
 pub record IsPut (r : FrameRow) (old_rows new_rows : List RowChange) (old new : ℕ → Option FrameRow) : Type 0 where

@@ -1,6 +1,5 @@
 pub mod Coming
 pub mod Completing
-pub mod Fits
 pub mod Follow
 pub mod FollowRows
 pub mod Placed

@@ -9,17 +9,16 @@ use Rattle.farm_types.specs.Depends.{groups_of, is_done}
 use Rattle.farm_types.specs.Farm.{Farm, for_some}
 use Rattle.farm_types.specs.Rising.{IsRising, depend_key}
 use Rattle.farm_types.specs.Settle.{is_met_now, met_rows}
+use Rattle.farm_rows.specs.Changes.{beside}
 use Rattle.depend_graph.specs.Graph.{Watch, Watched, is_flagged}
 use Rattle.depend_book.specs.Book.{DependLists, joined}
-use Rattle.farm_depends.specs.Fits.{Fits}
+use Rattle.depend_book.specs.Restored.{CanRestore, skipped, with_restored}
+use Rattle.farm_books.specs.Books.{FarmBooks, depends_of, with_depends}
+use Rattle.depend_book.specs.Fits.{Fits}
 
--- the farm with these depends, marks and next number
-abbrev pub with_depends : Farm → List DependRow → List MetRow → ℕ → Farm
-with_depends f depends met next = record f { depends = depends; met = met; next_depend = next }
-
--- the book is that of the depends beside the others
+-- the book is that of the depends beside the farm
 pub record IsRestored (f : Farm) (depends : List DependRow) (met : List MetRow) (next : ℕ) (b : DependLists) : Type 0 where
-  pub joined_is : joined f b ≡ with_depends f depends met next
+  pub joined_is : joined f b ≡ beside f depends met next
   pub fits : Fits f b
 
 -- ---- groups
@@ -56,6 +55,18 @@ marks_along depend (g ∷ gs) met = is_next depend g met ∷ marks_along depend 
 abbrev pub rest_along : ℕ → List Group → List MetRow → List MetRow
 rest_along depend [] met = met
 rest_along depend (g ∷ gs) met = rest_along depend gs (after_mark (is_next depend g met) met)
+
+-- the book with the row and its groups, where the marks are those of the depend and of later ones
+abbrev pub restored_in : DependLists → DependRow → List Group → List MetRow → DependLists
+restored_in b d groups met = with_restored (skipped b d.depend) d groups (marks_along d.depend groups met)
+
+-- the same of books
+abbrev pub row_restored : FarmBooks → DependRow → List MetRow → FarmBooks
+row_restored v d met = with_depends v (restored_in (depends_of v) d (groups_for v.farm d) met)
+
+-- which fits them
+abbrev pub CanRestoreRow : FarmBooks → DependRow → List MetRow → Type 0
+CanRestoreRow v d met = CanRestore (skipped (depends_of v) d.depend) d (groups_for v.farm d) (marks_along d.depend (groups_for v.farm d) met)
 
 -- ---- on the way
 

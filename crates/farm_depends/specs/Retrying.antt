@@ -4,10 +4,10 @@ use Rattle.farm_types.specs.declared.entry.FramePlace.{FramePlace}
 use Rattle.farm_types.specs.declared.slot_row.SlotRow.{SlotRow}
 use Rattle.farm_types.specs.DependActs.{place_refusal}
 use Rattle.farm_types.specs.Depends.{is_done}
-use Rattle.farm_types.specs.Farm.{Farm, for_some}
+use Rattle.farm_types.specs.Farm.{for_some}
 use Rattle.farm_types.specs.Operators.{place_of, slot_named}
 use Rattle.depend_graph.specs.Graph.{Watch, unmet_of}
-use Rattle.depend_book.specs.Book.{DependLists}
+use Rattle.farm_books.specs.Books.{FarmBooks}
 use Rattle.farm_types.specs.declared.fault.FarmFault.{FarmFault}
 use Rattle.farm_types.specs.declared.fault.FarmFault.TheVariants.{Refused, NoMemory}
 use Rattle.farm_depends.specs.declared.follow.Follow.{Follow}
@@ -43,7 +43,7 @@ follow_retry slots watches slot =
     }
 
 -- what follows the retry of the frame that is named, or exactly what is refused of it
-abbrev pub Retries : Farm → DependLists → FramePlace → Result Follow FarmFault → Type 0
-Retries f b p (Ok w) = (slot : ℕ) × (slot_named f p ≡ Some slot) × (w ≡ follow_retry f.slots b.graph.depends slot)
-Retries f b p (Err (Refused why)) = place_refusal f (place_of p) ≡ Some why
-Retries f b p (Err NoMemory) = Unit {0}
+abbrev pub Retries : FarmBooks → FramePlace → Result Follow FarmFault → Type 0
+Retries v p (Ok w) = (slot : ℕ) × (slot_named v.farm p ≡ Some slot) × (w ≡ follow_retry v.farm.slots v.graph.depends slot)
+Retries v p (Err (Refused why)) = place_refusal v.farm (place_of p) ≡ Some why
+Retries v p (Err NoMemory) = Unit {0}

@@ -30,7 +30,8 @@ pub(crate) fn blocked_own(
 
 // Marks the frames that wait unmet by the depends.
 fn mark_all(marks: &mut Vec<bool>, depends: &Depends, all: &[NewDepend])
-    ensures marks { (slot : ℕ) → slot < length marks.old.items → is_flagged marks.new.items slot ≡ (is_flagged marks.old.items slot || is_listed (all_unmet_by depends.now.graph.done all.now) slot) }
+    ensures marks { (slot : ℕ) → slot < length marks.old.items → is_flagged marks.new.items slot
+        ≡ (is_flagged marks.old.items slot || is_listed (all_unmet_by depends.now.graph.done all.now) slot) }
     ensures count { length marks.new.items ≡ length marks.old.items }
 {
     for new in all {
@@ -40,7 +41,8 @@ fn mark_all(marks: &mut Vec<bool>, depends: &Depends, all: &[NewDepend])
 
 // Marks the frames that wait in those groups that wouldn't be met at once.
 fn mark_unmet(marks: &mut Vec<bool>, depends: &Depends, groups: &[Group])
-    ensures marks { (slot : ℕ) → slot < length marks.old.items → is_flagged marks.new.items slot ≡ (is_flagged marks.old.items slot || is_listed (unmet_by depends.now.graph.done groups.now) slot) }
+    ensures marks { (slot : ℕ) → slot < length marks.old.items → is_flagged marks.new.items slot
+        ≡ (is_flagged marks.old.items slot || is_listed (unmet_by depends.now.graph.done groups.now) slot) }
     ensures count { length marks.new.items ≡ length marks.old.items }
 {
     for group in groups {

@@ -7,8 +7,8 @@ ghost use Rattle.farm_types.specs.Farm.{Farm};
 ghost use Rattle.farm_rows.specs.Changes.{MakesRows};
 ghost use Rattle.depend_graph.specs.declared.marks.Marks.{Marks};
 ghost use Rattle.depend_graph.specs.Graph.{HasMet, is_flagged, with_all_done};
-ghost use Rattle.depend_book.specs.Book.{added_row, joined};
-ghost use Rattle.farm_depends.specs.Fits.{IsWhole};
+ghost use Rattle.depend_book.specs.Book.{added_row};
+ghost use Rattle.farm_books.specs.Books.{IsWhole};
 ghost use Rattle.farm_depends.specs.Follow.{after_follow};
 ghost use Rattle.farm_depends.specs.FollowRows.{IsActed, all_coming_rows, all_satisfied_rows, coming_rows, delete_mark, dropped_rows, met_rows, once_marks, put_mark, satisfied_rows};
 
@@ -25,15 +25,15 @@ use std::alloc::{AllocError, Global};
 pub fn follow_rows(
     alloc: Global,
     books: &Books,
-    depends: &Depends,
     acted: &[RowChange],
     follow: &Follow,
 ) -> Result<Vec<RowChange>, AllocError>
-    requires whole { IsWhole books.now depends.now }
-    requires acted { (f : Farm) × IsActed books.now depends.now acted.now follow.now f }
-    ensures { IfOk result (λ rows. (f : Farm) → IsActed books.now depends.now acted.now follow.now f → MakesRows (joined f depends.now) (after_follow (joined f depends.now) follow.now) rows.items) }
+    requires whole { IsWhole books.now }
+    requires acted { (f : Farm) × IsActed books.now.farm acted.now follow.now f }
+    ensures { IfOk result (λ rows. (f : Farm) → IsActed books.now.farm acted.now follow.now f → MakesRows f (after_follow f follow.now) rows.items) }
 {
-    depends.kept();
+    books.kept();
+    let depends = books.depends();
     let mut rows = moved_rows(alloc, books, acted, follow)?;
     add_coming(&mut rows, alloc, depends, follow.depends.as_slice())?;
     add_dropped(&mut rows, alloc, depends, follow.dropped)?;
@@ -181,7 +181,8 @@ fn add_met(
 ) -> Result<(), AllocError>
     requires differ { IsDistinct nat_eq done.now }
     requires undone { All (λ slot. is_flagged depends.now.graph.done slot ≡ false) done.now }
-    ensures { OnOk result ((marks : Marks) × HasMet depends.now.graph.depends (with_all_done depends.now.graph done.now).depends marks × (rows.new.items ≡ rows.old.items ++ met_rows depends.now marks)) }
+    ensures { OnOk result ((marks : Marks) × HasMet depends.now.graph.depends (with_all_done depends.now.graph done.now).depends marks
+        × (rows.new.items ≡ rows.old.items ++ met_rows depends.now marks)) }
 {
     let marks = depends.would_meet(alloc, done)?;
     put_marks(rows, marks.met.as_slice())?;

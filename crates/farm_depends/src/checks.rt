@@ -18,7 +18,7 @@ use std::alloc::{AllocError, Global};
 /// Refuses groups in which a frame waits for itself.
 pub(crate) fn check_self(alloc: Global, books: &Books, groups: &[Group]) -> Result<(), FarmFault>
     requires { All IsGroup groups.now }
-    ensures { Refuses (self_refusal books.now groups.now) result }
+    ensures { Refuses (self_refusal books.now.farm groups.now) result }
 {
     let found = waits_for_itself(alloc, groups)?;
     let Some(slot) = found else {
@@ -30,7 +30,7 @@ pub(crate) fn check_self(alloc: Global, books: &Books, groups: &[Group]) -> Resu
 
 /// Refuses groups in which a frame that runs is to wait.
 pub(crate) fn check_started(alloc: Global, books: &Books, groups: &[Group]) -> Result<(), FarmFault>
-    ensures { Refuses (started_refusal books.now groups.now) result }
+    ensures { Refuses (started_refusal books.now.farm groups.now) result }
 {
     let Some(slot) = runs_already(books.jobs(), groups) else {
         return Ok(());
@@ -127,7 +127,7 @@ fn runs_at(jobs: &Jobs, slot: Slot) -> bool
 
 // The name of the frame in a slot.
 fn frame_name_at(alloc: Global, books: &Books, slot: Slot) -> Result<Text, AllocError>
-    ensures { IfOk result (λ name. name ≡ frame_name_at books.now slot) }
+    ensures { IfOk result (λ name. name ≡ frame_name_at books.now.farm slot) }
 {
     let Some(row) = books.slot(slot) else {
         return Text::from_str(alloc, "");

@@ -24,9 +24,9 @@ pub(crate) fn coming(
     counts: &Counts,
     spec: &DependSpec,
 ) -> Result<NewDepend, FarmFault>
-    requires kept { KeepsRows books.now }
+    requires kept { KeepsRows books.now.farm }
     requires within { counts.now.groups ≤ MOST_GROUPS }
-    ensures { Comes books.now counts.now spec.now result }
+    ensures { Comes books.now.farm counts.now spec.now result }
 {
     let waiter = find_end(alloc, books, &spec.waiter)?;
     let target = find_end(alloc, books, &spec.target)?;
@@ -42,11 +42,11 @@ fn between(
     waiter: FoundEnd,
     target: FoundEnd,
 ) -> Result<NewDepend, FarmFault>
-    requires kept { KeepsRows books.now }
+    requires kept { KeepsRows books.now.farm }
     requires within { counts.now.groups ≤ MOST_GROUPS }
-    requires waiter { IsEnd books.now spec.now.waiter waiter }
-    requires target { IsEnd books.now spec.now.target target }
-    ensures { Comes books.now counts.now spec.now result }
+    requires waiter { IsEnd books.now.farm spec.now.waiter waiter }
+    requires target { IsEnd books.now.farm spec.now.target target }
+    ensures { Comes books.now.farm counts.now spec.now result }
 {
     let groups = groups(alloc, spec, &waiter.shape, &target.shape)?;
     check_groups(alloc, books, counts, &groups)?;
@@ -68,7 +68,7 @@ fn check_groups(
 ) -> Result<(), FarmFault>
     requires within { counts.now.groups ≤ MOST_GROUPS }
     requires each { All IsGroup groups.now }
-    ensures { Refuses (groups_refusal_with books.now counts.now groups.now) result }
+    ensures { Refuses (groups_refusal_with books.now.farm counts.now groups.now) result }
 {
     check_self(alloc, books, groups.as_slice())?;
     check_started(alloc, books, groups.as_slice())?;

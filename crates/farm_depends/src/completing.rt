@@ -6,15 +6,13 @@ ghost use Rattle.farm_types.specs.declared.entry.Act.TheVariants as act;
 ghost use Rattle.farm_types.specs.declared.limits.TheConstants.{SLOT_LIMIT};
 ghost use Rattle.farm_types.specs.declared.refusal.Refusal.TheVariants.{Unknown};
 ghost use Rattle.farm_types.specs.Faults.{IsRefusal};
+ghost use Rattle.farm_books.specs.Books.{IsWhole};
 ghost use Rattle.farm_changes.specs.Change.{Makes, after_change};
-ghost use Rattle.depend_book.specs.Book.{joined};
 ghost use Rattle.farm_depends.specs.Completing.{IsCompleting, blocked_among, is_blocked_in, is_done_row, left_blocked, newly_done, unmarked_among};
-ghost use Rattle.farm_depends.specs.Fits.{IsWhole};
 ghost use Rattle.farm_depends.specs.Follow.{PreparesFollow};
 
 use crate::follow::Follow;
 use crate::marks::{is_marked, mark, no_marks};
-use depend_book::Depends;
 use farm_books::Books;
 use farm_changes::Change;
 use farm_types::{DependNo, Entry, FarmFault, FrameState, Items, Refusal, Slot, SlotRow, Text};
@@ -24,16 +22,16 @@ use std::alloc::{AllocError, Global};
 pub(crate) fn follow_completed(
     alloc: Global,
     books: &Books,
-    depends: &Depends,
     entry: &Entry,
     change: &Change,
 ) -> Result<Follow, FarmFault>
-    requires whole { IsWhole books.now depends.now }
-    requires made { Makes books.now entry.now change.now }
+    requires whole { IsWhole books.now }
+    requires made { Makes books.now.farm entry.now change.now }
     requires completing { IsCompleting entry.now.act }
-    ensures { PreparesFollow (joined books.now depends.now) (joined (after_change books.now change.now) depends.now) entry.now.act result }
+    ensures { PreparesFollow books.now.farm (after_change books.now.farm change.now) entry.now.act result }
 {
-    depends.kept();
+    books.kept();
+    let depends = books.depends();
     let done = newly_done(alloc, books, change.slot_rows())?;
     let opening = depends.would_open(alloc, done.as_slice())?;
     let opened = left_blocked(alloc, books, done.as_slice(), opening.as_slice())?;
@@ -54,13 +52,12 @@ pub(crate) fn follow_completed(
 pub(crate) fn follow_drop(
     alloc: Global,
     books: &Books,
-    depends: &Depends,
     depend: DependNo,
 ) -> Result<Follow, FarmFault>
-    requires whole { IsWhole books.now depends.now }
-    ensures { PreparesFollow (joined books.now depends.now) (joined books.now depends.now) (act.DropDepend depend) result }
+    requires whole { IsWhole books.now }
+    ensures { PreparesFollow books.now.farm books.now.farm (act.DropDepend depend) result }
 {
-    let Some(row) = depends.row(depend) else {
+    let Some(row) = books.depend(depend) else {
         return Err(unknown(alloc, depend));
     };
     if row.met_all {
@@ -68,8 +65,8 @@ pub(crate) fn follow_drop(
             why: Refusal::Satisfied,
         });
     }
-    depends.kept();
-    let opening = depends.would_open_without(alloc, depend)?;
+    books.kept();
+    let opening = books.depends().would_open_without(alloc, depend)?;
     let opened = blocked_among(alloc, books, opening.as_slice())?;
     let count = opened.len() as u32;
     Ok(Follow {
@@ -105,7 +102,7 @@ fn newly_done(
     books: &Books,
     rows: &[(u32, SlotRow)],
 ) -> Result<Items<Slot>, AllocError>
-    ensures { IfOk result (λ done. done ≡ newly_done books.now.slots rows.now) }
+    ensures { IfOk result (λ done. done ≡ newly_done books.now.farm.slots rows.now) }
 {
     let mut done = Items::new(alloc);
     for (slot, row) in rows {
@@ -118,7 +115,7 @@ fn newly_done(
 
 // The slots among these whose frames are blocked.
 fn blocked_among(alloc: Global, books: &Books, slots: &[Slot]) -> Result<Items<Slot>, AllocError>
-    ensures { IfOk result (λ blocked. blocked ≡ blocked_among books.now.slots slots.now) }
+    ensures { IfOk result (λ blocked. blocked ≡ blocked_among books.now.farm.slots slots.now) }
 {
     let mut blocked = Items::new(alloc);
     for slot in slots {
@@ -137,8 +134,8 @@ fn left_blocked(
     done: &[Slot],
     slots: &[Slot],
 ) -> Result<Items<Slot>, AllocError>
-    requires { length books.now.slots ≤ SLOT_LIMIT }
-    ensures { IfOk result (λ left. left ≡ left_blocked books.now.slots done.now slots.now) }
+    requires { length books.now.farm.slots ≤ SLOT_LIMIT }
+    ensures { IfOk result (λ left. left ≡ left_blocked books.now.farm.slots done.now slots.now) }
 {
     let blocked = blocked_among(alloc, books, slots)?;
     let eaten = blocked_among(alloc, books, done)?;
@@ -176,7 +173,7 @@ pub(crate) fn is_done(row: &SlotRow) -> bool
 
 /// Whether the frame in the slot is done.
 pub(crate) fn is_done_in(books: &Books, slot: Slot) -> bool
-    ensures { result ≡ is_done books.now.slots slot }
+    ensures { result ≡ is_done books.now.farm.slots slot }
 {
     match books.slot(slot) {
         None => false,
@@ -186,7 +183,7 @@ pub(crate) fn is_done_in(books: &Books, slot: Slot) -> bool
 
 // Whether the frame in the slot is blocked.
 fn is_blocked_in(books: &Books, slot: Slot) -> bool
-    ensures { result ≡ is_blocked_in books.now.slots slot }
+    ensures { result ≡ is_blocked_in books.now.farm.slots slot }
 {
     match books.slot(slot) {
         None => false,

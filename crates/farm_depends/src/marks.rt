@@ -18,7 +18,8 @@ pub(crate) fn no_marks(alloc: Global) -> Result<Vec<bool>, AllocError>
 
 /// Sets the marks of the slots. A slot past the farm's is left out.
 pub(crate) fn mark(marks: &mut Vec<bool>, slots: &[Slot])
-    ensures marks { (slot : ℕ) → slot < length marks.old.items → is_flagged marks.new.items slot ≡ (is_flagged marks.old.items slot || is_listed slots.now slot) }
+    ensures marks { (slot : ℕ) → slot < length marks.old.items → is_flagged marks.new.items slot
+        ≡ (is_flagged marks.old.items slot || is_listed slots.now slot) }
     ensures count { length marks.new.items ≡ length marks.old.items }
 {
     for slot in slots {

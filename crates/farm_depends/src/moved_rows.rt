@@ -7,7 +7,6 @@ ghost use Rattle.farm_types.specs.declared.slot_row.SlotRow.{SlotRow};
 ghost use Rattle.farm_rows.specs.declared.frame_row.FrameRow.{FrameRow};
 ghost use Rattle.farm_rows.specs.Changes.{MakesRows};
 ghost use Rattle.farm_rows.specs.Rows.{frame_row};
-ghost use Rattle.depend_book.specs.Book.{DependLists, joined};
 ghost use Rattle.farm_depends.specs.Follow.{IsMovable, put_blocked, put_opened, slots_after};
 ghost use Rattle.farm_depends.specs.FollowRows.{IsActed, IsPut, Notes, Stands, blocked_row, frame_or, frame_put, noted, opened_row, stored_in};
 
@@ -26,7 +25,8 @@ pub(crate) fn moved_rows(
     acted: &[RowChange],
     follow: &Follow,
 ) -> Result<Vec<RowChange>, AllocError>
-    ensures { IfOk result (λ rows. (b : DependLists) (f : Farm) → IsActed books.now b acted.now follow.now f → MakesRows (joined f b) (joined (record f { slots = slots_after f.slots follow.now }) b) rows.items) }
+    ensures { IfOk result (λ rows. (f : Farm) → IsActed books.now.farm acted.now follow.now f
+        → MakesRows f (record f { slots = slots_after f.slots follow.now }) rows.items) }
 {
     let mut rows = Vec::new(alloc);
     if moves_none(follow) {
@@ -105,7 +105,7 @@ fn note(frames: &mut IndexMap<u32, FrameRow>, row: &FrameRow) -> Result<(), Allo
 
 // What is noted of the slot, or else its own row in the books.
 fn frame_at(frames: &IndexMap<u32, FrameRow>, books: &Books, slot: Slot) -> Option<FrameRow>
-    ensures { result ≡ frame_or slot (slice_get books.now.slots slot) (get nat_eq frames.now slot) }
+    ensures { result ≡ frame_or slot (slice_get books.now.farm.slots slot) (get nat_eq frames.now slot) }
 {
     match noted_at(frames, slot.0) {
         Some(row) => Some(row),
@@ -122,7 +122,7 @@ fn noted_at(frames: &IndexMap<u32, FrameRow>, slot: u32) -> Option<FrameRow>
 
 // The slot's own row in the books.
 fn own_row(books: &Books, slot: Slot) -> Option<FrameRow>
-    ensures { result ≡ option_map (frame_row slot) (slice_get books.now.slots slot) }
+    ensures { result ≡ option_map (frame_row slot) (slice_get books.now.farm.slots slot) }
 {
     match books.slot(slot) {
         None => None,
@@ -137,7 +137,8 @@ fn open_rows(
     rows: &mut Vec<RowChange>,
     slots: &[Slot],
 ) -> Result<(), AllocError>
-    ensures { OnOk result ((g f : Farm) → Stands g books.now.slots f rows.old.items (get nat_eq frames.old) → All (IsMovable f.slots) slots.now → Stands g books.now.slots (record f { slots = put_opened slots.now f.slots }) rows.new.items (get nat_eq frames.new)) }
+    ensures { OnOk result ((g f : Farm) → Stands g books.now.farm.slots f rows.old.items (get nat_eq frames.old) → All (IsMovable f.slots) slots.now
+        → Stands g books.now.farm.slots (record f { slots = put_opened slots.now f.slots }) rows.new.items (get nat_eq frames.new)) }
 {
     for slot in slots {
         open_row(books, frames, rows, *slot)?;
@@ -153,7 +154,8 @@ fn block_rows(
     slots: &[Slot],
     raises: bool,
 ) -> Result<(), AllocError>
-    ensures { OnOk result ((g f : Farm) → Stands g books.now.slots f rows.old.items (get nat_eq frames.old) → All (IsMovable f.slots) slots.now → Stands g books.now.slots (record f { slots = put_blocked raises slots.now f.slots }) rows.new.items (get nat_eq frames.new)) }
+    ensures { OnOk result ((g f : Farm) → Stands g books.now.farm.slots f rows.old.items (get nat_eq frames.old) → All (IsMovable f.slots) slots.now
+        → Stands g books.now.farm.slots (record f { slots = put_blocked raises slots.now f.slots }) rows.new.items (get nat_eq frames.new)) }
 {
     for slot in slots {
         block_row(books, frames, rows, *slot, raises)?;
@@ -168,7 +170,8 @@ fn open_row(
     rows: &mut Vec<RowChange>,
     slot: Slot,
 ) -> Result<(), AllocError>
-    ensures { OnOk result ((r : FrameRow) → frame_or slot (slice_get books.now.slots slot) (get nat_eq frames.old slot) ≡ Some r → IsPut (opened_row r) rows.old.items rows.new.items (get nat_eq frames.old) (get nat_eq frames.new)) }
+    ensures { OnOk result ((r : FrameRow) → frame_or slot (slice_get books.now.farm.slots slot) (get nat_eq frames.old slot) ≡ Some r
+        → IsPut (opened_row r) rows.old.items rows.new.items (get nat_eq frames.old) (get nat_eq frames.new)) }
 {
     match frame_at(frames, books, slot) {
         None => Ok(()),
@@ -184,7 +187,8 @@ fn block_row(
     slot: Slot,
     raises: bool,
 ) -> Result<(), AllocError>
-    ensures { OnOk result ((r : FrameRow) → frame_or slot (slice_get books.now.slots slot) (get nat_eq frames.old slot) ≡ Some r → IsPut (blocked_row raises r) rows.old.items rows.new.items (get nat_eq frames.old) (get nat_eq frames.new)) }
+    ensures { OnOk result ((r : FrameRow) → frame_or slot (slice_get books.now.farm.slots slot) (get nat_eq frames.old slot) ≡ Some r
+        → IsPut (blocked_row raises r) rows.old.items rows.new.items (get nat_eq frames.old) (get nat_eq frames.new)) }
 {
     match frame_at(frames, books, slot) {
         None => Ok(()),

@@ -4,6 +4,7 @@ ghost use Rattle.std.specs.Prelude.{◌≡◌, None, All};
 ghost use Rattle.farm_types.specs.Farm.{changed_at};
 ghost use Rattle.farm_types.specs.Settle.{blocked_row, in_state};
 ghost use Rattle.farm_types.specs.declared.states.FrameState.TheVariants as frame_state;
+ghost use Rattle.farm_books.specs.Books.{with_farm};
 ghost use Rattle.farm_depends.specs.Follow.{IsMovable, change_of, put_blocked, put_opened};
 
 use farm_books::Books;
@@ -11,8 +12,8 @@ use farm_types::{Frame, FrameState, Slot, SlotRow, Version};
 
 /// The frames in the slots wait to be booked. None has an attempt.
 pub(crate) fn open_all(books: &mut Books, slots: &[Slot])
-    requires { All (IsMovable books.old.slots) slots.now }
-    ensures { books.new ≡ record books.old { slots = put_opened slots.now books.old.slots } }
+    requires { All (IsMovable books.old.farm.slots) slots.now }
+    ensures { books.new ≡ with_farm books.old (record books.old.farm { slots = put_opened slots.now books.old.farm.slots }) }
 {
     for slot in slots {
         open(books, *slot);
@@ -21,8 +22,8 @@ pub(crate) fn open_all(books: &mut Books, slots: &[Slot])
 
 /// The frames in the slots are blocked, and where `raises` says so they leave their version. None has an attempt.
 pub(crate) fn block_all(books: &mut Books, slots: &[Slot], raises: bool)
-    requires { All (IsMovable books.old.slots) slots.now }
-    ensures { books.new ≡ record books.old { slots = put_blocked raises slots.now books.old.slots } }
+    requires { All (IsMovable books.old.farm.slots) slots.now }
+    ensures { books.new ≡ with_farm books.old (record books.old.farm { slots = put_blocked raises slots.now books.old.farm.slots }) }
 {
     for slot in slots {
         block(books, *slot, raises);
@@ -31,8 +32,8 @@ pub(crate) fn block_all(books: &mut Books, slots: &[Slot], raises: bool)
 
 // The frame in the slot waits to be booked.
 fn open(books: &mut Books, slot: Slot)
-    requires { IsMovable books.old.slots slot }
-    ensures { books.new ≡ record books.old { slots = changed_at books.old.slots slot (in_state frame_state.Waiting) } }
+    requires { IsMovable books.old.farm.slots slot }
+    ensures { books.new ≡ with_farm books.old (record books.old.farm { slots = changed_at books.old.farm.slots slot (in_state frame_state.Waiting) }) }
 {
     let Some(row) = books.slot(slot) else {
         unreachable!()
@@ -42,8 +43,8 @@ fn open(books: &mut Books, slot: Slot)
 
 // The frame in the slot is blocked, at the same version or the next.
 fn block(books: &mut Books, slot: Slot, raises: bool)
-    requires { IsMovable books.old.slots slot }
-    ensures { books.new ≡ record books.old { slots = changed_at books.old.slots slot (blocked_row (change_of raises)) } }
+    requires { IsMovable books.old.farm.slots slot }
+    ensures { books.new ≡ with_farm books.old (record books.old.farm { slots = changed_at books.old.farm.slots slot (blocked_row (change_of raises)) }) }
 {
     let Some(row) = books.slot(slot) else {
         unreachable!()

@@ -20,8 +20,8 @@ pub(crate) struct OwnJob {
 
 /// The job as it will be placed.
 pub(crate) fn own_job(alloc: Global, books: &Books, spec: &JobSpec) -> Result<OwnJob, AllocError>
-    requires { CanPlace books.now spec.now }
-    ensures { IfOk result (λ own. IsOwn books.now spec.now own) }
+    requires { CanPlace books.now.farm spec.now }
+    ensures { IfOk result (λ own. IsOwn books.now.farm spec.now own) }
 {
     let number = books.jobs().next_number();
     let places = books.jobs().places_for(alloc, &spec.layers)?;

@@ -26,10 +26,10 @@ pub(crate) fn all_coming(
     own: &OwnJob,
     counts: Counts,
 ) -> Result<Items<NewDepend>, FarmFault>
-    requires can { CanPlace books.now job.now }
-    requires own { IsOwn books.now job.now own.now }
+    requires can { CanPlace books.now.farm job.now }
+    requires own { IsOwn books.now.farm job.now own.now }
     requires within { counts.groups ≤ MOST_GROUPS }
-    ensures { ComeAll (placed books.now job.now) counts job.now.depends result }
+    ensures { ComeAll (placed books.now.farm job.now) counts job.now.depends result }
 {
     let mut counts = counts;
     let mut all = Items::new(alloc);
@@ -50,11 +50,11 @@ fn own_coming(
     counts: &Counts,
     spec: &DependSpec,
 ) -> Result<NewDepend, FarmFault>
-    requires can { CanPlace books.now job.now }
-    requires own { IsOwn books.now job.now own.now }
+    requires can { CanPlace books.now.farm job.now }
+    requires own { IsOwn books.now.farm job.now own.now }
     requires waiter { spec.now.waiter.job ≡ job.now.name }
     requires within { counts.now.groups ≤ MOST_GROUPS }
-    ensures { Comes (placed books.now job.now) counts.now spec.now result }
+    ensures { Comes (placed books.now.farm job.now) counts.now spec.now result }
 {
     let waiter = own_end(alloc, own, &spec.waiter)?;
     if spec.target.job.is(job.name.as_str()) {

@@ -6,10 +6,9 @@ ghost use Rattle.farm_types.specs.Formed.{IsFormedAct};
 ghost use Rattle.farm_types.specs.Farm.{show_named};
 ghost use Rattle.farm_types.specs.Step.{HasCondition, act_refusal, after_submit};
 ghost use Rattle.farm_types.specs.declared.entry.Act.TheVariants as act;
+ghost use Rattle.farm_books.specs.Books.{IsWhole};
 ghost use Rattle.farm_changes.specs.Change.{Makes, after_change};
-ghost use Rattle.depend_book.specs.Book.{joined};
 ghost use Rattle.farm_depends.specs.Coming.{follow_new, unmet_by};
-ghost use Rattle.farm_depends.specs.Fits.{IsWhole};
 ghost use Rattle.farm_depends.specs.Follow.{PreparesFollow};
 
 use crate::blocked::{unmet_waiters, waiting_among};
@@ -19,7 +18,7 @@ use crate::counts::counts_of;
 use crate::follow::{Follow, follow_nothing};
 use crate::retrying::follow_retried;
 use crate::submitted::follow_submit;
-use depend_book::{Depends, NewDepend};
+use depend_book::NewDepend;
 use farm_books::Books;
 use farm_changes::Change;
 use farm_types::{Act, DependSpec, Entry, FarmFault, Items, JobSpec, Slot};
@@ -30,58 +29,47 @@ use std::alloc::{AllocError, Global};
 pub fn prepare_follow(
     alloc: Global,
     books: &Books,
-    depends: &Depends,
     entry: &Entry,
     change: &Change,
 ) -> Result<Follow, FarmFault>
-    requires whole { IsWhole books.now depends.now }
-    requires condition { HasCondition (joined books.now depends.now) entry.now.act }
+    requires whole { IsWhole books.now }
+    requires condition { HasCondition books.now.farm entry.now.act }
     requires formed { IsFormedAct entry.now.act }
-    requires made { Makes books.now entry.now change.now }
-    ensures { PreparesFollow (joined books.now depends.now) (joined (after_change books.now change.now) depends.now) entry.now.act result }
+    requires made { Makes books.now.farm entry.now change.now }
+    ensures { PreparesFollow books.now.farm (after_change books.now.farm change.now) entry.now.act result }
 {
-    depends.kept();
+    books.kept();
     match &entry.act {
-        Act::Heard(_) => follow_completed(alloc, books, depends, entry, change),
-        Act::KillJob { .. } => follow_completed(alloc, books, depends, entry, change),
-        Act::EatFrame(_) => follow_completed(alloc, books, depends, entry, change),
-        Act::RetryFrame(place) => follow_retried(alloc, books, depends, place),
-        Act::Submit(spec) => follow_submit(alloc, books, depends, spec),
-        Act::AddDepend(spec) => follow_depend(alloc, books, depends, spec),
-        Act::DropDepend { depend } => follow_drop(alloc, books, depends, *depend),
+        Act::Heard(_) => follow_completed(alloc, books, entry, change),
+        Act::KillJob { .. } => follow_completed(alloc, books, entry, change),
+        Act::EatFrame(_) => follow_completed(alloc, books, entry, change),
+        Act::RetryFrame(place) => follow_retried(alloc, books, place),
+        Act::Submit(spec) => follow_submit(alloc, books, spec),
+        Act::AddDepend(spec) => follow_depend(alloc, books, spec),
+        Act::DropDepend { depend } => follow_drop(alloc, books, *depend),
         _ => Ok(follow_nothing(alloc)),
     }
 }
 
 /// What follows a depend that comes.
-pub fn follow_depend(
-    alloc: Global,
-    books: &Books,
-    depends: &Depends,
-    spec: &DependSpec,
-) -> Result<Follow, FarmFault>
-    requires whole { IsWhole books.now depends.now }
+pub fn follow_depend(alloc: Global, books: &Books, spec: &DependSpec) -> Result<Follow, FarmFault>
+    requires whole { IsWhole books.now }
     requires formed { IsFormedAct (act.AddDepend spec.now) }
-    ensures { PreparesFollow (joined books.now depends.now) (joined books.now depends.now) (act.AddDepend spec.now) result }
+    ensures { PreparesFollow books.now.farm books.now.farm (act.AddDepend spec.now) result }
 {
-    depends.kept();
-    let counts = counts_of(depends);
+    books.kept();
+    let counts = counts_of(books.depends());
     let new = coming(alloc, books, &counts, spec)?;
-    let follow = added(alloc, books, depends, new)?;
+    let follow = added(alloc, books, new)?;
     Ok(follow)
 }
 
 // What follows the depend.
-fn added(
-    alloc: Global,
-    books: &Books,
-    depends: &Depends,
-    new: NewDepend,
-) -> Result<Follow, AllocError>
-    requires { length (unmet_by depends.now.graph.done new.groups) ≤ MOST_FRAMES }
-    ensures { IfOk result (λ follow. follow ≡ follow_new books.now.slots depends.now.graph.done new) }
+fn added(alloc: Global, books: &Books, new: NewDepend) -> Result<Follow, AllocError>
+    requires { length (unmet_by books.now.graph.done new.groups) ≤ MOST_FRAMES }
+    ensures { IfOk result (λ follow. follow ≡ follow_new books.now.farm.slots books.now.graph.done new) }
 {
-    let unmet = unmet_waiters(alloc, depends, new.groups.as_slice())?;
+    let unmet = unmet_waiters(alloc, books.depends(), new.groups.as_slice())?;
     let blocked = waiting_among(alloc, books.jobs(), unmet.as_slice())?;
     let count = unmet.len() as u32;
     follow_of(alloc, new, blocked, count)
@@ -94,7 +82,8 @@ fn follow_of(
     blocked: Items<Slot>,
     count: u32,
 ) -> Result<Follow, AllocError>
-    ensures { IfOk result (λ follow. follow ≡ record { depends = new ∷ []; spares = []; dropped = None; done = []; reopened = None; opened = []; blocked = blocked; raises = true; count = count }) }
+    ensures { IfOk result (λ follow. follow
+        ≡ record { depends = new ∷ []; spares = []; dropped = None; done = []; reopened = None; opened = []; blocked = blocked; raises = true; count = count }) }
 {
     let mut depends = Items::new(alloc);
     depends.push(new)?;

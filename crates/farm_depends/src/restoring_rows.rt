@@ -4,11 +4,9 @@ ghost use Rattle.std.specs.Prelude.{◌≡◌, ◌≤◌, drop, IfOk, OnOk};
 ghost use Rattle.farm_types.specs.Depends.{groups_of};
 ghost use Rattle.farm_types.specs.Groups.{part_at, part_of};
 ghost use Rattle.farm_types.specs.Kept.{KeepsRows};
-ghost use Rattle.depend_book.specs.Restored.{CanRestore, skipped, with_restored};
-ghost use Rattle.farm_depends.specs.Restored.{groups_for, marks_along, rest_along};
+ghost use Rattle.farm_depends.specs.Restored.{CanRestoreRow, groups_for, rest_along, row_restored};
 
 use crate::restoring_marks::marks_along;
-use depend_book::Depends;
 use depend_kinds::groups;
 use farm_books::Books;
 use farm_places::part_shape;
@@ -18,31 +16,30 @@ use std::alloc::{AllocError, Global};
 /// Puts a depend back, where the marks from a place on are its own and those of later ones. The place moves on to those of the later ones.
 pub(crate) fn restore_row(
     alloc: Global,
-    books: &Books,
-    depends: &mut Depends,
+    books: &mut Books,
     row: &DependRow,
     met: &[MetRow],
     at: &mut usize,
 ) -> Result<(), AllocError>
-    requires kept { KeepsRows books.now }
-    requires above { depends.old.next ≤ row.now.depend }
-    requires can { CanRestore (skipped depends.old row.now.depend) row.now (groups_for books.now row.now) (marks_along row.now.depend (groups_for books.now row.now) (drop at.old met.now)) }
-    ensures book { OnOk result (depends.new ≡ with_restored (skipped depends.old row.now.depend) row.now (groups_for books.now row.now) (marks_along row.now.depend (groups_for books.now row.now) (drop at.old met.now))) }
-    ensures rest { OnOk result (drop at.new met.now ≡ rest_along row.now.depend (groups_for books.now row.now) (drop at.old met.now)) }
+    requires kept { KeepsRows books.old.farm }
+    requires above { books.old.farm.next_depend ≤ row.now.depend }
+    requires can { CanRestoreRow books.old row.now (drop at.old met.now) }
+    ensures books { OnOk result (books.new ≡ row_restored books.old row.now (drop at.old met.now)) }
+    ensures rest { OnOk result (drop at.new met.now ≡ rest_along row.now.depend (groups_for books.old.farm row.now) (drop at.old met.now)) }
 {
     let groups = groups_for(alloc, books, row)?;
     let marks = marks_along(alloc, met, at, row.depend, groups.as_slice())?;
-    let spare = depends.reserve(alloc, &groups)?;
+    let spare = books.reserve_depend(alloc, &groups)?;
     let copy = row.copy(alloc)?;
-    depends.skip_to(u64::from(row.depend.0));
-    depends.restore(spare, copy, groups, marks.as_slice());
+    books.skip_depends(u64::from(row.depend.0));
+    books.restore_depend(spare, copy, groups, marks.as_slice());
     Ok(())
 }
 
 // The groups of the depend, and none of one that is satisfied.
 fn groups_for(alloc: Global, books: &Books, row: &DependRow) -> Result<Items<Group>, AllocError>
-    requires { KeepsRows books.now }
-    ensures { IfOk result (λ groups. groups ≡ groups_for books.now row.now) }
+    requires { KeepsRows books.now.farm }
+    ensures { IfOk result (λ groups. groups ≡ groups_for books.now.farm row.now) }
 {
     if row.met_all {
         return Ok(Items::new(alloc));
@@ -52,8 +49,8 @@ fn groups_for(alloc: Global, books: &Books, row: &DependRow) -> Result<Items<Gro
 
 // The groups of the depend.
 fn groups_of(alloc: Global, books: &Books, row: &DependRow) -> Result<Items<Group>, AllocError>
-    requires { KeepsRows books.now }
-    ensures { IfOk result (λ groups. groups ≡ groups_of books.now row.now) }
+    requires { KeepsRows books.now.farm }
+    ensures { IfOk result (λ groups. groups ≡ groups_of books.now.farm row.now) }
 {
     let waiter = part_shape(alloc, books.jobs(), row.waiter.job, &row.waiter.layer)?;
     let target = part_shape(alloc, books.jobs(), row.target.job, &row.target.layer)?;

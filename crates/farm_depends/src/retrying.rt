@@ -6,7 +6,6 @@ ghost use Rattle.farm_depends.specs.Retrying.{Retries, has_frame, reopened_at, s
 
 use crate::completing::is_done_in;
 use crate::follow::Follow;
-use depend_book::Depends;
 use farm_books::Books;
 use farm_places::find_frame;
 use farm_types::{FarmFault, FramePlace, Items, Slot};
@@ -16,14 +15,13 @@ use std::alloc::{AllocError, Global};
 pub(crate) fn follow_retried(
     alloc: Global,
     books: &Books,
-    depends: &Depends,
     place: &FramePlace,
 ) -> Result<Follow, FarmFault>
-    requires { KeepsRows books.now }
-    ensures { Retries books.now depends.now place.now result }
+    requires { KeepsRows books.now.farm }
+    ensures { Retries books.now place.now result }
 {
     let slot = find_frame(alloc, books, place)?;
-    let blocked = shut_at(alloc, books, depends, slot)?;
+    let blocked = shut_at(alloc, books, slot)?;
     Ok(Follow {
         depends: Items::new(alloc),
         spares: Items::new(alloc),
@@ -39,7 +37,7 @@ pub(crate) fn follow_retried(
 
 // The slot, where its frame is done.
 fn reopened_at(books: &Books, slot: Slot) -> Option<Slot>
-    ensures { result ≡ reopened_at books.now.slots slot }
+    ensures { result ≡ reopened_at books.now.farm.slots slot }
 {
     if is_done_in(books, slot) {
         return Some(slot);
@@ -48,16 +46,11 @@ fn reopened_at(books: &Books, slot: Slot) -> Option<Slot>
 }
 
 // The slot alone, where it has a frame that waits in groups that aren't met.
-fn shut_at(
-    alloc: Global,
-    books: &Books,
-    depends: &Depends,
-    slot: Slot,
-) -> Result<Items<Slot>, AllocError>
-    ensures { IfOk result (λ shut. shut ≡ shut_at books.now.slots depends.now.graph.depends slot) }
+fn shut_at(alloc: Global, books: &Books, slot: Slot) -> Result<Items<Slot>, AllocError>
+    ensures { IfOk result (λ shut. shut ≡ shut_at books.now.farm.slots books.now.graph.depends slot) }
 {
     let mut shut = Items::new(alloc);
-    if has_frame(books, slot) && depends.unmet(slot) > 0 {
+    if has_frame(books, slot) && books.depends().unmet(slot) > 0 {
         shut.push(slot)?;
     }
     Ok(shut)
@@ -65,7 +58,7 @@ fn shut_at(
 
 // Whether the slot has a frame.
 fn has_frame(books: &Books, slot: Slot) -> bool
-    ensures { result ≡ has_frame books.now.slots slot }
+    ensures { result ≡ has_frame books.now.farm.slots slot }
 {
     match books.slot(slot) {
         None => false,

@@ -7,9 +7,8 @@ ghost use Rattle.farm_types.specs.Formed.{IsFormedAct};
 ghost use Rattle.farm_types.specs.Groups.{all_slots};
 ghost use Rattle.farm_types.specs.Step.{act_refusal, after_submit};
 ghost use Rattle.farm_types.specs.declared.entry.Act.TheVariants as act;
-ghost use Rattle.depend_book.specs.Book.{joined};
 ghost use Rattle.depend_graph.specs.Graph.{is_below};
-ghost use Rattle.farm_depends.specs.Fits.{IsWhole};
+ghost use Rattle.farm_books.specs.Books.{IsWhole};
 ghost use Rattle.farm_depends.specs.Follow.{PreparesFollow};
 ghost use Rattle.farm_depends.specs.Placed.{follow_own};
 
@@ -24,25 +23,20 @@ use farm_types::{FarmFault, Items, JobSpec};
 use std::alloc::{AllocError, Global};
 
 /// What follows a submitted job, for which the farm has a place: its depends, in turn, and those of its frames that they block. Nothing changes.
-pub fn follow_submit(
-    alloc: Global,
-    books: &Books,
-    depends: &Depends,
-    spec: &JobSpec,
-) -> Result<Follow, FarmFault>
-    requires whole { IsWhole books.now depends.now }
+pub fn follow_submit(alloc: Global, books: &Books, spec: &JobSpec) -> Result<Follow, FarmFault>
+    requires whole { IsWhole books.now }
     requires formed { IsFormedAct (act.Submit spec.now) }
-    requires accepted { act_refusal books.now (act.Submit spec.now) ≡ None }
-    ensures { PreparesFollow (joined books.now depends.now) (joined (after_submit books.now spec.now (show_named books.now spec.now.show)) depends.now) (act.Submit spec.now) result }
+    requires accepted { act_refusal books.now.farm (act.Submit spec.now) ≡ None }
+    ensures { PreparesFollow books.now.farm (after_submit books.now.farm spec.now (show_named books.now.farm spec.now.show)) (act.Submit spec.now) result }
 {
-    depends.kept();
+    books.kept();
     if spec.depends.is_empty() {
         return Ok(follow_nothing(alloc));
     }
     let own = own_job(alloc, books, spec)?;
-    let counts = counts_of(depends);
+    let counts = counts_of(books.depends());
     let all = all_coming(alloc, books, spec, &own, counts)?;
-    let follow = follow_own(alloc, depends, &own, all)?;
+    let follow = follow_own(alloc, books.depends(), &own, all)?;
     Ok(follow)
 }
 

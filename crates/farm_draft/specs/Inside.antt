@@ -16,4 +16,4 @@ over_farm f moment hosts slots =
     record { base = f; moment = moment; farm = record (at_moment f moment) { hosts = laid with_life hosts f.hosts; slots = laid whole slots f.slots } }
 
 abbrev pub drafted_of : Inside → Drafted
-drafted_of a = over_farm a.books.now a.moment (get nat_eq a.hosts) (get nat_eq a.slots)
+drafted_of a = over_farm a.books.now.farm a.moment (get nat_eq a.hosts) (get nat_eq a.slots)

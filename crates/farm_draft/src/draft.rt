@@ -37,7 +37,7 @@ impl<'a> Model for Draft<'a> {
 impl<'a> Draft<'a> {
     /// A draft in which nothing but the moment has changed.
     pub fn new(alloc: Global, books: &'a Books, moment: u64) -> Draft<'a>
-        ensures { result ≡ record { base = books.now; moment = moment; farm = at_moment books.now moment } }
+        ensures { result ≡ record { base = books.now.farm; moment = moment; farm = at_moment books.now.farm moment } }
     {
         Draft {
             books,

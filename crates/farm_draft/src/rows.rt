@@ -59,8 +59,8 @@ fn changed_lives(
     books: &Books,
     over: IndexMap<u32, HostLife>,
 ) -> Result<Vec<(u32, HostLife)>, AllocError>
-    ensures all { IfOk result (λ entries. put_lives books.now.hosts entries.items ≡ laid with_life (get nat_eq over) books.now.hosts) }
-    ensures differ { IfOk result (λ entries. All (IsOtherLife books.now.hosts) entries.items) }
+    ensures all { IfOk result (λ entries. put_lives books.now.farm.hosts entries.items ≡ laid with_life (get nat_eq over) books.now.farm.hosts) }
+    ensures differ { IfOk result (λ entries. All (IsOtherLife books.now.farm.hosts) entries.items) }
 {
     let mut entries = Vec::new(alloc);
     for (host, life) in over {
@@ -78,8 +78,8 @@ fn changed_slots(
     books: &Books,
     over: IndexMap<u32, SlotRow>,
 ) -> Result<Vec<(u32, SlotRow)>, AllocError>
-    ensures all { IfOk result (λ entries. put_slots books.now.slots entries.items ≡ laid whole (get nat_eq over) books.now.slots) }
-    ensures differ { IfOk result (λ entries. All (IsChanged books.now.slots) entries.items) }
+    ensures all { IfOk result (λ entries. put_slots books.now.farm.slots entries.items ≡ laid whole (get nat_eq over) books.now.farm.slots) }
+    ensures differ { IfOk result (λ entries. All (IsChanged books.now.farm.slots) entries.items) }
     ensures over { IfOk result (λ entries. All (λ e. get nat_eq over e.0 ≡ Some e.1) entries.items) }
     ensures numbers { IfOk result (λ entries. IsDistinct nat_eq (map slot_of entries.items)) }
 {
@@ -95,7 +95,7 @@ fn changed_slots(
 
 // Whether the slot isn't there, or holds that row.
 fn is_same_row(books: &Books, slot: u32, row: &SlotRow) -> bool
-    ensures { IsTrue result ↔ IsSameRow (slice_get books.now.slots slot) row.now }
+    ensures { IsTrue result ↔ IsSameRow (slice_get books.now.farm.slots slot) row.now }
 {
     match books.slot(Slot(slot)) {
         None => true,
@@ -105,7 +105,7 @@ fn is_same_row(books: &Books, slot: u32, row: &SlotRow) -> bool
 
 // Whether the host isn't there, or has that life.
 fn is_same_life(books: &Books, host: u32, life: &HostLife) -> bool
-    ensures { IsTrue result ↔ HasSameLife (slice_get books.now.hosts host) life.now }
+    ensures { IsTrue result ↔ HasSameLife (slice_get books.now.farm.hosts host) life.now }
 {
     if host as usize >= books.count_hosts() {
         return true;

@@ -10,7 +10,7 @@ use retry_policy::verdict;
 
 /// The slot without its attempt, its frame judged by the exit.
 pub(crate) fn ended_row(books: &Books, exit: Exit, row: &SlotRow) -> SlotRow
-    ensures { result ≡ ended_row books.now exit row.now }
+    ensures { result ≡ ended_row books.now.farm exit row.now }
 {
     let frame = match &row.frame {
         None => None,
@@ -25,7 +25,7 @@ pub(crate) fn ended_row(books: &Books, exit: Exit, row: &SlotRow) -> SlotRow
 
 // The verdict by the job's greatest number of retries and whether it eats its failures.
 fn verdict_for(books: &Books, exit: Exit, frame: &Frame) -> Verdict
-    ensures { result ≡ verdict_for exit frame.now (job_at books.now frame.now.job) }
+    ensures { result ≡ verdict_for exit frame.now (job_at books.now.farm frame.now.job) }
 {
     match books.job(frame.job) {
         None => verdict(exit, frame.retries, 0, false),

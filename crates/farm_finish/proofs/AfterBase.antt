@@ -22,7 +22,7 @@ use Rattle.farm_rows.specs.Changes.{is_mark}
 use Rattle.depend_graph.specs.Graph.{Watch, Watched, groups_at}
 use Rattle.depend_book.specs.Book.{waits_in_one, watch_number}
 use Rattle.depend_law.proofs.Among.{each_weaker}
-use Rattle.farm_depends.specs.Fits.{group_in}
+use Rattle.depend_book.specs.Fits.{group_in}
 use Rattle.farm_depends.specs.Follow.{IsMovable, change_of, is_listed, is_moved, put_blocked, put_opened, slots_after}
 use Rattle.farm_depends.specs.declared.follow.Follow.{Follow}
 use Rattle.farm_depends.proofs.FollowSlots.{follow_done}

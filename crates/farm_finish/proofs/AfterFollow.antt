@@ -28,7 +28,7 @@ use Rattle.farm_changes.specs.declared.change.Change.{Change}
 use Rattle.farm_changes.specs.declared.change.More.{More}
 use Rattle.farm_changes.specs.declared.change.More.TheVariants as more
 use Rattle.farm_depends.specs.Completing.{IsCompleting}
-use Rattle.farm_depends.specs.Fits.{IsWhole}
+use Rattle.depend_book.specs.Fits.{IsBeside}
 use Rattle.farm_depends.specs.Follow.{Follows, NoneCome, after_follow, with_all, without}
 use Rattle.farm_depends.specs.declared.follow.Follow.{Follow}
 use Rattle.farm_finish.specs.AfterAct.{IsAfter}
@@ -95,7 +95,7 @@ joined_groups : (f : Farm) (b : DependLists) (d : DependRow) â†’ groups_of f d â
 unfolding groups_of
 joined_groups f b d = refl
 
-module _ (f : Farm) (b : DependLists) (e : Entry) (change : Change) (w : Follow) (whole : IsWhole f b) (made : Makes f e change)
+module _ (f : Farm) (b : DependLists) (e : Entry) (change : Change) (w : Follow) (whole : IsBeside f b) (made : Makes f e change)
     (follows : Follows (joined f b) (joined (after_change f change) b) e.act w) (c : IsCompleting e.act) (book : IsBook b) (none : NoneCome w) where
   abbrev acted_slots : List SlotRow
   acted_slots = put_slots f.slots change.rows.slots.items

@@ -27,13 +27,13 @@ use Rattle.depend_graph.proofs.Counts.{count_by-cons, one_if}
 use Rattle.farm_changes.specs.Change.{Makes, after_change}
 use Rattle.farm_changes.specs.declared.change.Change.{Change}
 use Rattle.farm_depends.specs.Completing.{IsCompleting}
-use Rattle.farm_depends.specs.Fits.{IsWhole}
+use Rattle.depend_book.specs.Fits.{IsBeside}
 use Rattle.farm_depends.specs.Follow.{Follows, after_follow, is_listed, is_one}
 use Rattle.farm_depends.specs.declared.follow.Follow.{Follow}
 use Rattle.farm_depends.proofs.Completions.{CompletesFrames, acted_completes}
 use Rattle.farm_depends.proofs.FollowSlots.{follow_done, follow_stand}
 use Rattle.farm_depends.proofs.Joined.{joined_acted}
-use Rattle.farm_depends.proofs.Zips.{zip_length}
+use Rattle.depend_book.proofs.Zips.{zip_length}
 use Rattle.farm_finish.specs.Closing.{HasItsJob, finished_by, job_in, job_of, left_in}
 use Rattle.farm_finish.proofs.FinishingLaw.{finishing_is}
 use Rattle.farm_finish.proofs.Stands.{Stands, acted_stands, followed_jobs, frames_of_same}
@@ -93,7 +93,7 @@ has_its f rows slot x there =
 
 -- ---- the entry
 
-module _ (f : Farm) (b : DependLists) (e : Entry) (change : Change) (w : Follow) (whole : IsWhole f b) (made : Makes f e change)
+module _ (f : Farm) (b : DependLists) (e : Entry) (change : Change) (w : Follow) (whole : IsBeside f b) (made : Makes f e change)
     (follows : Follows (joined f b) (joined (after_change f change) b) e.act w) (c : IsCompleting e.act) where
   abbrev pub old : Farm
   old = joined f b

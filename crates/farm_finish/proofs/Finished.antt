@@ -7,8 +7,10 @@ use Rattle.farm_types.specs.Step.{finish_each, finish_one}
 use Rattle.depend_book.specs.Book.{DependLists, IsBook, joined}
 use Rattle.depend_book.proofs.Forgotten.{book_without}
 use Rattle.depend_book.proofs.MarksLeft.{marks_left}
-use Rattle.farm_finish.specs.Finishing.{books_finished, depends_finished, depends_without, finished_books, undone}
-use Rattle.farm_finish.proofs.ClearedFlags.{count_same}
+use Rattle.farm_books.specs.Books.{FarmBooks}
+use Rattle.farm_finish.specs.Finishing.{all_finished, books_finished, depends_finished, depends_without, finished_books, finished_in}
+use Rattle.farm_books.specs.Cleared.{undone}
+use Rattle.farm_books.proofs.ClearedFlags.{count_same}
 
 pub undone_book : (job : ℕ) (slots : List SlotRow) (b : DependLists) → IsBook b → IsBook (undone job slots b)
 undone_book job slots b book =
@@ -34,12 +36,13 @@ joined_all [] f b book = refl
 joined_all (job ∷ jobs) f b book =
     joined_all jobs (finished_books job f) (depends_without job f.slots b) (book_after job f.slots b book) ∙ ap (finish_each jobs) (joined_one f b job book)
 
--- the books have no depends still
-pub finished_alone : (jobs : List ℕ) (f : Farm) → (books_finished jobs f).depends ≡ f.depends
-finished_alone [] f = refl
-finished_alone (job ∷ jobs) f = finished_alone jobs (finished_books job f)
+-- the hosts are the same
+pub finished_hosts : (jobs : List ℕ) (v : FarmBooks) → (all_finished jobs v).farm.hosts ≡ v.farm.hosts
+finished_hosts [] v = refl
+finished_hosts (job ∷ jobs) v = finished_hosts jobs (finished_in job v)
 
--- and the hosts are the same
-pub finished_hosts : (jobs : List ℕ) (f : Farm) → (books_finished jobs f).hosts ≡ f.hosts
-finished_hosts [] f = refl
-finished_hosts (job ∷ jobs) f = finished_hosts jobs (finished_books job f)
+-- the books of a farm and the book of its depends, with the jobs finished in both
+pub all_beside : (jobs : List ℕ) (f : Farm) (b : DependLists)
+    → all_finished jobs (record { farm = joined f b; graph = b.graph }) ≡ record { farm = joined (books_finished jobs f) (depends_finished jobs f b); graph = (depends_finished jobs f b).graph }
+all_beside [] f b = refl
+all_beside (job ∷ jobs) f b = all_beside jobs (finished_books job f) (depends_without job f.slots b)

@@ -18,11 +18,12 @@ use Rattle.depend_law.proofs.FinishesAll.{later_ends}
 use Rattle.depend_graph.specs.Graph.{is_flagged}
 use Rattle.depend_book.specs.Book.{DependLists, IsBook, is_kept_by, joined, waits_in_one}
 use Rattle.depend_book.proofs.Forgotten.{one_waits}
-use Rattle.farm_depends.specs.Fits.{Fits}
-use Rattle.farm_depends.proofs.Pairs.{IsPair, groups_joined, pairs}
-use Rattle.farm_depends.proofs.Zips.{zip_at}
-use Rattle.farm_finish.specs.Finishing.{books_finished, depends_finished, depends_without, finished_books, undone_flags}
-use Rattle.farm_finish.proofs.ClearedFlags.{flag_of}
+use Rattle.depend_book.specs.Fits.{Fits}
+use Rattle.depend_book.proofs.Pairs.{IsPair, groups_joined, pairs}
+use Rattle.depend_book.proofs.Zips.{zip_at}
+use Rattle.farm_finish.specs.Finishing.{books_finished, depends_finished, depends_without, finished_books}
+use Rattle.farm_books.specs.Cleared.{undone_flags}
+use Rattle.farm_books.proofs.ClearedFlags.{flag_of}
 use Rattle.farm_finish.proofs.Finished.{book_after, joined_one}
 
 -- ---- two lists of which alike items stay

@@ -6,7 +6,7 @@ use Rattle.farm_types.specs.declared.slot_row.SlotRow.{SlotRow}
 use Rattle.farm_types.specs.Farm.{for_some}
 use Rattle.depend_graph.proofs.Counts.{count_by-cons, one_if}
 use Rattle.farm_depends.specs.Follow.{is_listed}
-use Rattle.farm_depends.proofs.Reopened.{and_one}
+use Rattle.depend_book.proofs.OneCleared.{and_one}
 
 -- how many slots pass, each with its place
 abbrev pub total : (ℕ → SlotRow → Bool) → ℕ → List SlotRow → ℕ

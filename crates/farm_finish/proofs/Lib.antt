@@ -1,6 +1,3 @@
-pub mod ClearedFlags
-pub mod ClearedLayer
-pub mod Clears
 pub mod Closes
 pub mod CompletedJobs
 pub mod CountedDown

@@ -25,7 +25,7 @@ use Rattle.farm_draft.specs.Rows.{AreInstallable, AreReady, put_slots}
 use Rattle.farm_changes.specs.Change.{Makes, after_change}
 use Rattle.farm_changes.specs.declared.change.Change.{Change}
 use Rattle.farm_depends.specs.Completing.{IsCompleting}
-use Rattle.farm_depends.specs.Fits.{IsWhole}
+use Rattle.depend_book.specs.Fits.{IsBeside}
 use Rattle.farm_depends.specs.Follow.{Follows, IsOneKind, NoneCome, after_follow}
 use Rattle.farm_depends.specs.declared.follow.Follow.{Follow}
 use Rattle.farm_finish.specs.AfterAct.{IsAfter}
@@ -90,7 +90,7 @@ first_ends : (g : Farm) (jobs : List ℕ) → (jobs ≡ [] → ⊥) → AllByRec
 first_ends g [] some all = absurd (some refl)
 first_ends g (n ∷ ns) some all = (n, all.0)
 
-module _ (f : Farm) (b : DependLists) (e : Entry) (change : Change) (w : Follow) (whole : IsWhole f b) (made : Makes f e change)
+module _ (f : Farm) (b : DependLists) (e : Entry) (change : Change) (w : Follow) (whole : IsBeside f b) (made : Makes f e change)
     (follows : Follows (joined f b) (joined (after_change f change) b) e.act w) (jobs : List ℕ) (are : jobs ≡ closing e.act (after_follow (joined (after_change f change) b) w))
     (some : jobs ≡ [] → ⊥) (can : CanEnd (after_follow (joined (after_change f change) b) w) jobs) (book : IsBook b) where
   abbrev last : Farm

@@ -1,12 +1,14 @@
 -- The books after jobs that finish, and what they need of the books.
-use Rattle.std.specs.Prelude.{ℕ, ◌≡◌, ◌&&◌, Bool, true, not, List, [], ◌∷◌}
+use Rattle.std.specs.Prelude.{ℕ, ◌≡◌, true, List, [], ◌∷◌}
 use Rattle.std.specs.List.{list_all}
 use Rattle.farm_types.specs.declared.slot_row.SlotRow.{SlotRow}
 use Rattle.farm_types.specs.Farm.{Farm}
-use Rattle.farm_types.specs.Finish.{is_frame_of, with_finished}
+use Rattle.farm_types.specs.Finish.{with_finished}
 use Rattle.farm_types.specs.Jobs.{JobLists}
 use Rattle.farm_types.specs.Kept.{EachOnce, is_kept_slot}
 use Rattle.farm_types.specs.Step.{lists_of, with_lists}
+use Rattle.farm_books.specs.Books.{FarmBooks, depends_of, with_depends, with_farm}
+use Rattle.farm_books.specs.Cleared.{undone}
 use Rattle.farm_books.specs.Finish.{CanFinish}
 use Rattle.depend_book.specs.Book.{DependLists, without_waiter_in}
 
@@ -23,17 +25,7 @@ books_finished (job ∷ jobs) f = books_finished jobs (finished_books job f)
 
 -- ---- the book of depends
 
--- for each slot whether its frame is done and isn't one of the job
-abbrev pub undone_flags : ℕ → List SlotRow → List Bool → List Bool
-undone_flags job [] done = done
-undone_flags job (s ∷ ss) [] = []
-undone_flags job (s ∷ ss) (flag ∷ flags) = (flag && not (is_frame_of job s)) ∷ undone_flags job ss flags
-
--- no frame of the job is done
-abbrev pub undone : ℕ → List SlotRow → DependLists → DependLists
-undone job slots b = record b { graph = record b.graph { done = undone_flags job slots b.graph.done } }
-
--- nor is there a depend in which one waits
+-- no frame of the job is done, nor is there a depend in which one waits
 abbrev pub depends_without : ℕ → List SlotRow → DependLists → DependLists
 depends_without job slots b = without_waiter_in (undone job slots b) job
 
@@ -41,6 +33,17 @@ depends_without job slots b = without_waiter_in (undone job slots b) job
 abbrev pub depends_finished : List ℕ → Farm → DependLists → DependLists
 depends_finished [] f b = b
 depends_finished (job ∷ jobs) f b = depends_finished jobs (finished_books job f) (depends_without job f.slots b)
+
+-- ---- both
+
+-- the job finished: its layers and the depends in which it waits gone, and none of its frames done
+abbrev pub finished_in : ℕ → FarmBooks → FarmBooks
+finished_in job v = with_depends (with_farm v (finished_books job v.farm)) (depends_without job v.farm.slots (depends_of v))
+
+-- the jobs finished in turn
+abbrev pub all_finished : List ℕ → FarmBooks → FarmBooks
+all_finished [] v = v
+all_finished (job ∷ jobs) v = all_finished jobs (finished_in job v)
 
 -- ---- what they need
 

@@ -1,6 +1,5 @@
 pub mod Adding
 pub mod AfterAct
-pub mod Cleared
 pub mod Closing
 pub mod Finishing
 pub mod Gone

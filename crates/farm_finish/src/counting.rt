@@ -19,7 +19,8 @@ pub(crate) fn count_down(
     slot: Slot,
 ) -> Result<(), AllocError>
     requires { HasItsJob jobs.now slot }
-    ensures { OnOk result (IsFreed (job_in jobs.now.slots slot) (left_in (job_in jobs.now.slots slot) jobs.now.slots) (get nat_eq left.old) (get nat_eq left.new) finished.old.items finished.new.items) }
+    ensures { OnOk result (IsFreed (job_in jobs.now.slots slot) (left_in (job_in jobs.now.slots slot) jobs.now.slots)
+        (get nat_eq left.old) (get nat_eq left.new) finished.old.items finished.new.items) }
 {
     let job = job_in(jobs, slot);
     let before = lower(left, job, left_of(jobs, job))?;

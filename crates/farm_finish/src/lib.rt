@@ -2,7 +2,6 @@
 #![tactic(auto)]
 
 mod applying;
-mod clearing;
 mod counting;
 mod preparing;
 mod rows;

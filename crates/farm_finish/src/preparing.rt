@@ -3,15 +3,13 @@
 ghost use Rattle.std.specs.Prelude.{◌≡◌, All, IfOk};
 ghost use Rattle.farm_types.specs.Rising.{IsRising, job_key};
 ghost use Rattle.farm_changes.specs.Change.{Makes, after_change};
-ghost use Rattle.depend_book.specs.Book.{joined};
 ghost use Rattle.farm_types.specs.Step.{finishing};
 ghost use Rattle.farm_depends.specs.Completing.{IsCompleting};
-ghost use Rattle.farm_depends.specs.Fits.{IsWhole};
+ghost use Rattle.farm_books.specs.Books.{IsWhole};
 ghost use Rattle.farm_depends.specs.Follow.{Follows, after_follow};
 ghost use Rattle.farm_finish.specs.Closing.{HasItsJob, closing, finished_by};
 
 use crate::counting::count_down;
-use depend_book::Depends;
 use farm_books::Books;
 use farm_changes::Change;
 use farm_depends::Follow;
@@ -25,20 +23,19 @@ use std::alloc::{AllocError, Global};
 pub fn prepare_finish(
     alloc: Global,
     books: &Books,
-    depends: &Depends,
     entry: &Entry,
     change: &Change,
     follow: &Follow,
 ) -> Result<Items<JobNo>, AllocError>
-    requires whole { IsWhole books.now depends.now }
-    requires made { Makes books.now entry.now change.now }
-    requires follows { Follows (joined books.now depends.now) (joined (after_change books.now change.now) depends.now) entry.now.act follow.now }
-    ensures { IfOk result (λ jobs. jobs ≡ closing entry.now.act (after_follow (joined (after_change books.now change.now) depends.now) follow.now)) }
+    requires whole { IsWhole books.now }
+    requires made { Makes books.now.farm entry.now change.now }
+    requires follows { Follows books.now.farm (after_change books.now.farm change.now) entry.now.act follow.now }
+    ensures { IfOk result (λ jobs. jobs ≡ closing entry.now.act (after_follow (after_change books.now.farm change.now) follow.now)) }
 {
     match &entry.act {
-        Act::Heard(_) => completed(alloc, books, depends, entry, change, follow),
-        Act::KillJob { .. } => completed(alloc, books, depends, entry, change, follow),
-        Act::EatFrame(_) => completed(alloc, books, depends, entry, change, follow),
+        Act::Heard(_) => completed(alloc, books, entry, change, follow),
+        Act::KillJob { .. } => completed(alloc, books, entry, change, follow),
+        Act::EatFrame(_) => completed(alloc, books, entry, change, follow),
         _ => Ok(Items::new(alloc)),
     }
 }
@@ -47,16 +44,15 @@ pub fn prepare_finish(
 fn completed(
     alloc: Global,
     books: &Books,
-    depends: &Depends,
     entry: &Entry,
     change: &Change,
     follow: &Follow,
 ) -> Result<Items<JobNo>, AllocError>
-    requires whole { IsWhole books.now depends.now }
-    requires made { Makes books.now entry.now change.now }
-    requires follows { Follows (joined books.now depends.now) (joined (after_change books.now change.now) depends.now) entry.now.act follow.now }
+    requires whole { IsWhole books.now }
+    requires made { Makes books.now.farm entry.now change.now }
+    requires follows { Follows books.now.farm (after_change books.now.farm change.now) entry.now.act follow.now }
     requires completing { IsCompleting entry.now.act }
-    ensures { IfOk result (λ jobs. jobs ≡ finishing (after_follow (joined (after_change books.now change.now) depends.now) follow.now)) }
+    ensures { IfOk result (λ jobs. jobs ≡ finishing (after_follow (after_change books.now.farm change.now) follow.now)) }
 {
     finished_by(alloc, books.jobs(), follow.done.as_slice())
 }

@@ -8,12 +8,11 @@ ghost use Rattle.farm_types.specs.Kept.{EachOnce, is_kept_slot};
 ghost use Rattle.farm_types.specs.Step.{finish_each};
 ghost use Rattle.farm_rows.specs.Changes.{MakesRows};
 ghost use Rattle.depend_law.specs.Ending.{CanEnd};
-ghost use Rattle.depend_book.specs.Book.{joined};
 ghost use Rattle.job_book.specs.Book.{has_job};
 ghost use Rattle.job_book.specs.Finished.{finished_of};
 ghost use Rattle.farm_draft.specs.Rows.{put_slots};
 ghost use Rattle.farm_changes.specs.Change.{Makes, after_change};
-ghost use Rattle.farm_depends.specs.Fits.{IsWhole};
+ghost use Rattle.farm_books.specs.Books.{IsWhole};
 ghost use Rattle.farm_depends.specs.Follow.{Follows, after_follow};
 ghost use Rattle.farm_finish.specs.Adding.{AddsJob};
 ghost use Rattle.farm_finish.specs.AfterAct.{IsAfter};
@@ -34,32 +33,38 @@ use indexmap::IndexMap;
 use job_book::Jobs;
 use std::alloc::{AllocError, Global};
 
-/// The rows that change where the jobs finish, each as it will be: of each job in turn its own row, that of the finished job that leaves, and those of its layers, its frames and the
-/// depends in which it waits. `change` was prepared for its act, and `follow` is what follows of depends. Only the jobs' own layers, frames and depends are looked at, and the slots that
-/// the act sets.
+/// The rows that change where the jobs finish, each as it will be: of each job in turn its own row, that of the finished job that leaves, and those
+/// of its layers, its frames and the depends in which it waits. `change` was prepared for its act, and `follow` is what follows of depends. Only the
+/// jobs' own layers, frames and depends are looked at, and the slots that the act sets.
 pub fn finish_rows(
     alloc: Global,
     books: &Books,
-    depends: &Depends,
     entry: &Entry,
     change: &Change,
     follow: &Follow,
     jobs: &[JobNo],
 ) -> Result<Vec<RowChange>, AllocError>
-    requires whole { IsWhole books.now depends.now }
-    requires made { Makes books.now entry.now change.now }
-    requires follows { Follows (joined books.now depends.now) (joined (after_change books.now change.now) depends.now) entry.now.act follow.now }
-    requires jobs { jobs.now ≡ closing entry.now.act (after_follow (joined (after_change books.now change.now) depends.now) follow.now) }
-    requires ends { CanEnd (after_follow (joined (after_change books.now change.now) depends.now) follow.now) jobs.now }
-    ensures { IfOk result (λ changes. MakesRows (after_follow (joined (after_change books.now change.now) depends.now) follow.now) (finish_each jobs.now (after_follow (joined (after_change books.now change.now) depends.now) follow.now)) changes.items) }
+    requires whole { IsWhole books.now }
+    requires made { Makes books.now.farm entry.now change.now }
+    requires follows { Follows books.now.farm (after_change books.now.farm change.now) entry.now.act follow.now }
+    requires jobs { jobs.now ≡ closing entry.now.act (after_follow (after_change books.now.farm change.now) follow.now) }
+    requires ends { CanEnd (after_follow (after_change books.now.farm change.now) follow.now) jobs.now }
+    ensures { IfOk result (λ changes. MakesRows (after_follow (after_change books.now.farm change.now) follow.now)
+        (finish_each jobs.now (after_follow (after_change books.now.farm change.now) follow.now)) changes.items) }
 {
     let _entry = entry;
     let _follow = follow;
     if jobs.is_empty() {
         return Ok(Vec::new(alloc));
     }
-    depends.kept();
-    each_job(alloc, books.jobs(), depends, change.slot_rows(), jobs)
+    books.kept();
+    each_job(
+        alloc,
+        books.jobs(),
+        books.depends(),
+        change.slot_rows(),
+        jobs,
+    )
 }
 
 // The rows that change where each of the jobs finishes, once those rows of slots are put in.
@@ -75,7 +80,8 @@ fn each_job(
     requires once { EachOnce book.now.slots }
     requires there { All (λ job. has_job book.now job ≡ true) jobs.now }
     requires number { book.now.next_finish < 2 ^ 32 }
-    ensures { IfOk result (λ changes. (f : Farm) → IsAfter book.now (put_slots book.now.slots rows.now) depends.now f → CanEnd f jobs.now → MakesRows f (finish_each jobs.now f) changes.items) }
+    ensures { IfOk result (λ changes. (f : Farm) → IsAfter book.now (put_slots book.now.slots rows.now) depends.now f → CanEnd f jobs.now
+        → MakesRows f (finish_each jobs.now f) changes.items) }
 {
     let versions = versions_of(alloc, book, rows)?;
     let mut changes = Vec::new(alloc);
@@ -154,7 +160,8 @@ fn add_job(
     requires once { EachOnce book.now.slots }
     requires laid { AreLaid book.now.slots rows.now (get nat_eq versions.now) }
     requires there { has_job book.now turn.job ≡ true }
-    ensures { OnOk result (AddsJob book.now (put_slots book.now.slots rows.now) depends.now turn.finish turn.gone turn.job changes.old.items changes.new.items) }
+    ensures { OnOk result (AddsJob book.now (put_slots book.now.slots rows.now) depends.now
+        turn.finish turn.gone turn.job changes.old.items changes.new.items) }
 {
     put_job(changes, alloc, book, rows, turn.job, turn.finish)?;
     job_goes(changes, turn.gone)?;

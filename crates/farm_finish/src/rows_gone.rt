@@ -8,7 +8,7 @@ ghost use Rattle.depend_graph.specs.Graph.{groups_at};
 ghost use Rattle.depend_book.specs.Book.{waiting_in};
 ghost use Rattle.farm_depends.specs.FollowRows.{delete_mark};
 ghost use Rattle.farm_finish.specs.Adding.{AddsFrames, is_of_job};
-ghost use Rattle.farm_finish.specs.Cleared.{is_in_layer, is_in_layers};
+ghost use Rattle.farm_books.specs.Cleared.{is_in_layer, is_in_layers};
 ghost use Rattle.farm_finish.specs.Gone.{depend_gone, depends_gone, job_gone, layer_gone};
 ghost use Rattle.farm_finish.specs.Versions.{freed_by};
 
@@ -75,7 +75,8 @@ fn layers_free(
     layers: &[LayerRow],
 ) -> Result<(), AllocError>
     requires { EachOnce book.now.slots }
-    ensures { OnOk result (AddsFrames book.now.slots (get nat_eq versions.now) (is_in_layers book.now.slots job layers.now) changes.old.items changes.new.items) }
+    ensures { OnOk result (AddsFrames book.now.slots (get nat_eq versions.now) (is_in_layers book.now.slots job layers.now)
+        changes.old.items changes.new.items) }
 {
     for layer in layers {
         layer_free(changes, book, versions, job, layer.place)?;

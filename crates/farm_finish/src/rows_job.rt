@@ -33,7 +33,8 @@ pub(crate) fn put_job(
 ) -> Result<(), AllocError>
     requires rows { AreSet book.now.slots rows.now }
     requires there { has_job book.now job ≡ true }
-    ensures { OnOk result ((j : JobRow) → find (λ k. k.job == job) book.now.jobs ≡ Some j → changes.new.items ≡ changes.old.items ++ job_put (put_slots book.now.slots rows.now) finish j) }
+    ensures { OnOk result ((j : JobRow) → find (λ k. k.job == job) book.now.jobs ≡ Some j → changes.new.items ≡ changes.old.items
+        ++ job_put (put_slots book.now.slots rows.now) finish j) }
 {
     let done = done_after(book, rows, job);
     let old = row_of(book, job);

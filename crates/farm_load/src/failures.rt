@@ -19,7 +19,7 @@ pub(crate) fn failures(farm: &Farm, n: u32, report: &Report, moment: u64) -> u64
     ensures value { result ≡ failed_in n farm.now (heard_entry report.now moment ∷ []) }
     ensures few { result ≤ length report.now.done }
 {
-    match farm.host_named(report.host.as_str()) {
+    match farm.books().host_named(report.host.as_str()) {
         Some(host) => failures_on(farm, n, host, report, moment),
         None => 0,
     }
@@ -42,8 +42,8 @@ fn failures_on(farm: &Farm, n: u32, host: HostNo, report: &Report, moment: u64) 
 fn is_silent(farm: &Farm, host: HostNo, moment: u64) -> bool
     ensures { result ≡ is_silent farm.now (moment_of farm.now moment) host }
 {
-    match farm.host(host) {
-        Some(row) => is_unheard(row, farm.moment().max(moment)),
+    match farm.books().host(host) {
+        Some(row) => is_unheard(row, farm.books().moment().max(moment)),
         None => false,
     }
 }
@@ -89,7 +89,7 @@ fn failure(
 fn is_failure(farm: &Farm, n: u32, host: HostNo, boot: u32, attempt: &Attempt) -> bool
     ensures { result ≡ (fails n attempt.now && is_live farm.now host boot attempt.now.slot attempt.now.version) }
 {
-    load_exit(n, *attempt).status == 1 && farm.is_live(host, boot, *attempt)
+    load_exit(n, *attempt).status == 1 && farm.books().is_live(host, boot, *attempt)
 }
 
 // Whether a completion of the attempt stands there.

@@ -91,7 +91,7 @@ fn new_host(alloc: Global, name: &str) -> Result<LoadHost, AllocError>
 fn has_finished(farm: &Farm) -> bool
     ensures { result ≡ has_finished farm.now }
 {
-    match farm.job(JobNo(LOAD_JOB)) {
+    match farm.books().job(JobNo(LOAD_JOB)) {
         Some(job) => matches!(job.state, JobState::Finished),
         None => false,
     }

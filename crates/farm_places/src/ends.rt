@@ -22,8 +22,8 @@ pub struct FoundEnd {
 
 /// The end that a place names, or that its job, its layer or its frame isn't there.
 pub fn find_end(alloc: Global, books: &Books, place: &Place) -> Result<FoundEnd, FarmFault>
-    requires { KeepsRows books.now }
-    ensures { FindsEnd books.now place.now result }
+    requires { KeepsRows books.now.farm }
+    ensures { FindsEnd books.now.farm place.now result }
 {
     let jobs = books.jobs();
     let Some(job) = jobs.pending(place.job.as_str()) else {

@@ -3,6 +3,7 @@
 
 mod ends;
 mod frames;
+mod numbered;
 mod refused;
 mod shapes;
 mod states;

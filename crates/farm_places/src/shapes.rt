@@ -47,8 +47,8 @@ fn named_shape(alloc: Global, jobs: &Jobs, job: JobNo, name: &Text) -> Result<Sh
     Ok(Shape { layers })
 }
 
-// The first layer of that name.
-fn layer_named<'a>(layers: &'a [LayerRow], name: &Text) -> Option<&'a LayerRow>
+/// The first layer of that name.
+pub(crate) fn layer_named<'a>(layers: &'a [LayerRow], name: &Text) -> Option<&'a LayerRow>
     ensures { option_copied result ≡ find (λ layer. bytes_eq layer.name name.now) layers.now }
 {
     layers.iter().find(|layer| layer.name.is(name.as_str()))
@@ -99,8 +99,8 @@ fn numbers_of(alloc: Global, jobs: &Jobs, slots: &[Slot]) -> Result<Items<i32>, 
     Ok(numbers)
 }
 
-// The number of the frame in a slot, and 0 where it has none.
-fn number_at(jobs: &Jobs, slot: Slot) -> i32
+/// The number of the frame in a slot, and 0 where it has none.
+pub(crate) fn number_at(jobs: &Jobs, slot: Slot) -> i32
     ensures { result ≡ number_at jobs.now.slots slot }
 {
     let Some(row) = jobs.row(slot) else {

@@ -16,7 +16,7 @@ use std::alloc::Global;
 
 /// Refuses to kill a frame that is done or dead.
 pub fn check_kill(books: &Books, slot: Slot) -> Result<(), FarmFault>
-    ensures { Refuses (state_refusal may_kill (slice_get books.now.slots slot)) result }
+    ensures { Refuses (state_refusal may_kill (slice_get books.now.farm.slots slot)) result }
 {
     let Some(state) = state_at(books, slot) else {
         return Ok(());
@@ -29,7 +29,7 @@ pub fn check_kill(books: &Books, slot: Slot) -> Result<(), FarmFault>
 
 /// Refuses to eat a frame that is done.
 pub fn check_eat(books: &Books, slot: Slot) -> Result<(), FarmFault>
-    ensures { Refuses (state_refusal may_eat (slice_get books.now.slots slot)) result }
+    ensures { Refuses (state_refusal may_eat (slice_get books.now.farm.slots slot)) result }
 {
     let Some(state) = state_at(books, slot) else {
         return Ok(());
@@ -47,7 +47,8 @@ pub fn check_retry(
     place: &FramePlace,
     slot: Slot,
 ) -> Result<(), FarmFault>
-    ensures { Refuses (or_else (state_refusal may_retry (slice_get books.now.slots slot)) (version_refusal (frame_name place.now.frame place.now.layer) (slice_get books.now.slots slot))) result }
+    ensures { Refuses (or_else (state_refusal may_retry (slice_get books.now.farm.slots slot))
+        (version_refusal (frame_name place.now.frame place.now.layer) (slice_get books.now.farm.slots slot))) result }
 {
     check_state_to_retry(books, slot)?;
     check_version(alloc, books, place, slot)
@@ -55,7 +56,7 @@ pub fn check_retry(
 
 // Refuses to retry a frame that waits.
 fn check_state_to_retry(books: &Books, slot: Slot) -> Result<(), FarmFault>
-    ensures { Refuses (state_refusal may_retry (slice_get books.now.slots slot)) result }
+    ensures { Refuses (state_refusal may_retry (slice_get books.now.farm.slots slot)) result }
 {
     let Some(state) = state_at(books, slot) else {
         return Ok(());
@@ -73,7 +74,7 @@ fn check_version(
     place: &FramePlace,
     slot: Slot,
 ) -> Result<(), FarmFault>
-    ensures { Refuses (version_refusal (frame_name place.now.frame place.now.layer) (slice_get books.now.slots slot)) result }
+    ensures { Refuses (version_refusal (frame_name place.now.frame place.now.layer) (slice_get books.now.farm.slots slot)) result }
 {
     let Some(row) = books.slot(slot) else {
         return Ok(());
@@ -107,7 +108,7 @@ fn wrong_state(state: FrameState) -> FarmFault
 
 // The state of the frame in a slot, where there is one.
 fn state_at(books: &Books, slot: Slot) -> Option<FrameState>
-    ensures { (may : FrameState → Bool) → state_refusal may (slice_get books.now.slots slot) ≡ refusal_in may result }
+    ensures { (may : FrameState → Bool) → state_refusal may (slice_get books.now.farm.slots slot) ≡ refusal_in may result }
 {
     let Some(row) = books.slot(slot) else {
         return None;

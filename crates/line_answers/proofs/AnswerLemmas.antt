@@ -207,20 +207,20 @@ pub recorded_entry : (f new : Farm) (e : Entry) (change : Change) (written : Lis
     → written ≡ reply_text (ok_reply e.act (answer_of f e)) ++ 10 ∷ [] → IsRecorded f (after_change f change) written new told
     → goes (e ∷ []) (recorded_by e told) (is_store_line told) → AnswersEntry f e new (shown told) goes
 recorded_entry f new e change written (reply_line.Written line) goes makes is recorded keeper =
-    taken_entry f new e line goes keeper makes.accepted (recorded.0 ∙ makes.farm) (recorded.1 ∙ is)
+    taken_entry f new e line goes keeper makes.planned.accepted (recorded.0 ∙ makes.planned.farm) (recorded.1 ∙ is)
 recorded_entry f new e change written reply_line.Store goes makes is recorded keeper =
     subst (λ (g : Farm). AnswersEntry f e g (shown reply_line.Store) goes) (sym recorded.0)
-    (failed_entry f e (shown reply_line.Store) goes makes.accepted (subst (ChangesRows f) makes.farm recorded.1) refl keeper)
+    (failed_entry f e (shown reply_line.Store) goes makes.planned.accepted (subst (ChangesRows f) makes.planned.farm recorded.1) refl keeper)
 recorded_entry f new e change written reply_line.NoMemory goes makes is recorded keeper =
     subst (λ (g : Farm). AnswersEntry f e g (shown reply_line.NoMemory) goes) (sym recorded.1)
-    (unrecorded f (shown reply_line.NoMemory) goes (λ mark. entry_answer f e mark (refusal_of f e)) (MayStoreEntry f e) (asked_entry f e goes makes.accepted keeper) tt refl)
+    (unrecorded f (shown reply_line.NoMemory) goes (λ mark. entry_answer f e mark (refusal_of f e)) (MayStoreEntry f e) (asked_entry f e goes makes.planned.accepted keeper) tt refl)
 recorded_entry f new e change written reply_line.TooLong goes makes is recorded keeper =
     subst (λ (g : Farm). AnswersEntry f e g (shown reply_line.TooLong) goes) (sym recorded.1)
-    (unrecorded f (shown reply_line.TooLong) goes (λ mark. entry_answer f e mark (refusal_of f e)) (MayStoreEntry f e) (asked_entry f e goes makes.accepted keeper) tt (ap shown recorded.0))
+    (unrecorded f (shown reply_line.TooLong) goes (λ mark. entry_answer f e mark (refusal_of f e)) (MayStoreEntry f e) (asked_entry f e goes makes.planned.accepted keeper) tt (ap shown recorded.0))
 
 -- the change of an entry that is no booking is that of a legal entry
 pub entry_made : (f : Farm) (e : Entry) (change : Change) → HasCondition f e.act → IsFormed e → Makes f e change → IsOfEntry f e change
-entry_made f e change condition formed makes = record { legal = record { formed = formed; accepted = makes.accepted; condition = condition }; makes = makes }
+entry_made f e change condition formed makes = record { legal = record { formed = formed; accepted = makes.planned.accepted; condition = condition }; makes = makes }
 
 -- ---- what changes no row
 

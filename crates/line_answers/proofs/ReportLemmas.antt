@@ -74,7 +74,7 @@ told_by f (act.Heard heard) (Some host) is there = tt
 told_by f other told is there = absurd is
 
 pub made_told : (f : Farm) (e : Entry) (change : Change) → IsHeard e.act → Makes f e change → IsTold change.act.heard
-made_told f e change is makes = told_by f e.act change.act.heard is makes.heard
+made_told f e change is makes = told_by f e.act change.act.heard is makes.planned.heard
 
 -- a fault that is told as another
 told_as : (found : CommitRefusal) (r : Result ℕ CommitRefusal) → IsErrAnd r (λ told. told ≡ found) → r ≡ Err found
@@ -99,10 +99,10 @@ never_store why r err = ap is_store_refusal (told_as (of_farm why) r err) ∙ pr
 -- the change was recorded
 pub was_heard : (f new : Farm) (e : Entry) (change : Change) (host : ℕ) → Makes f e change → change.act.heard ≡ Some host → new ≡ after_change f change
     → Hears f e (Ok host) new
-was_heard f new e change host makes told is = (makes.accepted, subst (HasHeard f e.act) told makes.heard, is ∙ makes.farm)
+was_heard f new e change host makes told is = (makes.planned.accepted, subst (HasHeard f e.act) told makes.planned.heard, is ∙ makes.planned.farm)
 
 failed_as : (f new : Farm) (e : Entry) (change : Change) (why : RecordFault) → Makes f e change → FailsToRecord f (after_change f change) why new → Hears f e (Err (of_record why)) new
-failed_as f new e change fault.Store makes fails = (makes.accepted, subst (ChangesRows f) makes.farm fails.1, fails.0)
+failed_as f new e change fault.Store makes fails = (makes.planned.accepted, subst (ChangesRows f) makes.planned.farm fails.1, fails.0)
 failed_as f new e change fault.NoMemory makes fails = fails
 
 -- the store failed or memory ran out

@@ -193,7 +193,8 @@ pub record TakesRound (old : Farm) (host : ℕ) (report : Report) (moment : ℕ)
   pub mark : Mark
   pub farm : (f : Farm) (heard : Entry) → after f heard ≡ old → new ≡ run_of f (marked_answer f host report heard (round_for old host moment) mark).entries
   pub reply : (f : Farm) (heard : Entry) → after f heard ≡ old → taken.reply ≡ (marked_answer f host report heard (round_for old host moment) mark).reply
-  pub booked : (f : Farm) (heard : Entry) → is_booking heard.act ≡ false → taken.booked ≡ bookings_in (marked_answer f host report heard (round_for old host moment) mark).entries
+  pub booked : (f : Farm) (heard : Entry) → is_booking heard.act ≡ false
+      → taken.booked ≡ bookings_in (marked_answer f host report heard (round_for old host moment) mark).entries
   pub calm : tells_memory taken.reply ≡ false → is_calm mark ≡ true
   pub may_stand : MayCutRound (length (round_for old host moment)) mark
   pub done : List Entry

@@ -36,7 +36,7 @@ pub fn kills(
 {
     let mut kills = Items::new(alloc);
     for attempt in report.running.as_slice() {
-        if !farm.is_live(host, report.boot, *attempt) {
+        if !farm.books().is_live(host, report.boot, *attempt) {
             kills.push(*attempt)?;
         }
     }
@@ -54,13 +54,13 @@ pub fn launches(
     ensures { IfOk result (λ launches. launches ≡ launches_of farm.now host report.now) }
 {
     let mut launches = Items::new(alloc);
-    let mut next = farm.first_attempt(host);
+    let mut next = farm.books().first_attempt(host);
     while let Some(slot) = next {
         if launches.len() >= LAUNCHES_EACH as usize {
             return Ok(launches);
         }
         add_due(alloc, &mut launches, farm, host, report, slot)?;
-        next = farm.next_attempt(slot);
+        next = farm.books().next_attempt(slot);
     }
     Ok(launches)
 }
@@ -76,7 +76,7 @@ fn add_due(
 ) -> Result<(), AllocError>
     ensures { OnOk result (launches.new ≡ launches.old ++ option_to_list (due_at farm.now host report.now slot)) }
 {
-    let Some(row) = farm.slot(slot) else {
+    let Some(row) = farm.books().slot(slot) else {
         return Ok(());
     };
     if let Some(launch) = due(alloc, farm, host, report, &row)? {
@@ -153,10 +153,10 @@ fn launch_at(
     let Some(frame) = slot.frame else {
         return Ok(None);
     };
-    let Some(job) = farm.job(frame.job) else {
+    let Some(job) = farm.books().job(frame.job) else {
         return Ok(None);
     };
-    let Some(layer) = farm.layer(frame.job, frame.layer) else {
+    let Some(layer) = farm.books().layer(frame.job, frame.layer) else {
         return Ok(None);
     };
     Ok(Some(launch_of_frame(alloc, proc, &frame, job, layer)?))

@@ -20,14 +20,16 @@ pub fn sessions_are_legal()
 /// Whatever a formed report tells, at whatever moment, and wherever memory runs out or the store fails, the entries that are recorded for it are a legal run.
 #[tactic(auto, using(crate::proofs::LegalLemmas::reported_legal))]
 pub fn reports_are_legal()
-    ensures { (f : Farm) (report : Report) (moment : ℕ) (mark : Mark) → IsFormed (heard_entry report moment) → IsLegal f (reported f report moment mark).entries }
+    ensures { (f : Farm) (report : Report) (moment : ℕ) (mark : Mark) → IsFormed (heard_entry report moment)
+        → IsLegal f (reported f report moment mark).entries }
 {}
 
 /// A report that the farm takes is recorded with exactly its round of bookings, unless memory ran out or the store failed before it was recorded or
 /// within the round.
 #[tactic(auto, using(crate::proofs::OutcomeLemmas::whole_round))]
 pub fn taken_reports_have_their_round()
-    ensures { (f : Farm) (line : List ℕ) (moment : ℕ) (mark : Mark) (report : Report) → WalksWhole mark → IsAccepted f line moment report → HasWholeRound f line moment mark report }
+    ensures { (f : Farm) (line : List ℕ) (moment : ℕ) (mark : Mark) (report : Report) → WalksWhole mark → IsAccepted f line moment report
+        → HasWholeRound f line moment mark report }
 {}
 
 /// A line past the limit is told so, and each other is answered by what it asks, unless memory ran out or the store failed for it. Where memory ran

@@ -95,11 +95,10 @@ stays_at_fault holds left holds' left' f e fault.NoMemory stays = stays
 
 -- ---- a change
 
--- rows that name what a change makes name what its entry makes
-pub names_then : (f : Farm) (e : Entry) (change : Change) → Makes f e change → (rows shown : List RowChange) → shown ≡ rows → NamesExactly f (after_change f change) rows
-    → NamesExactly f (after f e) shown
-names_then f e change makes rows shown is names =
-    subst (NamesExactly f (after f e)) (sym is) (subst (λ (g : Farm). NamesExactly f g rows) makes.farm names)
+-- its rows name what its entry makes
+pub names_then : (f : Farm) (e : Entry) (change : Change) → Makes f e change → (shown : List RowChange) → shown ≡ change.rows → NamesExactly f (after f e) shown
+names_then f e change makes shown is =
+    subst (NamesExactly f (after f e)) (sym is) (subst (λ (g : Farm). NamesExactly f g change.rows) makes.planned.farm makes.rows)
 
 pub on_ok : {T E P : Type 0} (r : Result T E) → P → OnOk r P
 on_ok (Ok x) p = p
@@ -116,11 +115,11 @@ after_reserved f now change taken same is =
 -- a keeper that has the farm of the entry has that of the change
 pub recorded_then : (holds left : Rows → Type 0) (f new : Farm) (e : Entry) (change : Change) → Makes f e change → new ≡ after_change f change → HasRecorded holds left (after f e)
     → HasRecorded holds left new
-recorded_then holds left f new e change makes is has = subst (HasRecorded holds left) (sym (is ∙ makes.farm)) has
+recorded_then holds left f new e change makes is has = subst (HasRecorded holds left) (sym (is ∙ makes.planned.farm)) has
 
 fails : (holds left holds' left' : Rows → Type 0) (f new : Farm) (e : Entry) (change : Change) → Makes f e change → new ≡ f → (why : RecordFault)
     → StaysAtFault holds left holds' left' f e why → FailsToRecord f (after_change f change) why new
-fails holds left holds' left' f new e change makes same fault.Store stays = (same, λ rows. stays.0 (rows ∙ ap rows_of makes.farm))
+fails holds left holds' left' f new e change makes same fault.Store stays = (same, λ rows. stays.0 (rows ∙ ap rows_of makes.planned.farm))
 fails holds left holds' left' f new e change makes same fault.NoMemory stays = same
 
 pub records_at_fault : {T : Type 0} (holds left holds' left' : Rows → Type 0) (f new : Farm) (e : Entry) (change : Change) → Makes f e change → new ≡ f
@@ -174,13 +173,13 @@ never_store why r err =
 
 pub of_entry : (f : Farm) (e : Entry) (change : Change) → IsFormed e → HasCondition f e.act → Makes f e change → IsOfEntry f e change
 of_entry f e change formed condition makes =
-    record { legal = record { formed = formed; accepted = makes.accepted; condition = condition }; makes = makes }
+    record { legal = record { formed = formed; accepted = makes.planned.accepted; condition = condition }; makes = makes }
 
 pub commits_made : (f new : Farm) (e : Entry) (change : Change) → Makes f e change → (r : Result Answer CommitRefusal)
     → RecordsAnswered f (after_change f change) change.act.answer r new → Commits f e r new
-commits_made f new e change makes (Ok said) is = (makes.accepted, is.0 ∙ makes.answer, is.1 ∙ makes.farm)
+commits_made f new e change makes (Ok said) is = (makes.planned.accepted, is.0 ∙ makes.planned.answer, is.1 ∙ makes.planned.farm)
 commits_made f new e change makes (Err (refusal.Refused why)) is = absurd is
-commits_made f new e change makes (Err refusal.Store) is = (makes.accepted, λ rows. is.1 (rows ∙ ap rows_of (sym makes.farm)), is.0)
+commits_made f new e change makes (Err refusal.Store) is = (makes.planned.accepted, λ rows. is.1 (rows ∙ ap rows_of (sym makes.planned.farm)), is.0)
 commits_made f new e change makes (Err refusal.NoMemory) is = is
 
 -- ---- a booking

@@ -107,6 +107,7 @@ IsUnstoredBooking f slot host moment = may_book f slot host ≡ true → HasSame
 
 -- the frame is booked where it may be, and it is said whether it was; or the store failed at a booking that may be, or memory ran out
 abbrev pub Books : Farm → ℕ → ℕ → ℕ → Result Bool RecordFault → Farm → Type 0
-Books old slot host moment (Ok said) new = (said ≡ may_book old slot host) × (new ≡ (if may_book old slot host then after old (booking slot host moment) else old))
+Books old slot host moment (Ok said) new =
+    (said ≡ may_book old slot host) × (new ≡ (if may_book old slot host then after old (booking slot host moment) else old))
 Books old slot host moment (Err fault.Store) new = (may_book old slot host ≡ true) × (new ≡ old)
 Books old slot host moment (Err fault.NoMemory) new = new ≡ old

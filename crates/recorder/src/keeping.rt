@@ -57,7 +57,7 @@ fn refused(_change: Change, fault: RecordFault) -> Result<(), RecordFault>
     Err(fault)
 }
 
-// Takes the memory that the change needs, and tells the keeper of it. The farm is as before.
+// Takes the memory that the change needs, and tells the keeper its rows. The farm is as before.
 fn make_ready<K: Keeper>(
     alloc: Global,
     farm: &mut Farm,
@@ -74,29 +74,8 @@ fn make_ready<K: Keeper>(
     ensures told { TellsOf K.commits farm.old (entry.now ∷ []) result keeper.old keeper.new }
 {
     farm.kept();
-    let rows = farm.changes(alloc, entry, change)?;
-    reserve_and_keep(alloc, farm, keeper, change, rows.as_slice())
-}
-
-// Takes the memory that the change needs, and tells the keeper the changes of rows.
-fn reserve_and_keep<K: Keeper>(
-    alloc: Global,
-    farm: &mut Farm,
-    keeper: &mut K,
-    change: &mut Change,
-    rows: &[RowChange],
-) -> Result<(), RecordFault>
-    ensures farm { farm.new ≡ farm.old }
-    ensures ok { OnOk result (change.new ≡ reserved_of change.old) }
-    ensures kept { (f : farms.Farm) (e : Entry) → IsKeptFarm f → IsLegalStep f e → NamesExactly f (after f e) rows.now
-        → StaysRecorded (K.holds keeper.old) (K.left keeper.old) (K.holds keeper.new) (K.left keeper.new) f e result }
-    ensures same { (f : farms.Farm) (e : Entry) → IsKeptFarm f → IsLegalStep f e → NamesExactly f (after f e) rows.now → HasSameRows f (after f e) → keeper.new ≡ keeper.old }
-    ensures keeper { Continues K.tells K.faults keeper.old keeper.new (is_store_fault result) }
-    ensures told { (f : farms.Farm) (e : Entry) → IsKeptFarm f → IsLegalStep f e → NamesExactly f (after f e) rows.now
-        → TellsOf K.commits f (e ∷ []) result keeper.old keeper.new }
-{
     farm.reserve(alloc, change)?;
-    keep(alloc, keeper, rows)
+    keep(alloc, keeper, change.batch())
 }
 
 /// Books the slot's frame on the host, where it may be, in the keeper and in the farm, or in neither.
@@ -114,7 +93,7 @@ pub(crate) fn book_in<K: Keeper>(
     ensures keeper { Continues K.tells K.faults keeper.old keeper.new (is_store_fault result) }
     ensures told { TellsOf K.commits farm.old (due_booking farm.old slot host moment) result keeper.old keeper.new }
 {
-    if farm.may_book(slot, host) {
+    if farm.books().may_book(slot, host) {
         return book_there(alloc, farm, keeper, slot, host, moment);
     }
     Ok(false)
@@ -164,7 +143,8 @@ fn keep_booking<K: Keeper>(
 fn keep<K: Keeper>(alloc: Global, keeper: &mut K, changes: &[RowChange]) -> Result<(), RecordFault>
     ensures kept { (f : farms.Farm) (e : Entry) → IsKeptFarm f → IsLegalStep f e → NamesExactly f (after f e) changes.now
         → StaysRecorded (K.holds keeper.old) (K.left keeper.old) (K.holds keeper.new) (K.left keeper.new) f e result }
-    ensures same { (f : farms.Farm) (e : Entry) → IsKeptFarm f → IsLegalStep f e → NamesExactly f (after f e) changes.now → HasSameRows f (after f e) → keeper.new ≡ keeper.old }
+    ensures same { (f : farms.Farm) (e : Entry) → IsKeptFarm f → IsLegalStep f e → NamesExactly f (after f e) changes.now → HasSameRows f (after f e)
+        → keeper.new ≡ keeper.old }
     ensures keeper { Continues K.tells K.faults keeper.old keeper.new (is_store_fault result) }
     ensures told { (f : farms.Farm) (e : Entry) → IsKeptFarm f → IsLegalStep f e → NamesExactly f (after f e) changes.now
         → TellsOf K.commits f (e ∷ []) result keeper.old keeper.new }

@@ -90,7 +90,8 @@ of_record record_fault.NoMemory = fault.NoMemory
 
 -- a farm's opening was recorded, or a part of it
 abbrev pub Begins : {K : Type 0} → (K → Type 0) → (K → Rows → Type 0) → (K → Rows → Type 0) → (K → ℕ) → WordForm → ℕ → Recording K → Opening K → Type 0
-Begins tells held left faults form moment old (opening.Opened r) = (r.farm ≡ opened_farm form old.farm moment) × Continues tells faults old.keeper r.keeper false
+Begins tells held left faults form moment old (opening.Opened r) =
+    (r.farm ≡ opened_farm form old.farm moment) × Continues tells faults old.keeper r.keeper false
 Begins tells held left faults form moment old (opening.Failed now why) =
     ((done : ℕ) × HoldsFarm (tells now) (held now) (left now) (run_of old.farm (take done (opening_entries form moment)))) × IsRecordFault why
     × Continues tells faults old.keeper now (is_of_store why)

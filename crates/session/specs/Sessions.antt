@@ -238,7 +238,8 @@ status_of exchanged.Spent = exit.Spent
 
 -- A session over a farm that was opened ended with this status. The entries that it recorded are a legal run from that farm, and a safe one, and the
 -- store holds the farm that they make.
-pub record AnswersAll (status : Status) (first : Farm) (before after : Streams) (call : Call) (goes_on : List Exchange → Type 0) (holds : Farm → Type 0) : Type 0 where
+pub record AnswersAll (status : Status) (first : Farm) (before after : Streams) (call : Call) (goes_on : List Exchange → Type 0)
+    (holds : Farm → Type 0) : Type 0 where
   pub ended : Exchanged
   pub last : Farm
   pub status_is : status ≡ status_of ended

@@ -1,6 +1,7 @@
-use Rattle.std.proofs.Common.{◌∙◌, Option, ap, arith}
+use Rattle.std.proofs.Common.{◌∙◌, Option, ap, arith, length}
 use Rattle.farm_lines.specs.declared.list_row.ListRow.{ListRow}
 use Rattle.farm_lines.specs.Lists.{host_rows}
+use Rattle.farm_types.specs.Farm.{Farm}
 use Rattle.cue_query.specs.Pages.{offered_all}
 use Rattle.cue_query.specs.Queries.{rows_if}
 use Rattle.cue_query.proofs.HostsAt.{count_is, row_there}
@@ -13,7 +14,7 @@ loop-place-init c =
     let all = host_rows f 0 f.hosts in
     let next = c.next_row-place in
     let long = count_is f in
-    let count = c.count_hosts-count.ensures.value in
+    let count = c.count_hosts-count.ensures.value ∙ ap (λ (g : Farm). length g.hosts) c.books.ensures.farm in
     passed_to c.args.page.now c.args.page.now next.new.self 0 next.result all (at_first c.args.page.now all) next.ensures.behind (omega (arith, long, count, next.ensures.within)) next.ensures.seen (next.ensures.rows all (omega (arith, long, count)))
 
 pub loop-place-preserved : goal.loop-place-preserved
@@ -23,7 +24,7 @@ loop-place-preserved c =
     let l = c.loop-place in
     let next = c.next_row-place-in-loop-place in
     let long = count_is f in
-    let count = c.count_hosts-count.ensures.value in
+    let count = c.count_hosts-count.ensures.value ∙ ap (λ (g : Farm). length g.hosts) c.books.ensures.farm in
     let there = row_there f l.place (omega (arith, count, c.loop-place-test.true)) in
     next_listed c.args.page.now l.page c.list_host.new.page next.new.self l.place next.result there.0 all l.invariant there.1
     (c.in_ok-list_host.ensures ∙ ap (λ (o : Option ListRow). offered_all l.page (rows_if o)) there.2)
@@ -34,5 +35,5 @@ returns c =
     let f = c.args.farm.now in
     let l = c.loop-place in
     let long = count_is f in
-    let count = c.count_hosts-count.ensures.value in
+    let count = c.count_hosts-count.ensures.value ∙ ap (λ (g : Farm). length g.hosts) c.books.ensures.farm in
     all_listed c.args.page.now l.page l.place (host_rows f 0 f.hosts) l.invariant (omega (arith, long, count, c.loop-place-test.false))

@@ -13,14 +13,14 @@ loop-next-init c = (0, c.first_attempt-next.ensures, omega arith)
 
 pub overflow_add-count : goal.overflow_add-count
 overflow_add-count c =
-    let f = c.args.books.now in
+    let f = c.args.books.now.farm in
     let so_far = c.loop-next.invariant in
     let slots : length f.slots ≤ SLOT_LIMIT = omega (arith, c.slots-slots.ensures.count, ap length c.slots-slots.ensures.value) in
     omega (arith, so_far.2, count_first c.args.host so_far.0 c.in-Some.slot f.slots (sym so_far.1 ∙ c.in-Some.is), count_within (λ n. n == c.args.host) f.slots, slots)
 
 pub loop-next-smaller : goal.loop-next-smaller
 loop-next-smaller c =
-    let procs = procs_of c.args.books.now.slots in
+    let procs = procs_of c.args.books.now.farm.slots in
     let slot = c.in-Some.slot in
     let so_far = c.loop-next.invariant in
     let first = first_on-some procs c.args.host so_far.0 slot (sym so_far.1 ∙ c.in-Some.is) in
@@ -29,7 +29,7 @@ loop-next-smaller c =
 
 pub loop-next-preserved : goal.loop-next-preserved
 loop-next-preserved c =
-    let f = c.args.books.now in
+    let f = c.args.books.now.farm in
     let procs = procs_of f.slots in
     let slot = c.in-Some.slot in
     let so_far = c.loop-next.invariant in
@@ -40,4 +40,4 @@ loop-next-preserved c =
 pub returns : goal.returns
 returns c =
     let so_far = c.loop-next.invariant in
-    omega (arith, so_far.2, count_last c.args.host so_far.0 c.args.books.now.slots (sym so_far.1 ∙ c.in_default.is))
+    omega (arith, so_far.2, count_last c.args.host so_far.0 c.args.books.now.farm.slots (sym so_far.1 ∙ c.in_default.is))

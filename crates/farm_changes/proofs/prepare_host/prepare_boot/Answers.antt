@@ -6,7 +6,7 @@ use Rattle.farm_changes.proofs.prepare_host.prepare_boot.Goals as goal
 
 pub returns-in-Err : goal.returns-in-Err
 returns-in-Err c =
-    let f = c.args.books.now in
+    let f = c.args.books.now.farm in
     let line = c.args.line.now in
     let alloc = c.in-Some.allocation in
     let alloc_is = subst (λ (name : List ℕ). alloc_named f name ≡ Some alloc) c.as_str.ensures (sym c.alloc_named.ensures ∙ c.in-Some.is) in
@@ -14,7 +14,7 @@ returns-in-Err c =
 
 pub returns : goal.returns
 returns c =
-    let f = c.args.books.now in
+    let f = c.args.books.now.farm in
     let line = c.args.line.now in
     let alloc = c.in-Some.allocation in
     let alloc_is = subst (λ (name : List ℕ). alloc_named f name ≡ Some alloc) c.as_str.ensures (sym c.alloc_named.ensures ∙ c.in-Some.is) in

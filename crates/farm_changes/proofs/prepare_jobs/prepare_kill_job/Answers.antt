@@ -9,21 +9,21 @@ use Rattle.farm_changes.proofs.prepare_jobs.prepare_kill_job.Goals as goal
 
 pub returns-in_default : goal.returns-in_default
 returns-in_default c =
-    let f = c.args.books.now in
+    let f = c.args.books.now.farm in
     let name = c.args.job.now in
     let is = named_is f name c.as_str.result.now c.jobs-jobs.result.now c.pending.result c.as_str.ensures c.jobs-jobs.ensures c.pending.ensures in
     job_refuses f c.args.moment (act.KillJob name) name c.jobs-jobs.result.now c.missing.result c.jobs-jobs.ensures refl (sym is ∙ c.in_default.is) c.missing.ensures
 
 pub counts-ended-requires : goal.counts-ended-requires
 counts-ended-requires c =
-    let f = c.args.books.now in
+    let f = c.args.books.now.farm in
     let name = c.args.job.now in
     let is = named_is f name c.as_str.result.now c.jobs-jobs.result.now c.pending.result c.as_str.ensures c.jobs-jobs.ensures c.pending.ensures in
     named_there f name c.jobs-jobs.result.now c.in-Some.job c.jobs-jobs.ensures (sym is ∙ c.in-Some.is)
 
 pub returns : goal.returns
 returns c =
-    let f = c.args.books.now in
+    let f = c.args.books.now.farm in
     let name = c.args.job.now in
     let is = named_is f name c.as_str.result.now c.jobs-jobs.result.now c.pending.result c.as_str.ensures c.jobs-jobs.ensures c.pending.ensures in
     let job = c.in-Some.job in

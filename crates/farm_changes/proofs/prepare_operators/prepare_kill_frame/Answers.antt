@@ -6,14 +6,14 @@ use Rattle.farm_changes.proofs.prepare_operators.prepare_kill_frame.Goals as goa
 
 pub returns-in_err-slot : goal.returns-in_err-slot
 returns-in_err-slot c =
-    let f = c.args.books.now in
+    let f = c.args.books.now.farm in
     let p = c.args.place.now in
     let m = c.args.moment in
     find_fails f m p (act.KillFrame p) (state_refusal may_kill) (stopped_row frame_state.Dead) (kills f m p) _ c.from_residual.result c.from_residual.ensures.1 c.in_err-slot.ensures.found
 
 pub returns-in_err-check_kill : goal.returns-in_err-check_kill
 returns-in_err-check_kill c =
-    let f = c.args.books.now in
+    let f = c.args.books.now.farm in
     let p = c.args.place.now in
     let m = c.args.moment in
     let found = c.in_ok-slot.ensures.found in
@@ -22,7 +22,7 @@ returns-in_err-check_kill c =
 
 pub returns : goal.returns
 returns c =
-    let f = c.args.books.now in
+    let f = c.args.books.now.farm in
     let p = c.args.place.now in
     let m = c.args.moment in
     let found = c.in_ok-slot.ensures.found in

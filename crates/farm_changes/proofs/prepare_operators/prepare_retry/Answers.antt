@@ -5,14 +5,14 @@ use Rattle.farm_changes.proofs.prepare_operators.prepare_retry.Goals as goal
 
 pub returns-in_err-slot : goal.returns-in_err-slot
 returns-in_err-slot c =
-    let f = c.args.books.now in
+    let f = c.args.books.now.farm in
     let p = c.args.place.now in
     let m = c.args.moment in
     find_fails f m p (act.RetryFrame p) (row_refusal p) retried_row (retries f m p) _ c.from_residual.result c.from_residual.ensures.1 c.in_err-slot.ensures.found
 
 pub returns-in_err-check_retry : goal.returns-in_err-check_retry
 returns-in_err-check_retry c =
-    let f = c.args.books.now in
+    let f = c.args.books.now.farm in
     let p = c.args.place.now in
     let m = c.args.moment in
     let found = c.in_ok-slot.ensures.found in
@@ -21,7 +21,7 @@ returns-in_err-check_retry c =
 
 pub returns : goal.returns
 returns c =
-    let f = c.args.books.now in
+    let f = c.args.books.now.farm in
     let p = c.args.place.now in
     let m = c.args.moment in
     let found = c.in_ok-slot.ensures.found in

@@ -7,12 +7,12 @@ use Rattle.farm_changes.proofs.preparing.prepare_sub.Goals as goal
 pub unreachable-requires : goal.unreachable-requires
 unreachable-requires c =
     let below =
-    sub_below c.args.books.now c.as_str.result.now c.as_str-2.result.now c.in-Some.show c.in-Some-alloc_named.allocation c.requires.kept (sym c.show_named.ensures ∙ c.in-Some.is) (sym c.alloc_named.ensures ∙ c.in-Some-alloc_named.is) in
+    sub_below c.args.books.now.farm c.as_str.result.now c.as_str-2.result.now c.in-Some.show c.in-Some-alloc_named.allocation c.requires.kept (sym c.show_named.ensures ∙ c.in-Some.is) (sym c.alloc_named.ensures ∙ c.in-Some-alloc_named.is) in
     absurd (omega (arith, c.in_default-of.ensures.none, below))
 
 pub returns : goal.returns
 returns c =
-    let f = c.args.books.now in
+    let f = c.args.books.now.farm in
     let line = c.args.line.now in
     let show = c.in-Some.show in
     let alloc = c.in-Some-alloc_named.allocation in

@@ -8,7 +8,7 @@ use Rattle.farm_changes.proofs.reports.heard_rows.Goals as goal
 
 pub returns-then-is_word_alone-clause-farm : goal.returns-then-is_word_alone-clause-farm
 returns-then-is_word_alone-clause-farm c =
-    let f = c.args.books.now in
+    let f = c.args.books.now.farm in
     let alone = c.if-is_word_alone.true in
     subst (λ (g : Farm). IfOk c.life_rows.result (λ rows. installed (at_moment f c.args.moment) rows ≡ g))
     (heard_alone f c.args.moment c.args.host c.args.heard.now (c.is_word_alone.ensures.done alone) (c.is_word_alone.ensures.quiet alone)) c.life_rows.ensures.farm

@@ -10,14 +10,14 @@ use Rattle.farm_changes.proofs.reports.life_rows.Goals as goal
 
 pub returns-in_default-clause-farm : goal.returns-in_default-clause-farm
 returns-in_default-clause-farm c =
-    none_heard c.args.books.now c.args.moment c.args.host c.args.seq c.none.result (sym c.life.ensures ∙ c.in_default.is) c.none.ensures.hosts c.none.ensures.slots
+    none_heard c.args.books.now.farm c.args.moment c.args.host c.args.seq c.none.result (sym c.life.ensures ∙ c.in_default.is) c.none.ensures.hosts c.none.ensures.slots
 
 pub returns-in_default-clause-ready : goal.returns-in_default-clause-ready
-returns-in_default-clause-ready c = bare_ready c.args.books.now c.none.result record { hosts = c.none.ensures.hosts; slots = c.none.ensures.slots }
+returns-in_default-clause-ready c = bare_ready c.args.books.now.farm c.none.result record { hosts = c.none.ensures.hosts; slots = c.none.ensures.slots }
 
 pub returns-clause-farm : goal.returns-clause-farm
 returns-clause-farm c =
-    let f = c.args.books.now in
+    let f = c.args.books.now.farm in
     let m = c.args.moment in
     let host = c.args.host in
     let old = c.in-Some.life in
@@ -29,7 +29,7 @@ returns-clause-farm c =
 
 pub returns-clause-ready : goal.returns-clause-ready
 returns-clause-ready c =
-    let f = c.args.books.now in
+    let f = c.args.books.now.farm in
     let host = c.args.host in
     let life = c.heard_life.result in
     both_ok c.one_life.result (λ (rows : Rows). rows.hosts.items ≡ (host, life) ∷ []) (λ (rows : Rows). rows.slots.items ≡ []) (AreReady f)

@@ -9,16 +9,16 @@ use Rattle.farm_changes.proofs.rows_of.boot_rows.Goals as goal
 use Rattle.farm_changes.proofs.rows_of.boot_rows.Goals.{in-Some+in_ok-lose, in_default}
 
 pub expire-requires-clause-framed : goal.expire-requires-clause-framed
-expire-requires-clause-framed c = framed_begun c.args.books.now c.args.moment c.new-draft.result c.requires.kept c.new-draft.ensures
+expire-requires-clause-framed c = framed_begun c.args.books.now.farm c.args.moment c.new-draft.result c.requires.kept c.new-draft.ensures
 
 pub lose-requires : goal.lose-requires
 lose-requires c =
-    silenced_ends c.args.books.now c.args.moment c.expire.new.self c.requires.kept
-    (silenced_is c.args.books.now c.args.moment c.new-draft.result c.expire.new.self c.new-draft.ensures c.in_ok-expire.ensures)
+    silenced_ends c.args.books.now.farm c.args.moment c.expire.new.self c.requires.kept
+    (silenced_is c.args.books.now.farm c.args.moment c.new-draft.result c.expire.new.self c.new-draft.ensures c.in_ok-expire.ensures)
 
 pub into_rows-requires : goal.into_rows-requires
 into_rows-requires c =
-    let f = c.args.books.now in
+    let f = c.args.books.now.farm in
     let m = c.args.moment in
     let silenced = silenced_is f m c.new-draft.result c.expire.new.self c.new-draft.ensures c.in_ok-expire.ensures in
     elim c.match-ending_life.branch [
@@ -28,7 +28,7 @@ into_rows-requires c =
 
 pub returns-clause-farm : goal.returns-clause-farm
 returns-clause-farm c =
-    let f = c.args.books.now in
+    let f = c.args.books.now.farm in
     let m = c.args.moment in
     let line = c.args.line.now in
     let silenced = silenced_is f m c.new-draft.result c.expire.new.self c.new-draft.ensures c.in_ok-expire.ensures in

@@ -8,14 +8,12 @@ use Rattle.farm_rows.specs.declared.row_change.RowChange.TheVariants as change
 use Rattle.farm_rows.specs.Changes.{row_after, row_at, slot_change}
 use Rattle.farm_rows.specs.Rows.{head_row}
 use Rattle.farm_books.specs.Bookings.{booked_at}
-use Rattle.depend_book.specs.Book.{joined}
 use Rattle.farm_core.proofs.BookedRows.{booking_made}
 use Rattle.farm_core.proofs.changes.rows_of_booking.Goals as goal
 
 pub returns : goal.returns
 returns c = λ k.
-    let f = c.args.books.now in
-    let b = c.args.depends.now in
+    let f = c.args.books.now.farm in
     let slot = c.args.slot in
     let host = c.args.host in
     let e : Entry = record { moment = c.args.moment; act = Book slot host } in
@@ -27,5 +25,5 @@ returns c = λ k.
     ∙ ap (λ (cs : List RowChange). cs ++ change.Put (row.Head head) ∷ [])
     (c.in_ok-push.ensures.items ∙ (ap (λ (cs : List RowChange). cs ++ c.of_slot.result ∷ []) c.new-rows.ensures.items ∙ ap (λ (x : RowChange). x ∷ []) c.of_slot.ensures))
     in
-    subst (λ (cs : List RowChange). row_at (after (joined f b) e) k ≡ row_after cs k (row_at (joined f b) k)) (sym all)
-    (booking_made f b slot host c.args.moment c.requires s head told (c.head_at.ensures ∙ ap (λ (n : ℕ). record (head_row (joined f b)) { moment = n }) c.later_of-now.ensures) k)
+    subst (λ (cs : List RowChange). row_at (after f e) k ≡ row_after cs k (row_at f k)) (sym all)
+    (booking_made f slot host c.args.moment c.requires.allowed s head told (c.head_at.ensures ∙ ap (λ (n : ℕ). record (head_row f) { moment = n }) c.later_of-now.ensures) k)

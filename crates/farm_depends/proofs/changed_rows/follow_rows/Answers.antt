@@ -1,33 +1,65 @@
-use Rattle.std.proofs.Common.{◌≡◌, ◌∙◌, ◌≤◌, ◌+◌, ◌++◌, ℕ, List, length, sym, ap, subst}
+use Rattle.std.proofs.Common.{◌≡◌, ◌∙◌, ◌≤◌, ◌+◌, ◌++◌, ℕ, List, All, false, length, nat_eq, sym, ap, subst, arith}
+use Rattle.std.specs.List.{IsDistinct}
+use Rattle.std.proofs.lemmas.List.Elements.{All-weaker}
+use Rattle.farm_types.specs.Depends.{is_done}
+use Rattle.farm_types.specs.Farm.{Farm}
 use Rattle.farm_rows.specs.declared.row_change.RowChange.{RowChange}
 use Rattle.farm_rows.specs.Changes.{MakesRows}
-use Rattle.depend_graph.specs.Graph.{HasMet, with_all_done}
+use Rattle.depend_graph.specs.Graph.{HasMet, is_flagged, with_all_done}
 use Rattle.depend_book.specs.declared.new_depend.NewDepend.{NewDepend}
-use Rattle.depend_book.specs.Book.{joined}
-use Rattle.farm_depends.specs.Follow.{after_follow}
+use Rattle.depend_book.specs.Book.{DependLists}
+use Rattle.farm_books.specs.Books.{depends_of}
+use Rattle.farm_books.proofs.WholeBooks.{whole_beside}
+use Rattle.farm_depends.specs.Follow.{after_follow, slots_after}
 use Rattle.farm_depends.specs.FollowRows.{all_coming_rows, dropped_rows, met_rows}
 use Rattle.farm_depends.proofs.RowsAfter.{makes_follow, room_left}
+use Rattle.farm_depends.proofs.Wholes.{fits_beside, same_depends}
 use Rattle.farm_depends.proofs.changed_rows.follow_rows.Goals as goal
 
 pub add_coming-requires : goal.add_coming-requires
 add_coming-requires c =
-    let b = c.args.depends.now in
+    let v = c.args.books.now in
     let a = c.requires.acted in
-    subst (λ (ns : List NewDepend). b.next + length ns ≤ 4294967296) (sym c.as_slice.ensures) (room_left (joined a.0 b) c.args.follow.now.depends c.kept.ensures.next_within a.1.fits.room)
+    let here = c.depends-depends.result.now in
+    let next : here.next ≡ v.farm.next_depend = ap (λ (b : DependLists). b.next) c.depends-depends.ensures in
+    let left = room_left a.0 c.args.follow.now.depends (subst (λ (n : ℕ). n ≤ 4294967296) (ap (λ (g : Farm). g.next_depend) a.1.depends) c.kept.ensures.book.next_within) a.1.fits.room in
+    let same : a.0.next_depend ≡ v.farm.next_depend = ap (λ (g : Farm). g.next_depend) (sym a.1.depends) in
+    omega (arith, left, same, next, ap length c.as_slice.ensures)
+
+pub add_met-requires-clause-differ : goal.add_met-requires-clause-differ
+add_met-requires-clause-differ c = subst (IsDistinct nat_eq) (sym c.as_slice-2.ensures) c.requires.acted.1.fits.done_differ
+
+pub add_met-requires-clause-undone : goal.add_met-requires-clause-undone
+add_met-requires-clause-undone c =
+    let v = c.args.books.now in
+    let a = c.requires.acted in
+    let flags : (slot : ℕ) → is_done v.farm.slots slot ≡ is_flagged c.depends-depends.result.now.graph.done slot =
+    λ slot. sym (c.requires.whole.fits.done slot) ∙ ap (λ (b : DependLists). is_flagged b.graph.done slot) (sym c.depends-depends.ensures) in
+    subst (All (λ slot. is_flagged c.depends-depends.result.now.graph.done slot ≡ false)) (sym c.as_slice-2.ensures)
+    (All-weaker (λ slot. is_done v.farm.slots slot ≡ false) (λ slot. is_flagged c.depends-depends.result.now.graph.done slot ≡ false) (λ slot undone. sym (flags slot) ∙ undone) c.args.follow.now.done
+    a.1.fits.undone)
 
 pub returns : goal.returns
 returns c = λ f a.
-    let b = c.args.depends.now in
+    let v = c.args.books.now in
+    let b = depends_of v in
+    let here = c.depends-depends.result.now in
     let w = c.args.follow.now in
     let rows = c.in_ok-rows.rows.items in
     let met = c.in_ok-add_met.ensures in
-    let has = subst (λ (ss : List ℕ). HasMet b.graph.depends (with_all_done b.graph ss).depends met.0) c.as_slice-2.ensures met.1 in
+    let own = c.depends-depends.ensures in
+    let has = subst (λ (ss : List ℕ). HasMet b.graph.depends (with_all_done b.graph ss).depends met.0) c.as_slice-2.ensures
+    (subst (λ (x : DependLists). HasMet x.graph.depends (with_all_done x.graph c.as_slice-2.result.now).depends met.0) own met.1) in
     let all : c.add_met.new.rows.items ≡ ((rows ++ all_coming_rows b.graph.done b.next w.depends) ++ dropped_rows b w.dropped) ++ met_rows b met.0 =
     met.2
-    ∙ ap (λ (cs : List RowChange). cs ++ met_rows b met.0)
+    ∙ (ap (λ (cs : List RowChange). cs ++ met_rows here met.0)
     (c.in_ok-add_dropped.ensures
-    ∙ ap (λ (cs : List RowChange). cs ++ dropped_rows b w.dropped)
-    (c.in_ok-add_coming.ensures ∙ ap (λ (ns : List NewDepend). rows ++ all_coming_rows b.graph.done b.next ns) c.as_slice.ensures))
+    ∙ ap (λ (cs : List RowChange). cs ++ dropped_rows here w.dropped)
+    (c.in_ok-add_coming.ensures ∙ ap (λ (ns : List NewDepend). rows ++ all_coming_rows here.graph.done here.next ns) c.as_slice.ensures))
+    ∙ ap (λ (x : DependLists). ((rows ++ all_coming_rows x.graph.done x.next w.depends) ++ dropped_rows x w.dropped) ++ met_rows x met.0) own)
     in
-    subst (λ (cs : List RowChange). MakesRows (joined f b) (after_follow (joined f b) w) cs) (sym all)
-    (makes_follow c.args.books.now f b w c.requires.whole c.kept.ensures a.alone a.fits a.count met.0 has rows (c.in_ok-rows.ensures b f a))
+    let same = same_depends v c.requires.whole f a.depends in
+    subst (λ (cs : List RowChange). MakesRows f (after_follow f w) cs) (sym all)
+    (subst (λ (g : Farm). MakesRows g (after_follow g w) (((rows ++ all_coming_rows b.graph.done b.next w.depends) ++ dropped_rows b w.dropped) ++ met_rows b met.0)) same
+    (makes_follow v.farm f b w (whole_beside v c.requires.whole) c.kept.ensures.book (fits_beside v c.requires.whole f w same a.fits) a.count met.0 has rows
+    (subst (λ (g : Farm). MakesRows g (record g { slots = slots_after g.slots w }) rows) (sym same) (c.in_ok-rows.ensures f a))))

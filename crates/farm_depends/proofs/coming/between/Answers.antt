@@ -13,7 +13,7 @@ use Rattle.farm_depends.proofs.coming.between.Goals as goal
 
 pub check_groups-requires-clause-each : goal.check_groups-requires-clause-each
 check_groups-requires-clause-each c =
-    let f = c.args.books.now in
+    let f = c.args.books.now.farm in
     let spec = c.args.spec.now in
     let are : c.in_ok-groups.groups ≡ new_groups f spec = c.in_ok-groups.ensures ∙ found_groups f spec c.args.waiter c.args.target c.requires.waiter c.requires.target in
     subst (λ (gs : List Group). All IsGroup gs) (sym are) (new_are_groups f c.requires.kept spec c.requires.waiter.accepted c.requires.target.accepted)
@@ -21,7 +21,7 @@ check_groups-requires-clause-each c =
 pub returns-in_err-check_groups : goal.returns-in_err-check_groups
 returns-in_err-check_groups c =
     let p = err_from_is_err_and c.from_residual-in_err-check_groups.result c.from_residual-in_err-check_groups.ensures.1 in
-    let f = c.args.books.now in
+    let f = c.args.books.now.farm in
     let spec = c.args.spec.now in
     let counts = c.args.counts.now in
     let groups = c.in_ok-groups.groups in
@@ -32,7 +32,7 @@ returns-in_err-check_groups c =
 
 pub returns : goal.returns
 returns c =
-    let f = c.args.books.now in
+    let f = c.args.books.now.farm in
     let spec = c.args.spec.now in
     let counts = c.args.counts.now in
     let groups = c.in_ok-groups.groups in

@@ -4,4 +4,4 @@ use Rattle.farm_depends.specs.Completing.{blocked_among}
 use Rattle.farm_depends.proofs.completing.blocked_among.Given as goal
 
 abbrev pub invariant-loop-slot : goal.invariant-loop-slot
-invariant-loop-slot l = l.blocked ++ blocked_among l.books.slots (drop l.slot-index l.slots) ≡ blocked_among l.books.slots l.slots
+invariant-loop-slot l = l.blocked ++ blocked_among l.books.farm.slots (drop l.slot-index l.slots) ≡ blocked_among l.books.farm.slots l.slots

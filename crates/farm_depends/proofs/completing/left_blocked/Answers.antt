@@ -10,13 +10,13 @@ use Rattle.farm_depends.proofs.completing.left_blocked.Goals as goal
 
 pub returns-then-is_empty : goal.returns-then-is_empty
 returns-then-is_empty c =
-    let slots = c.args.books.now.slots in
+    let slots = c.args.books.now.farm.slots in
     let none : eqb (length (blocked_among slots c.args.done.now)) 0 ≡ true = ap (λ (ns : List ℕ). eqb (length ns) 0) (sym c.in_ok-eaten.ensures) ∙ (sym c.is_empty.ensures ∙ c.if-is_empty.true) in
     c.in_ok-blocked.ensures ∙ none_eaten slots c.args.done.now none c.args.slots.now
 
 pub returns : goal.returns
 returns c =
-    let slots = c.args.books.now.slots in
+    let slots = c.args.books.now.farm.slots in
     let done = c.args.done.now in
     let eaten = c.as_slice.ensures ∙ c.in_ok-eaten.ensures in
     let long : length c.in_ok-marks.marks.items ≡ SLOT_LIMIT = ap length c.in_ok-marks.ensures ∙ length-replicate {A = Bool} SLOT_LIMIT false in

@@ -4,7 +4,6 @@ use Rattle.indexmap.specs.IndexMap.{get}
 use Rattle.farm_types.specs.Farm.{Farm}
 use Rattle.farm_rows.specs.declared.row_change.RowChange.{RowChange}
 use Rattle.farm_rows.specs.Changes.{MakesRows}
-use Rattle.depend_book.specs.Book.{joined}
 use Rattle.farm_depends.specs.Follow.{IsMovable, put_blocked, put_opened, slots_after}
 use Rattle.farm_depends.specs.FollowRows.{Stands}
 use Rattle.farm_depends.proofs.FramesRead.{start_stands}
@@ -12,19 +11,19 @@ use Rattle.farm_depends.proofs.MovedSlots.{still_movable}
 use Rattle.farm_depends.proofs.moved_rows.moved_rows.Goals as goal
 
 pub returns : goal.returns
-returns c = λ b f a.
+returns c = λ f a.
     let w = c.args.follow.now in
-    let own = c.args.books.now.slots in
+    let own = c.args.books.now.farm.slots in
     let first = c.as_slice.result.now in
     let second = c.as_slice-2.result.now in
     let frames = get nat_eq c.in_ok-frames.frames in
-    let start : Stands (joined f b) own (joined f b) c.new-rows.result.items frames =
-    subst (λ (cs : List RowChange). Stands (joined f b) own (joined f b) cs frames) (sym c.new-rows.ensures.items) (start_stands c.args.books.now f b c.args.acted.now w frames a c.in_ok-frames.ensures) in
-    let opened = c.in_ok-open_rows.ensures (joined f b) (joined f b) start (subst (λ (ns : List ℕ). All (IsMovable f.slots) ns) (sym c.as_slice.ensures) a.fits.opened_movable) in
+    let start : Stands f own f c.new-rows.result.items frames =
+    subst (λ (cs : List RowChange). Stands f own f cs frames) (sym c.new-rows.ensures.items) (start_stands c.args.books.now.farm f c.args.acted.now w frames a c.in_ok-frames.ensures) in
+    let opened = c.in_ok-open_rows.ensures f f start (subst (λ (ns : List ℕ). All (IsMovable f.slots) ns) (sym c.as_slice.ensures) a.fits.opened_movable) in
     let now = put_opened first f.slots in
     let movable : All (IsMovable now) second =
     still_movable now f.slots w.opened w.blocked second (ap (λ (ns : List ℕ). put_opened ns f.slots) c.as_slice.ensures) c.as_slice-2.ensures a.fits.blocked_movable in
-    let blocked = c.in_ok-block_rows.ensures (joined f b) (joined (record f { slots = now }) b) opened movable in
-    let same : joined (record f { slots = put_blocked w.raises second now }) b ≡ joined (record f { slots = slots_after f.slots w }) b =
-    λ i. joined (record f { slots = put_blocked w.raises (c.as_slice-2.ensures i) (put_opened (c.as_slice.ensures i) f.slots) }) b in
-    subst (λ (h : Farm). MakesRows (joined f b) h c.block_rows.new.rows.items) same blocked.rows_made
+    let blocked = c.in_ok-block_rows.ensures f (record f { slots = now }) opened movable in
+    let same : record f { slots = put_blocked w.raises second now } ≡ record f { slots = slots_after f.slots w } =
+    λ i. record f { slots = put_blocked w.raises (c.as_slice-2.ensures i) (put_opened (c.as_slice.ensures i) f.slots) } in
+    subst (λ (h : Farm). MakesRows f h c.block_rows.new.rows.items) same blocked.rows_made

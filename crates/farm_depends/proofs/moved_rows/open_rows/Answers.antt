@@ -14,7 +14,7 @@ pub loop-slot-preserved : goal.loop-slot-preserved
 loop-slot-preserved c = λ g f stands movable.
     let l = c.loop-slot in
     let slots = c.args.slots.now in
-    let own = c.args.books.now.slots in
+    let own = c.args.books.now.farm.slots in
     let m = l.invariant g f stands movable in
     let slot = c.slot-item.result in
     let next = record m.farm { slots = changed_at m.farm.slots slot (in_state frame_state.Waiting) } in
@@ -32,7 +32,7 @@ pub returns : goal.returns
 returns c = λ g f stands movable.
     let l = c.loop-slot in
     let slots = c.args.slots.now in
-    let own = c.args.books.now.slots in
+    let own = c.args.books.now.farm.slots in
     let last = record f { slots = put_opened slots f.slots } in
     let none : drop l.slot-index slots ≡ [] = drop_all l.slot-index slots (omega arith) in
     end_moving put_opened g own last l.rows.items (get nat_eq l.frames) (λ ss. refl)

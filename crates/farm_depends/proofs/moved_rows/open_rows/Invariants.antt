@@ -8,5 +8,5 @@ use Rattle.farm_depends.proofs.moved_rows.open_rows.Given as goal
 
 abbrev pub invariant-loop-slot : goal.invariant-loop-slot
 invariant-loop-slot l =
-    (g f : Farm) → Stands g l.books.slots f l.fn.rows.items (get nat_eq l.fn.frames) → All (IsMovable f.slots) l.slots
-    → IsMoving put_opened g l.books.slots (record f { slots = put_opened l.slots f.slots }) l.rows.items (get nat_eq l.frames) (drop l.slot-index l.slots)
+    (g f : Farm) → Stands g l.books.farm.slots f l.fn.rows.items (get nat_eq l.fn.frames) → All (IsMovable f.slots) l.slots
+    → IsMoving put_opened g l.books.farm.slots (record f { slots = put_opened l.slots f.slots }) l.rows.items (get nat_eq l.frames) (drop l.slot-index l.slots)

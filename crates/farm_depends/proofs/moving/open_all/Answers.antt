@@ -1,11 +1,12 @@
 use Rattle.std.proofs.Common.{arith}
+use Rattle.farm_books.specs.Books.{with_farm}
 use Rattle.farm_depends.specs.Follow.{put_opened}
-use Rattle.farm_depends.proofs.MovedSlots.{opened_step}
+use Rattle.farm_depends.proofs.MovedSlots.{books_opened}
 use Rattle.farm_depends.proofs.moving.open_all.Goals as goal
 
 pub loop-slot-preserved : goal.loop-slot-preserved
 loop-slot-preserved c =
     let l = c.loop-slot in
-    let first = record c.args.books.now { slots = put_opened c.args.slots.now c.args.books.now.slots } in
-    let step = opened_step l.books c.open.new.books first c.args.slots.now l.slot-index c.slot-item.result (omega arith) c.slot-item.is c.open.ensures l.invariant.movable l.invariant.put in
+    let first = with_farm c.args.books.now (record c.args.books.now.farm { slots = put_opened c.args.slots.now c.args.books.now.farm.slots }) in
+    let step = books_opened l.books c.open.new.books first c.args.slots.now l.slot-index c.slot-item.result (omega arith) c.slot-item.is c.open.ensures l.invariant.movable l.invariant.put in
     record { movable = step.0; put = step.1 }

@@ -14,7 +14,7 @@ as_shape ls = record { layers = ls }
 
 pub returns : goal.returns
 returns c =
-    let f = c.args.books.now in
+    let f = c.args.books.now.farm in
     let spec = c.args.spec.now in
     let lists = c.in_ok-places.places in
     let found =

@@ -20,7 +20,7 @@ own_coming-requires-clause-waiter c =
 
 pub counts_more-counts-requires : goal.counts_more-counts-requires
 counts_more-counts-requires c =
-    let farm = placed c.args.books.now c.args.job.now in
+    let farm = placed c.args.books.now.farm c.args.job.now in
     let spec = c.spec-item.result in
     let groups = ap (λ (n : NewDepend). length n.groups) c.in_ok-new.ensures.1 in
     let room = (allowed_by farm c.loop-spec.counts spec c.in_ok-new.ensures.0).room in
@@ -29,7 +29,7 @@ counts_more-counts-requires c =
 pub returns-in_err-new : goal.returns-in_err-new
 returns-in_err-new c =
     let p = err_from_is_err_and c.from_residual.result c.from_residual.ensures.1 in
-    let farm = placed c.args.books.now c.args.job.now in
+    let farm = placed c.args.books.now.farm c.args.job.now in
     let job = c.args.job.now in
     let spec = c.spec-item.result in
     let i = c.loop-spec.spec-index in
@@ -40,7 +40,7 @@ returns-in_err-new c =
 
 pub loop-spec-preserved : goal.loop-spec-preserved
 loop-spec-preserved c =
-    let farm = placed c.args.books.now c.args.job.now in
+    let farm = placed c.args.books.now.farm c.args.job.now in
     let job = c.args.job.now in
     let spec = c.spec-item.result in
     let i = c.loop-spec.spec-index in

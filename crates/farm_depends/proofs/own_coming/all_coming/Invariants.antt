@@ -6,7 +6,7 @@ use Rattle.farm_depends.proofs.own_coming.all_coming.Given as goal
 
 abbrev pub invariant-loop-spec : goal.invariant-loop-spec
 invariant-loop-spec l = record {
-  left : refusal_with_all (placed l.books l.job) l.counts (drop l.spec-index l.job.depends) ≡ refusal_with_all (placed l.books l.job) l.fn.counts l.job.depends;
-  all : l.all ≡ each_coming (placed l.books l.job) (take l.spec-index l.job.depends);
+  left : refusal_with_all (placed l.books.farm l.job) l.counts (drop l.spec-index l.job.depends) ≡ refusal_with_all (placed l.books.farm l.job) l.fn.counts l.job.depends;
+  all : l.all ≡ each_coming (placed l.books.farm l.job) (take l.spec-index l.job.depends);
   within : l.counts.groups ≤ MOST_GROUPS;
 }

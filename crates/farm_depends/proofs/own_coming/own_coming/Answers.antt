@@ -14,7 +14,7 @@ use Rattle.farm_depends.proofs.own_coming.own_coming.Goals as goal
 
 pub returns-in_err-waiter : goal.returns-in_err-waiter
 returns-in_err-waiter c =
-    let f = c.args.books.now in
+    let f = c.args.books.now.farm in
     let job = c.args.job.now in
     let own = c.args.own.now in
     let counts = c.args.counts.now in
@@ -29,7 +29,7 @@ returns-in_err-waiter c =
 
 pub returns-in_err-target : goal.returns-in_err-target
 returns-in_err-target c =
-    let f = c.args.books.now in
+    let f = c.args.books.now.farm in
     let job = c.args.job.now in
     let own = c.args.own.now in
     let counts = c.args.counts.now in
@@ -46,7 +46,7 @@ returns-in_err-target c =
 
 pub groups_between-requires-clause-each : goal.groups_between-requires-clause-each
 groups_between-requires-clause-each c =
-    let f = c.args.books.now in
+    let f = c.args.books.now.farm in
     let job = c.args.job.now in
     let own = c.args.own.now in
     let counts = c.args.counts.now in
@@ -62,7 +62,7 @@ groups_between-requires-clause-each c =
 
 pub returns-in_err-groups : goal.returns-in_err-groups
 returns-in_err-groups c =
-    let f = c.args.books.now in
+    let f = c.args.books.now.farm in
     let job = c.args.job.now in
     let own = c.args.own.now in
     let counts = c.args.counts.now in
@@ -81,7 +81,7 @@ returns-in_err-groups c =
 
 pub returns-then-is : goal.returns-then-is
 returns-then-is c =
-    let f = c.args.books.now in
+    let f = c.args.books.now.farm in
     let job = c.args.job.now in
     let own = c.args.own.now in
     let counts = c.args.counts.now in
@@ -97,7 +97,7 @@ returns-then-is c =
 
 pub returns-in_err-target-2 : goal.returns-in_err-target-2
 returns-in_err-target-2 c =
-    let f = c.args.books.now in
+    let f = c.args.books.now.farm in
     let job = c.args.job.now in
     let own = c.args.own.now in
     let counts = c.args.counts.now in
@@ -114,7 +114,7 @@ returns-in_err-target-2 c =
 
 pub groups_between-requires-2-clause-each : goal.groups_between-requires-2-clause-each
 groups_between-requires-2-clause-each c =
-    let f = c.args.books.now in
+    let f = c.args.books.now.farm in
     let job = c.args.job.now in
     let own = c.args.own.now in
     let counts = c.args.counts.now in
@@ -130,7 +130,7 @@ groups_between-requires-2-clause-each c =
 
 pub returns-in_err-groups-2 : goal.returns-in_err-groups-2
 returns-in_err-groups-2 c =
-    let f = c.args.books.now in
+    let f = c.args.books.now.farm in
     let job = c.args.job.now in
     let own = c.args.own.now in
     let counts = c.args.counts.now in
@@ -149,7 +149,7 @@ returns-in_err-groups-2 c =
 
 pub returns : goal.returns
 returns c =
-    let f = c.args.books.now in
+    let f = c.args.books.now.farm in
     let job = c.args.job.now in
     let own = c.args.own.now in
     let counts = c.args.counts.now in

@@ -1,38 +1,49 @@
 use Rattle.std.proofs.Common.{sym, subst}
-use Rattle.depend_book.specs.Book.{joined}
+use Rattle.farm_types.specs.Farm.{Farm}
+use Rattle.farm_types.specs.Step.{HasCondition}
+use Rattle.farm_books.specs.Books.{depends_of}
+use Rattle.farm_books.proofs.WholeBooks.{to_whole, whole_beside}
 use Rattle.farm_changes.specs.Change.{after_change}
-use Rattle.farm_depends.specs.Follow.{Follows}
+use Rattle.farm_depends.specs.Follow.{Follows, nothing_follows}
 use Rattle.farm_depends.specs.declared.follow.Follow.{Follow}
 use Rattle.farm_depends.proofs.Later.{depend_prepared, drop_prepared, submit_prepared}
-use Rattle.farm_depends.proofs.Beside.{rows_apart}
 use Rattle.farm_depends.proofs.Quiet.{quiet_by, quiet_follows}
 use Rattle.farm_depends.proofs.RetriedFollows.{retry_prepared}
+use Rattle.farm_depends.proofs.Wholes.{changed_farm, follows_of, prepares_of}
 use Rattle.farm_depends.proofs.preparing.prepare_follow.Goals as goal
 
 pub returns-in-Submit : goal.returns-in-Submit
 returns-in-Submit c =
-    submit_prepared c.args.depends.now c.args.books.now c.args.entry.now c.args.change.now c.requires.made c.in-Submit.spec c.follow_submit.result c.in-Submit.is c.follow_submit.ensures
+    submit_prepared c.args.books.now.farm c.args.entry.now c.args.change.now c.requires.made c.in-Submit.spec c.follow_submit.result c.in-Submit.is c.follow_submit.ensures
 
 pub returns-in-AddDepend : goal.returns-in-AddDepend
 returns-in-AddDepend c =
-    depend_prepared c.args.depends.now c.args.books.now c.args.entry.now c.args.change.now c.requires.made c.in-AddDepend.spec c.follow_depend.result c.in-AddDepend.is c.follow_depend.ensures
+    depend_prepared c.args.books.now.farm c.args.entry.now c.args.change.now c.requires.made c.in-AddDepend.spec c.follow_depend.result c.in-AddDepend.is c.follow_depend.ensures
 
 pub returns-in-DropDepend : goal.returns-in-DropDepend
 returns-in-DropDepend c =
-    drop_prepared c.args.depends.now c.args.books.now c.args.entry.now c.args.change.now c.requires.made c.in-DropDepend.depend c.follow_drop.result c.in-DropDepend.is c.follow_drop.ensures
+    drop_prepared c.args.books.now.farm c.args.entry.now c.args.change.now c.requires.made c.in-DropDepend.depend c.follow_drop.result c.in-DropDepend.is c.follow_drop.ensures
 
 pub follow_retried-requires : goal.follow_retried-requires
-follow_retried-requires c = rows_apart c.args.books.now c.args.depends.now c.requires.whole.kept.rows
+follow_retried-requires c = c.requires.whole.kept.rows
 
 pub returns-in-RetryFrame : goal.returns-in-RetryFrame
 returns-in-RetryFrame c =
-    retry_prepared c.args.books.now c.args.depends.now c.args.entry.now c.args.change.now c.requires.whole c.requires.made c.kept.ensures c.in-RetryFrame.place c.in-RetryFrame.is c.follow_retried.result c.follow_retried.ensures
+    let v = c.args.books.now in
+    let e = c.args.entry.now in
+    let change = c.args.change.now in
+    prepares_of v c.requires.whole (after_change v.farm change) e.act c.follow_retried.result (changed_farm v c.requires.whole change)
+    (retry_prepared v.farm (depends_of v) e change (whole_beside v c.requires.whole) c.requires.made c.kept.ensures.book c.in-RetryFrame.place c.in-RetryFrame.is c.follow_retried.result
+    c.follow_retried.ensures)
 
 pub returns-in_default : goal.returns-in_default
 returns-in_default c =
-    let f = c.args.books.now in
-    let b = c.args.depends.now in
+    let v = c.args.books.now in
+    let f = v.farm in
     let e = c.args.entry.now in
+    let change = c.args.change.now in
     let quiet = quiet_by e.act c.in_default.not-Heard c.in_default.not-Submit c.in_default.not-AddDepend c.in_default.not-DropDepend c.in_default.not-KillJob c.in_default.not-EatFrame c.in_default.not-RetryFrame in
-    subst (λ (w : Follow). Follows (joined f b) (joined (after_change f c.args.change.now) b) e.act w) (sym c.follow_nothing.ensures)
-    (quiet_follows f b e c.args.change.now c.requires.whole c.requires.condition c.requires.made quiet)
+    let allowed = to_whole v c.requires.whole (λ (g : Farm). HasCondition g e.act) c.requires.condition in
+    subst (λ (w : Follow). Follows f (after_change f change) e.act w) (sym c.follow_nothing.ensures)
+    (follows_of v c.requires.whole (after_change f change) e.act nothing_follows (changed_farm v c.requires.whole change)
+    (quiet_follows f (depends_of v) e change (whole_beside v c.requires.whole) allowed c.requires.made quiet))

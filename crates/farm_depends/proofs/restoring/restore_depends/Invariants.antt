@@ -1,6 +1,13 @@
-use Rattle.std.proofs.Common.{drop}
-use Rattle.farm_depends.specs.Restored.{IsRestoring, with_depends}
+-- The first rows are put back, and nothing but the depends changes.
+use Rattle.std.proofs.Common.{◌≡◌, drop}
+use Rattle.farm_rows.specs.Changes.{beside}
+use Rattle.farm_books.specs.Books.{depends_of, with_depends}
+use Rattle.farm_depends.specs.Restored.{IsRestoring}
 use Rattle.farm_depends.proofs.restoring.restore_depends.Given as goal
 
 abbrev pub invariant-loop-row : goal.invariant-loop-row
-invariant-loop-row l = IsRestoring (with_depends l.books l.rows l.met l.next) l.row-index l.depends (drop l.at l.met)
+invariant-loop-row l =
+    record {
+      rest : l.restored ≡ with_depends l.fn.books (depends_of l.restored);
+      so_far : IsRestoring (beside l.fn.books.farm l.rows l.met l.next) l.row-index (depends_of l.restored) (drop l.at l.met);
+    }

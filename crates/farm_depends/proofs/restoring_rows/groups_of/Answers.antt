@@ -10,7 +10,7 @@ use Rattle.farm_depends.proofs.restoring_rows.groups_of.Goals as goal
 
 pub returns : goal.returns
 returns c =
-    let f = c.args.books.now in
+    let f = c.args.books.now.farm in
     let row = c.args.row.now in
     let waiter = c.in_ok-waiter.waiter in
     let target = c.in_ok-target.target in

@@ -5,4 +5,4 @@ use Rattle.farm_draft.proofs.rows.changed_lives.Given as goal
 
 -- the lives that were kept, with those that are left, come to what all come to
 abbrev pub invariant-loop-host : goal.invariant-loop-host
-invariant-loop-host l = IsPicked with_life l.books.hosts (IsOtherLife l.books.hosts) l.fn.over.entries l.entries.items l.host-iterator
+invariant-loop-host l = IsPicked with_life l.books.farm.hosts (IsOtherLife l.books.farm.hosts) l.fn.over.entries l.entries.items l.host-iterator

@@ -1,6 +1,6 @@
 use Rattle.std.proofs.Common.{sym}
 use Rattle.std.proofs.lemmas.Result.{on_ok_weaker}
-use Rattle.farm_finish.proofs.ClearedLayer.{layer_listed}
+use Rattle.farm_books.proofs.ClearedLayer.{layer_listed}
 use Rattle.farm_finish.proofs.rows_gone.layer_free.Goals as goal
 
 pub returns : goal.returns

@@ -18,7 +18,7 @@ number o = option_map (λ (j : JobRow). j.job) o
 
 pub returns-in_default : goal.returns-in_default
 returns-in_default c =
-    let f = c.args.books.now in
+    let f = c.args.books.now.farm in
     let place = c.args.place.now in
     let none : None ≡ number (pending_named f place.job) =
     c.in_default.ensures ∙ (ap (λ (b : JobLists). number (find (is_pending_named c.as_str.result.now) b.jobs)) c.jobs-jobs.ensures ∙ ap (λ (name : List ℕ). number (find (is_pending_named name) f.jobs)) c.as_str.ensures) in
@@ -27,7 +27,7 @@ returns-in_default c =
 pub returns-in_err-check_part : goal.returns-in_err-check_part
 returns-in_err-check_part c =
     let p = err_from_is_err_and c.from_residual-in_err-check_part.result c.from_residual-in_err-check_part.ensures.1 in
-    let f = c.args.books.now in
+    let f = c.args.books.now.farm in
     let place = c.args.place.now in
     let job = c.in-Some.job in
     let shape = c.in_ok-shape.shape in
@@ -40,7 +40,7 @@ returns-in_err-check_part c =
 
 pub returns : goal.returns
 returns c =
-    let f = c.args.books.now in
+    let f = c.args.books.now.farm in
     let place = c.args.place.now in
     let job = c.in-Some.job in
     let shape = c.in_ok-shape.shape in

@@ -18,7 +18,7 @@ returns-in-Ok-clause-answer g c =
     recorded_entry c.args.recorder.now.farm c.record.new.recorder.farm c.args.entry.now c.args.change c.in-Ok.line c.record.result
     (GoesOn g.K.Keeper.commits g.K.Keeper.tells g.K.Keeper.faults c.args.recorder.now.farm c.args.recorder.now.keeper c.record.new.recorder.keeper) c.requires.makes (
     c.in-Ok.ensures
-    ∙ ap (λ told. reply_text (ok_reply c.args.entry.now.act told) ++ 10 ∷ []) (c.answer.ensures ∙ c.requires.makes.answer)
+    ∙ ap (λ told. reply_text (ok_reply c.args.entry.now.act told) ++ 10 ∷ []) (c.answer.ensures ∙ c.requires.makes.planned.answer)
     ) c.record.ensures.recorded c.record.ensures.keeper
 
 pub returns-in-Err-clause-answer : goal.returns-in-Err-clause-answer

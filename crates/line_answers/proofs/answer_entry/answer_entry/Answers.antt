@@ -12,4 +12,4 @@ returns-in-Err-clause-answer g c =
     (GoesOn-same g.K.Keeper.commits g.K.Keeper.tells g.K.Keeper.faults c.args.recorder.now.farm c.args.recorder.now.keeper) c.in-Err.ensures c.fault_line.ensures
 
 pub returns-in-Ok-clause-same : goal.returns-in-Ok-clause-same
-returns-in-Ok-clause-same g c = λ unstored. c.answer_change.ensures.same (unstored c.in-Ok.ensures.accepted)
+returns-in-Ok-clause-same g c = λ unstored. c.answer_change.ensures.same (unstored c.in-Ok.ensures.planned.accepted)

@@ -24,7 +24,7 @@ returns-in_err-change-clause-keeper g c =
     (sym (never_store _ c.from_residual.result c.from_residual.ensures.1)) (Continues-same g.K.Keeper.tells g.K.Keeper.faults c.args.recorder.now.keeper)
 
 pub returns-clause-same : goal.returns-clause-same
-returns-clause-same g c = λ unstored. c.record_change.ensures.same (unstored c.in_ok-change.ensures.accepted)
+returns-clause-same g c = λ unstored. c.record_change.ensures.same (unstored c.in_ok-change.ensures.planned.accepted)
 
 pub returns-in_err-change-clause-told : goal.returns-in_err-change-clause-told
 returns-in_err-change-clause-told g c =

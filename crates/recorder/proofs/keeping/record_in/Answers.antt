@@ -16,7 +16,7 @@ make_ready-requires g c = c.requires
 pub apply-requires-clause-ready : goal.apply-requires-clause-ready
 apply-requires-clause-ready g c =
     subst (λ (f : Farm). IsReady f c.make_ready.new.change) (sym c.in-Ok.ensures.farm)
-    (subst (IsReady c.args.farm.now) (sym c.in-Ok.ensures.ok) (ready_reserved c.args.farm.now c.args.change c.requires.makes.ready))
+    (subst (IsReady c.args.farm.now) (sym c.in-Ok.ensures.ok) (ready_reserved c.args.farm.now c.args.change c.requires.makes.planned.ready))
 
 pub apply-requires-clause-reserved : goal.apply-requires-clause-reserved
 apply-requires-clause-reserved g c = subst IsReserved (sym c.in-Ok.ensures.ok) (is_reserved c.args.change)

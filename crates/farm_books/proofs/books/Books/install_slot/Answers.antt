@@ -1,9 +1,9 @@
 use Rattle.std.proofs.Common.{◌≡◌, ◌∙◌, List, Option, Some, None, ap, subst, sym}
 use Rattle.std.specs.List.{slice_set}
 use Rattle.farm_types.specs.declared.attempt.ProcRow.{ProcRow}
-use Rattle.farm_types.specs.Farm.{Farm}
 use Rattle.farm_types.specs.Jobs.{JobLists}
 use Rattle.attempt_book.specs.Book.{AttemptLists, CanBegin}
+use Rattle.farm_books.specs.Books.{FarmBooks}
 use Rattle.farm_books.specs.declared.books.Books.TheInside.{Inside}
 use Rattle.farm_books.specs.Install.{CanInstall, procs_of}
 use Rattle.farm_books.proofs.SlotAttempts.{installed_procs, may_begin, slice_set-twice}
@@ -13,7 +13,7 @@ use Rattle.farm_books.proofs.books.Books.install_slot.Goals.{in-Some, in_default
 pub begin-requires : goal.begin-requires
 begin-requires c =
     let a = c.self.inside in
-    let can = subst (λ (f : Farm). CanInstall f.subs f.slots c.args.slot c.args.row.now) (sym c.self.view_is) c.requires in
+    let can = subst (λ (v : FarmBooks). CanInstall v.farm.subs v.farm.slots c.args.slot c.args.row.now) (sym c.self.view_is) c.requires in
     subst (λ (b : AttemptLists). CanBegin b c.args.slot c.in-Some.proc) (sym c.end.ensures)
     (may_begin a.attempts a.jobs.slots c.args.slot c.args.row.now c.in-Some.proc c.self.invariant.attempts_are can c.in-Some.is)
 

@@ -1,6 +1,5 @@
 use Rattle.std.proofs.Common.{◌≡◌, ◌++◌, ◌∙◌, List, map, ap}
 use Rattle.std.proofs.lemmas.Result.{on_ok_weaker}
-use Rattle.farm_types.specs.Farm.{Farm}
 use Rattle.farm_types.specs.declared.rows.AllocRow.{AllocRow}
 use Rattle.farm_types.specs.declared.rows.HostRow.{HostRow}
 use Rattle.farm_types.specs.declared.rows.JobRow.{JobRow}
@@ -10,6 +9,7 @@ use Rattle.farm_types.specs.declared.rows.SubRow.{SubRow}
 use Rattle.farm_types.specs.declared.slot_row.SlotRow.{SlotRow}
 use Rattle.farm_rows.specs.declared.farm_row.FarmRow.TheVariants as row
 use Rattle.farm_rows.specs.Rows.{numbered, slot_rows}
+use Rattle.farm_books.specs.Books.{FarmBooks}
 use Rattle.farm_books.specs.Rows.{book_rows}
 use Rattle.farm_books.proofs.PushedRows.{then_more}
 use Rattle.farm_books.proofs.books.Books.push_rows.Goals as goal
@@ -39,5 +39,5 @@ returns c =
     let three = then_more r2 r3 r7 _ _ four subs in
     let two = then_more r1 r2 r7 _ _ three allocs in
     let all = then_more old r1 r7 _ _ two shows in
-    all ∙ ap (λ (f : Farm). old ++ book_rows f) c.self.view_is)
+    all ∙ ap (λ (v : FarmBooks). old ++ book_rows v.farm) c.self.view_is)
     c.push_slots.ensures

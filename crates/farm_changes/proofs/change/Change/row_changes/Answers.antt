@@ -7,7 +7,7 @@ use Rattle.farm_changes.proofs.change.Change.row_changes.Goals as goal
 
 pub returns : goal.returns
 returns c =
-    let f = c.args.books.now in
+    let f = c.args.books.now.farm in
     let change = c.args.self.now in
     let left = c.leaving-left.result in
     let rest = more_put f change.rows.hosts.items change.moment left change.more in

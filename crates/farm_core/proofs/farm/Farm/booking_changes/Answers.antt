@@ -1,4 +1,4 @@
-use Rattle.std.proofs.Common.{◌≡◌, ◌∙◌, true, sym, subst}
+use Rattle.std.proofs.Common.{◌≡◌, true, sym, subst}
 use Rattle.std.proofs.lemmas.Result.{IfOk-weaker}
 use Rattle.farm_types.specs.declared.entry.Act.TheVariants.{Book}
 use Rattle.farm_types.specs.declared.entry.Entry.{Entry}
@@ -8,18 +8,15 @@ use Rattle.farm_types.specs.Step.{after}
 use Rattle.farm_types.proofs.Lists.{and_both}
 use Rattle.farm_rows.specs.declared.row_key.RowKey.{RowKey}
 use Rattle.farm_rows.specs.Changes.{row_after, row_at}
-use Rattle.depend_book.specs.Book.{joined}
-use Rattle.farm_core.proofs.Bookings.{record_joined}
 use Rattle.farm_core.proofs.farm.Farm.booking_changes.Goals as goal
 
-pub rows_of_booking-requires : goal.rows_of_booking-requires
-rows_of_booking-requires c =
-    let f = c.self.inside.books in
-    let b = c.self.inside.depends in
+pub rows_of_booking-requires-clause-allowed : goal.rows_of_booking-requires-clause-allowed
+rows_of_booking-requires-clause-allowed c =
+    let f = c.self.inside.books.farm in
     let slot = c.args.slot in
     let host = c.args.host in
-    let may : may_book (joined f b) slot host ≡ true = subst (λ (g : Farm). may_book g slot host ≡ true) (sym c.self.view_is) c.requires in
-    sym (record_joined f b c.self.invariant.alone c.self.invariant.kept.depends slot host) ∙ (and_both (may_record (joined f b) slot host) (tags_match (joined f b) slot host) may).0
+    let may : may_book f slot host ≡ true = subst (λ (g : Farm). may_book g slot host ≡ true) (sym c.self.view_is) c.requires in
+    (and_both (may_record f slot host) (tags_match f slot host) may).0
 
 pub returns : goal.returns
 returns c =

@@ -1,20 +1,22 @@
 use Rattle.std.proofs.Common.{sym, subst}
 use Rattle.farm_types.specs.Farm.{Farm}
 use Rattle.farm_types.specs.Step.{HasCondition}
-use Rattle.farm_core.proofs.Kept.{condition_apart, whole_rows}
-use Rattle.farm_core.specs.Change.{Prepares}
-use Rattle.farm_core.proofs.Prepared.{act_fails}
+use Rattle.farm_core.specs.Change.{Plans, Prepares}
+use Rattle.farm_core.proofs.Prepared.{act_fails, plan_fails}
 use Rattle.farm_core.proofs.farm.Farm.prepare.Goals as goal
 
-pub prepare-requires-clause-kept : goal.prepare-requires-clause-kept
-prepare-requires-clause-kept c = whole_rows c.self.inside.books c.self.inside.depends c.self.invariant
-
 pub prepare-requires-clause-condition : goal.prepare-requires-clause-condition
-prepare-requires-clause-condition c =
-    condition_apart c.self.inside.books c.self.inside.depends c.args.entry.now.act c.self.invariant
-    (subst (λ (f : Farm). HasCondition f c.args.entry.now.act) (sym c.self.view_is) c.requires.condition)
+prepare-requires-clause-condition c = subst (λ (f : Farm). HasCondition f c.args.entry.now.act) (sym c.self.view_is) c.requires.condition
 
 pub returns-in_err-act : goal.returns-in_err-act
 returns-in_err-act c =
     let e = c.args.entry.now in
-    subst (λ (f : Farm). Prepares f e c.from_residual.result) c.self.view_is (act_fails c.self.inside.books c.self.inside.depends e _ c.from_residual.result c.from_residual.ensures.1 c.in_err-act.ensures)
+    subst (λ (f : Farm). Prepares f e c.from_residual.result) c.self.view_is (act_fails c.self.inside.books.farm e _ c.from_residual.result c.from_residual.ensures.1 c.in_err-act.ensures)
+
+pub returns-in_err-change : goal.returns-in_err-change
+returns-in_err-change c =
+    let e = c.args.entry.now in
+    subst (λ (f : Farm). Prepares f e c.from_residual-in_err-change.result) c.self.view_is (plan_fails c.self.inside.books.farm e _ c.from_residual-in_err-change.result c.from_residual-in_err-change.ensures.1 c.in_err-change.ensures)
+
+pub with_rows-requires : goal.with_rows-requires
+with_rows-requires c = subst (λ (f : Farm). Plans f c.args.entry.now c.in_ok-change.change) c.self.view_is c.in_ok-change.ensures

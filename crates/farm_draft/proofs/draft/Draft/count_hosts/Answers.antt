@@ -9,4 +9,4 @@ pub returns-clause-value : goal.returns-clause-value
 returns-clause-value c =
     let a = c.self.inside in
     subst (λ (d : Drafted). c.count_hosts.result ≡ length d.farm.hosts) c.self.view_is
-    (c.count_hosts.ensures.value ∙ sym (length-laid with_life 0 (get nat_eq a.hosts) a.books.now.hosts))
+    (c.count_hosts.ensures.value ∙ sym (length-laid with_life 0 (get nat_eq a.hosts) a.books.now.farm.hosts))

@@ -28,7 +28,7 @@ loop-layer-preserved c =
     let l = c.layer-item.result in
     let shown = c.layers_of-layer-items.result.now in
     let places = c.layer_slots.result.now in
-    let base : c.self.inside.books.now ≡ d.base = ap (λ (x : Drafted). x.base) c.self.view_is in
+    let base : c.self.inside.books.now.farm ≡ d.base = ap (λ (x : Drafted). x.base) c.self.view_is in
     let layers : shown ≡ layers_of d.base.layers job =
     c.layers_of-layer-items.ensures ∙ (ap (λ (b : JobLists). layers_of b.layers job) c.jobs.ensures ∙ ap (λ (f : Farm). layers_of f.layers job) base) in
     let there : slice_get (layers_of d.base.layers job) index ≡ Some l =
@@ -46,7 +46,7 @@ returns c =
     let d = c.args.self.now in
     let job = c.args.job in
     let so_far = c.loop-layer.invariant in
-    let base : c.self.inside.books.now ≡ d.base = ap (λ (x : Drafted). x.base) c.self.view_is in
+    let base : c.self.inside.books.now.farm ≡ d.base = ap (λ (x : Drafted). x.base) c.self.view_is in
     let layers : c.layers_of-layer-items.result.now ≡ layers_of d.base.layers job =
     c.layers_of-layer-items.ensures ∙ (ap (λ (b : JobLists). layers_of b.layers job) c.jobs.ensures ∙ ap (λ (f : Farm). layers_of f.layers job) base) in
     let all = subst (λ (ls : List LayerRow). length ls ≤ c.loop-layer.layer-index) layers c.loop-layer-test.false in

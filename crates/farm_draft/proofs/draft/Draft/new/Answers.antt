@@ -6,5 +6,5 @@ use Rattle.farm_draft.proofs.draft.Draft.new.Goals as goal
 
 pub returns : goal.returns
 returns c =
-    over_farm-none c.args.books.now c.args.moment (get nat_eq c.new.result) (get nat_eq c.new-2.result)
+    over_farm-none c.args.books.now.farm c.args.moment (get nat_eq c.new.result) (get nat_eq c.new-2.result)
     (λ j. ap (lookup (nat_eq j)) c.new.ensures.empty) (λ j. ap (lookup (nat_eq j)) c.new-2.ensures.empty)

@@ -11,6 +11,6 @@ returns c =
     let next = get nat_eq c.insert.new.self in
     let updates = c.in_ok-insert.ensures.updates in
     let number : c.from.result ≡ c.args.host = c.from.ensures ∙ c.host.view_is in
-    subst (λ (n : ℕ). over_farm a.books.now a.moment next (get nat_eq a.slots) ≡ with_host c.args.self.now n c.args.life) number
-    (subst (λ (d : Drafted). over_farm a.books.now a.moment next (get nat_eq a.slots) ≡ with_host d c.from.result c.args.life) c.self.view_is
-    (over_farm-host a.books.now a.moment (get nat_eq a.hosts) (get nat_eq a.slots) next c.from.result c.args.life updates.1 updates.2))
+    subst (λ (n : ℕ). over_farm a.books.now.farm a.moment next (get nat_eq a.slots) ≡ with_host c.args.self.now n c.args.life) number
+    (subst (λ (d : Drafted). over_farm a.books.now.farm a.moment next (get nat_eq a.slots) ≡ with_host d c.from.result c.args.life) c.self.view_is
+    (over_farm-host a.books.now.farm a.moment (get nat_eq a.hosts) (get nat_eq a.slots) next c.from.result c.args.life updates.1 updates.2))

@@ -19,7 +19,7 @@ returns-in_err-change-clause-keeper g c =
     (sym (never_store _ c.from_residual.result c.from_residual.ensures.1)) (Continues-same g.K.Keeper.tells g.K.Keeper.faults c.args.self.now.keeper)
 
 pub returns-clause-same : goal.returns-clause-same
-returns-clause-same g c = λ unstored. c.record_answered.ensures.same (unstored c.in_ok-change.ensures.accepted)
+returns-clause-same g c = λ unstored. c.record_answered.ensures.same (unstored c.in_ok-change.ensures.planned.accepted)
 
 pub returns-clause-farm : goal.returns-clause-farm
 returns-clause-farm g c =

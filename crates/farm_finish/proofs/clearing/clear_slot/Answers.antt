@@ -1,8 +1,0 @@
-use Rattle.farm_finish.proofs.Clears.{cleared_one}
-use Rattle.std.proofs.Common.{sym, subst, eqb}
-use Rattle.depend_book.specs.Book.{DependLists}
-use Rattle.farm_finish.specs.Cleared.{IsCleared}
-use Rattle.farm_finish.proofs.clearing.clear_slot.Goals as goal
-
-pub returns : goal.returns
-returns c = subst (λ (b : DependLists). IsCleared (λ n. eqb c.args.slot n) c.args.depends.now b) (sym c.set_done.ensures) (cleared_one c.args.depends.now c.args.slot c.kept.ensures)
