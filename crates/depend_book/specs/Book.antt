@@ -1,12 +1,14 @@
 -- The book of depends: their rows, and the graph of their groups.
-use Rattle.std.specs.Prelude.{ℕ, ◌≡◌, ◌==◌, ◌&&◌, ◌+◌, ◌<◌, ◌≤◌, Bool, true, not, List, [], ◌∷◌, ◌++◌, map, filter, find, length, nat_lt, Option, option_map, All, if◌then◌else◌}
+use Rattle.std.specs.Prelude.{ℕ, ◌≡◌, ◌==◌, ◌&&◌, ◌+◌, ◌<◌, ◌≤◌, Bool, true, not, List, [], ◌∷◌, ◌++◌, map, filter, find, length, nat_lt, Option}
+use Rattle.std.specs.Prelude.{option_map, All, if◌then◌else◌}
 use Rattle.std.specs.List.{list_any}
 use Rattle.farm_types.specs.declared.depend.DependRow.{DependRow}
 use Rattle.farm_types.specs.declared.depend.MetRow.{MetRow}
 use Rattle.farm_types.specs.Farm.{Farm}
 use Rattle.farm_types.specs.Finish.{waits_by, without_waiter}
 use Rattle.farm_types.specs.Rising.{IsRising, depend_key}
-use Rattle.depend_graph.specs.Graph.{GraphLists, IsGroup, Watch, Watched, groups_left, is_met, is_satisfied, no_graph, watch_of, with_depend, with_done, without_depend}
+use Rattle.depend_graph.specs.Graph.{GraphLists, IsGroup, Watch, Watched, groups_left, is_met, is_satisfied, no_graph, watch_of, with_depend}
+use Rattle.depend_graph.specs.Graph.{with_done, without_depend}
 use Rattle.depend_book.specs.declared.new_depend.NewDepend.{NewDepend}
 use Rattle.farm_types.specs.declared.limits.TheConstants.{LAST_DEPEND, MOST_DEPENDS, MOST_GROUPS, SLOT_LIMIT}
 

@@ -4,7 +4,8 @@ ghost use Rattle.std.specs.Prelude.{◌≡◌, ◌≤◌, true, false, length, o
 ghost use Rattle.std.specs.List.{IsDistinct, list_any};
 ghost use Rattle.farm_types.specs.Depends.{are_done};
 ghost use Rattle.farm_types.specs.declared.limits.TheConstants.{MOST_DEPENDS, MOST_GROUPS};
-ghost use Rattle.depend_graph.specs.Graph.{HasMet, groups_at, groups_left, has_depend, is_flagged, is_mark, opened_between, unmet_of, with_all_done, without_depend};
+ghost use Rattle.depend_graph.specs.Graph.{HasMet, groups_at, groups_left, has_depend, is_flagged, is_mark, opened_between, unmet_of, with_all_done};
+ghost use Rattle.depend_graph.specs.Graph.{without_depend};
 ghost use Rattle.depend_book.specs.Book.{IsBook, mark_of, marks_of, next_in, no_depends, row_in};
 
 use crate::row_list::RowList;

@@ -24,7 +24,6 @@ use Rattle.farm_rows.specs.Changes.{MakesRows, is_key, row_after, row_at, row_by
 use Rattle.farm_rows.specs.Rows.{frame_row, is_unused, stored_frame}
 use Rattle.farm_rows.proofs.MadeLists.{makes_slot}
 use Rattle.farm_rows.proofs.MadeRows.{makes_then}
-use Rattle.depend_book.specs.Book.{DependLists, joined}
 use Rattle.farm_depends.specs.declared.follow.Follow.{Follow}
 use Rattle.farm_depends.specs.Follow.{IsMovable, change_of, is_moved}
 use Rattle.farm_depends.specs.FollowRows.{IsActed, IsPut, Notes, Stands, blocked_row, frame_or, frame_put, laid_over, noted, opened_row, stored_in}

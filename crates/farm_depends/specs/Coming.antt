@@ -1,5 +1,6 @@
 -- A depend that comes: which of its groups aren't met at once, which frames it blocks, and when it is refused.
-use Rattle.std.specs.Prelude.{ℕ, ◌≡◌, ◌+◌, ◌∷◌, [], ◌++◌, Bool, true, false, not, List, filter, length, map, nat_le, nat_lt, None, Some, Option, option_map, Result, Ok, Err, slice_get, if◌then◌else◌}
+use Rattle.std.specs.Prelude.{ℕ, ◌≡◌, ◌+◌, ◌∷◌, [], ◌++◌, Bool, true, false, not, List, filter, length, map, nat_le, nat_lt, None, Some, Option}
+use Rattle.std.specs.Prelude.{option_map, Result, Ok, Err, slice_get, if◌then◌else◌}
 use Rattle.farm_types.specs.declared.depend.DependSpec.{DependSpec}
 use Rattle.farm_types.specs.declared.depend.Group.{Group}
 use Rattle.farm_types.specs.declared.refusal.Counted.TheVariants as counted

@@ -1,5 +1,6 @@
 -- What follows an act of depends: which depends come or go, which frames are done, or not any more, and which open or are blocked.
-use Rattle.std.specs.Prelude.{ℕ, ◌≡◌, ◌==◌, ◌&&◌, ◌||◌, ◌+◌, ◌≤◌, ◌<◌, ◌⊎◌, All, Bool, true, false, not, List, [], ◌∷◌, ◌++◌, map, length, slice_get, is_some, Option, None, Some, IsSomeAnd, Result, Ok, Err}
+use Rattle.std.specs.Prelude.{ℕ, ◌≡◌, ◌==◌, ◌&&◌, ◌||◌, ◌+◌, ◌≤◌, ◌<◌, ◌⊎◌, All, Bool, true, false, not, List, [], ◌∷◌, ◌++◌, map, length, slice_get}
+use Rattle.std.specs.Prelude.{is_some, Option, None, Some, IsSomeAnd, Result, Ok, Err}
 use Rattle.std.specs.List.{IsDistinct}
 use Rattle.std.specs.Prelude.{nat_eq}
 use Rattle.farm_types.specs.declared.depend.DependRow.{DependRow}
@@ -16,8 +17,7 @@ use Rattle.farm_types.specs.Settle.{blocked_row, in_state, is_blocked, kept_vers
 use Rattle.farm_types.specs.Step.{follow_refusal, followed}
 use Rattle.farm_types.specs.declared.limits.TheConstants.{LAST_DEPEND, MOST_DEPENDS, MOST_GROUPS}
 use Rattle.depend_graph.specs.Graph.{IsGroup, has_depend}
-use Rattle.depend_graph.specs.Spare.{SpareLists, spare_of}
-use Rattle.depend_book.specs.Book.{CanAdd, DependLists, all_done_in, done_in, dropped_in, with_new}
+use Rattle.depend_book.specs.Book.{DependLists, all_done_in, done_in, dropped_in}
 use Rattle.depend_book.specs.declared.new_depend.NewDepend.{NewDepend}
 use Rattle.farm_types.specs.declared.fault.FarmFault.{FarmFault}
 use Rattle.farm_types.specs.declared.fault.FarmFault.TheVariants.{Refused, NoMemory}

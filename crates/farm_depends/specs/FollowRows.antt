@@ -1,5 +1,6 @@
 -- The rows that change with what follows an act.
-use Rattle.std.specs.Prelude.{ℕ, ◌≡◌, ◌≤◌, ◌==◌, ◌+◌, Bool, true, List, [], ◌∷◌, ◌++◌, map, filter, length, is_some, slice_get, Option, None, Some, option_map, if◌then◌else◌}
+use Rattle.std.specs.Prelude.{ℕ, ◌≡◌, ◌≤◌, ◌==◌, ◌+◌, Bool, true, List, [], ◌∷◌, ◌++◌, map, filter, length, is_some, slice_get, Option, None, Some}
+use Rattle.std.specs.Prelude.{option_map, if◌then◌else◌}
 use Rattle.std.specs.List.{list_all}
 use Rattle.farm_types.specs.declared.depend.DependRow.{DependRow}
 use Rattle.farm_types.specs.declared.depend.Group.{Group}

@@ -10,7 +10,8 @@ ghost use Rattle.depend_graph.specs.Graph.{HasMet, is_flagged, with_all_done};
 ghost use Rattle.depend_book.specs.Book.{added_row};
 ghost use Rattle.farm_books.specs.Books.{IsWhole};
 ghost use Rattle.farm_depends.specs.Follow.{after_follow};
-ghost use Rattle.farm_depends.specs.FollowRows.{IsActed, all_coming_rows, all_satisfied_rows, coming_rows, delete_mark, dropped_rows, met_rows, once_marks, put_mark, satisfied_rows};
+ghost use Rattle.farm_depends.specs.FollowRows.{IsActed, all_coming_rows, all_satisfied_rows, coming_rows, delete_mark, dropped_rows, met_rows};
+ghost use Rattle.farm_depends.specs.FollowRows.{once_marks, put_mark, satisfied_rows};
 
 use crate::follow::Follow;
 use crate::moved_rows::moved_rows;

@@ -43,7 +43,8 @@ impl<'a> Draft<'a> {
         requires { OnlyEnds self.base.slots self.farm.slots }
         ensures farm { IfOk result (λ rows. installed (at_moment self.entry.base self.entry.moment) rows ≡ self.entry.farm) }
         ensures ready { IfOk result (λ rows. AreReady self.entry.base rows) }
-        ensures differ { IfOk result (λ rows. All (IsChanged self.entry.base.slots) rows.slots.items × All (IsOtherLife self.entry.base.hosts) rows.hosts.items) }
+        ensures differ { IfOk result (λ rows. All (IsChanged self.entry.base.slots) rows.slots.items
+            × All (IsOtherLife self.entry.base.hosts) rows.hosts.items) }
     {
         let books = self.books;
         Ok(Rows {

@@ -14,7 +14,8 @@ use Rattle.depend_book.specs.Book.{DependLists, waits_in_one}
 use Rattle.farm_finish.specs.Gone.{job_gone, job_put, rows_gone, version_in}
 
 -- The books before an entry (`b`, `d`) and the slots as its act leaves them say what the farm is in which jobs finish (`f`): its jobs and layers, whose
--- frame a slot has, the versions of the slots of a job that ends, how many frames were eaten or succeeded, which depends a job waits in, and of which groups it has marks.
+-- frame a slot has, the versions of the slots of a job that ends, how many frames were eaten or succeeded, which depends a job waits in, and of which
+-- groups it has marks.
 pub record IsAfter (b : JobLists) (acted : List SlotRow) (d : DependLists) (f : Farm) : Type 0 where
   pub jobs : f.jobs ≡ b.jobs
   pub layers : f.layers ≡ b.layers

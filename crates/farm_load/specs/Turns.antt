@@ -70,7 +70,8 @@ GoesOn n f old mark answered (Ok launched) new = HasGoneOn n f old mark answered
 GoesOn n f old mark answered (Err _) new = Unit {0}
 
 -- The report was answered by one of the marks, the farm is the one after that, and the keeper went on as the mark says.
-pub record HasReported {E : Type 0} (n : ℕ) (f : Farm) (report : Report) (moment : ℕ) (counts : Counts) (result : Result (List Attempt) E) (new : Farm) (counts_now : Counts)
+pub record HasReported {E : Type 0} (n : ℕ) (f : Farm) (report : Report) (moment : ℕ) (counts : Counts) (result : Result (List Attempt) E) (new : Farm)
+    (counts_now : Counts)
     (goes : Bool → Type 0) : Type 0 where
   pub mark : Mark
   pub may_stand : MayStore f moment (asked.Report report) mark
@@ -96,7 +97,8 @@ TurnsTo n f old mark next (Ok _) hosts new = HasTurned n f old mark next hosts n
 TurnsTo n f old mark next (Err _) hosts new = Unit {0}
 
 -- The host whose turn it is reported, by one of the marks, the farm is the one after that, and the keeper went on as the mark says.
-pub record TakesTurn {T E : Type 0} (n : ℕ) (f : Farm) (reports : ℕ) (hosts : List LoadHost) (counts : Counts) (result : Result T E) (new : Farm) (hosts_now : List LoadHost)
+pub record TakesTurn {T E : Type 0} (n : ℕ) (f : Farm) (reports : ℕ) (hosts : List LoadHost) (counts : Counts) (result : Result T E) (new : Farm)
+    (hosts_now : List LoadHost)
     (counts_now : Counts) (goes : Bool → Type 0) : Type 0 where
   pub mark : Mark
   pub may_stand : MayStandAt n (standing f reports hosts) hosts mark

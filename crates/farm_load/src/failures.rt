@@ -75,7 +75,8 @@ fn failure(
     before: &[DoneItem],
     attempt: &Attempt,
 ) -> u64
-    ensures value { result ≡ if (fails n attempt.now && is_live farm.now host boot attempt.now.slot attempt.now.version) && not (list_any (λ item. is_same attempt.now item.attempt) before.now) then 1 else 0 }
+    ensures value { result ≡ if (fails n attempt.now && is_live farm.now host boot attempt.now.slot attempt.now.version)
+        && not (list_any (λ item. is_same attempt.now item.attempt) before.now) then 1 else 0 }
     ensures few { result ≤ 1 }
 {
     if is_failure(farm, n, host, boot, attempt) && !stands_in(before, attempt) {

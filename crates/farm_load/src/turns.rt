@@ -59,7 +59,8 @@ fn host_turn<K: Keeper>(
     requires left { reports < most_reports }
     requires formed { IsFormedHost host.now }
     requires room { HasRoom counts.old }
-    ensures { HasReported n recorder.old.farm (load_report n (round_after reports) host.now) (round_after reports) counts.old result recorder.new.farm counts.new
+    ensures { HasReported n recorder.old.farm (load_report n (round_after reports) host.now) (round_after reports) counts.old result
+        recorder.new.farm counts.new
         (Continues K.tells K.faults recorder.old.keeper recorder.new.keeper) }
 {
     let round = reports / HOSTS + 1;
@@ -79,7 +80,8 @@ fn take_counted<K: Keeper>(
     requires formed { IsFormed (heard_entry report moment) }
     requires few { length report.done ≤ LAUNCHES_EACH }
     requires room { HasRoom counts.old }
-    ensures { HasReported n recorder.old.farm report moment counts.old result recorder.new.farm counts.new (Continues K.tells K.faults recorder.old.keeper recorder.new.keeper) }
+    ensures { HasReported n recorder.old.farm report moment counts.old result recorder.new.farm counts.new
+        (Continues K.tells K.faults recorder.old.keeper recorder.new.keeper) }
 {
     let failing = failures(recorder.read(), n, &report, moment);
     let taken = take_report(alloc, recorder, report, moment);

@@ -1,5 +1,5 @@
 -- The entries that lines make are a legal run.
-use Rattle.std.proofs.Common.{◌≡◌, ℕ, ◌-◌, ◌<◌, ◌^◌, Bool, true, false, cond, List, [], ◌∷◌, take, refl, Option, None, Some, Result, Ok, Err, length}
+use Rattle.std.proofs.Common.{◌≡◌, ℕ, ◌<◌, ◌^◌, Bool, true, false, cond, List, [], ◌∷◌, take, refl, Option, None, Some, Result, Ok, Err, length}
 use Rattle.std.specs.Prelude.{nat_lt}
 use Rattle.std.specs.List.{All}
 use Rattle.std.proofs.lemmas.List.Elements.{All-head, All-tail}

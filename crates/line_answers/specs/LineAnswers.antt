@@ -31,7 +31,8 @@ use Rattle.farm_types.specs.Farm.{Farm, host_named}
 use Rattle.farm_lines.specs.Reply.{reply_text}
 use Rattle.farm_types.specs.Run.{run_of}
 use Rattle.farm_types.specs.Step.{after, refusal_of}
-use Rattle.farm_lines.specs.Transcript.{Answered, Mark, Plain, Store, StoreAfter, LateStore, answer_to, asked_answer, entry_answer, is_store_mark, marked_answer, report_answer, unless_memory}
+use Rattle.farm_lines.specs.Transcript.{Answered, Mark, Plain, Store, StoreAfter, LateStore, answer_to, asked_answer, entry_answer, is_store_mark}
+use Rattle.farm_lines.specs.Transcript.{marked_answer, report_answer, unless_memory}
 
 -- the farm took the entries of the answer, and the line is the reply's text with its newline
 pub record IsAnswer (old : Farm) (answered : Answered) (new : Farm) (line : List ℕ) : Type 0 where

@@ -18,7 +18,8 @@ use Rattle.farm_keeper.specs.Keeping.{Committing, Continues}
 use Rattle.farm_keeper.specs.Rows.{Rows}
 use Rattle.farm_types.specs.declared.entry.Entry.{Entry}
 use Rattle.farm_lines.specs.Reply.{bad_store_line, reply_text}
-use Rattle.farm_lines.specs.Transcript.{Mark, Plain, Exchange, answer_at, answer_to, transcript, farm_after, farm_next, entries_in, is_store_mark, lines_in, moments_in}
+use Rattle.farm_lines.specs.Transcript.{Mark, Plain, Exchange, answer_at, answer_to, transcript, farm_after, farm_next, entries_in, is_store_mark}
+use Rattle.farm_lines.specs.Transcript.{lines_in, moments_in}
 use Rattle.line_answers.specs.LineAnswers.{Going, IsAnswer, IsMarked}
 use Rattle.recorder.specs.Recording.{ChangesNone}
 use Rattle.recorder.specs.Telling.{GoesOn, Tells as TellsKeeper}

@@ -7,7 +7,8 @@ ghost use Rattle.cue_io.specs.Reader.{new_reader};
 ghost use Rattle.farm_lines.specs.Reply.{bad_store_line};
 ghost use Rattle.farm_lines.specs.declared.limits.TheConstants.{LINE_LIMIT};
 ghost use Rattle.session.specs.Opening.{BeginsBad, BeginsWith, HoldsFarm, IsUntouched, MayOpen};
-ghost use Rattle.session.specs.Sessions.{AnswersAll, AnswersForm, Call, GoesOnOpened, GoesOnOver, IsCall, MayTell, TellsBad, TellsFault, TellsLine, status_of, streams};
+ghost use Rattle.session.specs.Sessions.{AnswersAll, AnswersForm, Call, GoesOnOpened, GoesOnOver, IsCall, MayTell, TellsBad, TellsFault, TellsLine};
+ghost use Rattle.session.specs.Sessions.{status_of, streams};
 ghost use Rattle.session.specs.Words.{IsWithin, WordForm, form_of, word_form};
 
 use crate::exchanged::Exchanged;

@@ -1,4 +1,4 @@
-use Rattle.std.proofs.Common.{◌≡◌, ◌∙◌, ℕ, All, List, sym, ap, subst}
+use Rattle.std.proofs.Common.{◌∙◌, ℕ, All, List, sym, ap, subst}
 use Rattle.depend_book.specs.Book.{all_done_in}
 use Rattle.farm_books.specs.Books.{FarmBooks, depends_of, with_depends, with_farm}
 use Rattle.farm_depends.specs.Follow.{HasDrop, IsMovable, drop_from, drop_in, put_blocked, put_opened, reopened_from, reopened_in, with_new_all}

@@ -2,7 +2,6 @@ use Rattle.std.proofs.Common.{◌≡◌, ◌∙◌, ◌<◌, ◌≤◌, Some, dr
 use Rattle.std.specs.List.{slice_get}
 use Rattle.std.proofs.lemmas.Option.{slice_get-get_or}
 use Rattle.farm_types.specs.declared.depend.DependRow.{DependRow}
-use Rattle.farm_types.specs.Farm.{Farm}
 use Rattle.farm_types.specs.Kept.{IsKeptFarm, KeepsRows}
 use Rattle.farm_rows.specs.Changes.{beside}
 use Rattle.depend_book.specs.Book.{joined, marks_of}
