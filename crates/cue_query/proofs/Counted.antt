@@ -18,9 +18,9 @@ use Rattle.farm_types.specs.Finish.{count_where, has_succeeded, was_eaten}
 use Rattle.farm_types.specs.Kept.{is_setup}
 use Rattle.farm_types.specs.Settle.{is_blocked}
 use Rattle.farm_lines.specs.Lists.{count_among, is_dead}
-use Rattle.job_book.specs.declared.counts.Counts.{Counts}
+use Rattle.job_entries.specs.declared.counts.Counts.{Counts}
 use Rattle.job_book.specs.Book.{counts_of, number_of, state_in}
-use Rattle.job_book.specs.Counting.{one, part, counted_in}
+use Rattle.job_entries.specs.Counting.{one, part, counted_in}
 use Rattle.cue_query.specs.Counts.{counts_among, job_counts}
 use Rattle.cue_query.proofs.InTurn.{kept_within}
 

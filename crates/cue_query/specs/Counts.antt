@@ -9,7 +9,7 @@ use Rattle.farm_types.specs.Finish.{has_succeeded, was_eaten}
 use Rattle.farm_types.specs.Kept.{is_setup}
 use Rattle.farm_types.specs.Settle.{is_blocked}
 use Rattle.farm_lines.specs.Lists.{count_among, is_dead, shown_count}
-use Rattle.job_book.specs.declared.counts.Counts.{Counts}
+use Rattle.job_entries.specs.declared.counts.Counts.{Counts}
 
 -- a job's frames; of a finished one the numbers that are kept
 abbrev pub job_counts : Farm → JobRow → Counts

@@ -2,7 +2,7 @@
 
 ghost use Rattle.std.specs.Prelude.{◌≡◌, ◌<◌, ◌^◌, [], IfOk, OnOk};
 ghost use Rattle.farm_lines.specs.Lists.{layer_row, layer_rows, slots_in};
-ghost use Rattle.job_book.specs.Counting.{part, counted_in};
+ghost use Rattle.job_entries.specs.Counting.{part, counted_in};
 ghost use Rattle.cue_query.specs.Counts.{counts_among};
 ghost use Rattle.cue_query.specs.Queries.{IsLayerOf};
 ghost use Rattle.cue_query.specs.Pages.{offered, offered_all};

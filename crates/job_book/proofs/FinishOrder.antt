@@ -15,7 +15,7 @@ use Rattle.farm_types.specs.Rising.{IsRising, job_key}
 use Rattle.farm_types.proofs.Lists.{and_both, list_all-at, list_all-from_at}
 use Rattle.job_index.specs.declared.ready_jobs.TheConstants.{JOB_NUMBERS}
 use Rattle.job_book.specs.Book.{counts_of, without_job}
-use Rattle.job_book.specs.Entries.{finished_by}
+use Rattle.job_entries.specs.Entries.{finished_by}
 use Rattle.job_book.specs.Finished.{KeepsFinished, finish_key, finished_of, has_finish, leaver}
 use Rattle.job_index.specs.Keys.{job_of, put_key, sorted}
 use Rattle.job_book.proofs.CutJobs.{few_stay, goes, later_left}

@@ -16,12 +16,12 @@ use Rattle.farm_types.specs.Jobs.{JobLists}
 use Rattle.farm_types.specs.Rising.{IsRising}
 use Rattle.farm_types.proofs.Lists.{and_both, list_all-at}
 use Rattle.farm_types.proofs.ListSums.{sum_by-map_le}
-use Rattle.job_book.specs.declared.counts.Counts.{Counts}
-use Rattle.job_book.specs.Entries.{finished_by}
+use Rattle.job_entries.specs.declared.counts.Counts.{Counts}
+use Rattle.job_entries.specs.Entries.{finished_by}
 use Rattle.job_book.specs.Inside.{IsBook, frames_left, has_layers_if, has_slots, layer_key, taken_by}
 use Rattle.job_book.proofs.FinishedRows.{IsThere, all_rows, rows_rise}
 use Rattle.job_book.proofs.FreedJob.{below_freed, free_more, taken_here, taken_other}
-use Rattle.job_book.proofs.Held.{rising_from}
+use Rattle.farm_law.proofs.KeptJobsLists.{rising_lower}
 
 module _ (job : ℕ) where
   abbrev stays : LayerRow → Bool
@@ -32,7 +32,7 @@ module _ (job : ℕ) where
   layers_rise low (l ∷ ls) high rise = by (eqb l.job job) refl (layers_rise (layer_key l + 1) ls high rise.1)
     where
       by : (b : Bool) → eqb l.job job ≡ b → IsRising layer_key (layer_key l + 1) (filter stays ls) high → IsRising layer_key low (filter stays (l ∷ ls)) high
-      by true is later = rw is (rising_from layer_key (layer_key l + 1) low (filter stays ls) high (omega (arith, rise.0)) later)
+      by true is later = rw is (rising_lower layer_key low (layer_key l + 1) (filter stays ls) high (omega (arith, rise.0)) later)
       by false is later = rw is (rise.0, later)
 
   none_of : (ls : List LayerRow) → list_any (λ (l : LayerRow). eqb l.job job) (filter stays ls) ≡ false

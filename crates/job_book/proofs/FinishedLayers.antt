@@ -13,9 +13,9 @@ use Rattle.farm_types.specs.Farm.{is_placed, slot_from}
 use Rattle.farm_types.specs.Finish.{freed_row, is_frame_of}
 use Rattle.farm_types.proofs.Changed.{mapped_each}
 use Rattle.job_book.specs.Book.{count_in}
-use Rattle.job_book.specs.Entries.{beside}
+use Rattle.job_entries.specs.Entries.{beside, layer_position}
 use Rattle.job_book.specs.Index.{waits_in}
-use Rattle.job_book.specs.Layers.{KeepsLayers, KeepsWaiting, layer_position, place_in, slots_of}
+use Rattle.job_book.specs.Layers.{KeepsLayers, KeepsWaiting, place_in, slots_of}
 use Rattle.job_index.specs.Places.{LayerPlaces}
 use Rattle.job_book.proofs.FreedJob.{from_none, from_same, waits_same}
 use Rattle.job_book.proofs.LayerSlots.{map_same}

@@ -19,12 +19,12 @@ use Rattle.farm_types.specs.Kept.{finish_of, has_its_finish, is_of_pending, is_p
 use Rattle.farm_types.specs.Rising.{IsRising, job_key}
 use Rattle.farm_types.proofs.ChangedLists.{map-map_kept}
 use Rattle.farm_types.proofs.Lists.{and_both, for_some_true, found_is}
-use Rattle.job_book.specs.declared.counts.Counts.{Counts}
+use Rattle.job_entries.specs.declared.counts.Counts.{Counts}
 use Rattle.job_index.specs.declared.limits.TheConstants.{MOST_JOBS}
 use Rattle.job_index.specs.declared.ready_jobs.TheConstants.{JOB_NUMBERS}
 use Rattle.job_book.specs.Book.{count_in, counts_of}
-use Rattle.job_book.specs.Counting.{new_counts}
-use Rattle.job_book.specs.Entries.{finished_by, with_ends}
+use Rattle.job_entries.specs.Counting.{new_counts}
+use Rattle.job_entries.specs.Entries.{finished_by, with_ends}
 use Rattle.job_book.specs.Finished.{KeepsFinished, can_put, finish_key, has_finish}
 use Rattle.job_book.specs.Inside.{counts_for}
 use Rattle.job_book.specs.Names.{KeepsNames, is_named}

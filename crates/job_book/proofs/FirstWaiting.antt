@@ -6,7 +6,8 @@ use Rattle.std.proofs.lemmas.Option.{none-some, same_Some, slice_get-map}
 use Rattle.farm_types.specs.Jobs.{JobLists}
 use Rattle.place_set.specs.Places.{first_in, first_from}
 use Rattle.job_book.specs.Index.{NoneWaits, WaitsFirst, slot_of, waits_in, where_waits}
-use Rattle.job_book.specs.Layers.{KeepsLayers, KeepsWaiting, layer_position, slots_of}
+use Rattle.job_book.specs.Layers.{KeepsLayers, KeepsWaiting, slots_of}
+use Rattle.job_entries.specs.Entries.{layer_position}
 use Rattle.job_index.specs.Places.{LayerPlaces, first_marked}
 
 -- no position is marked

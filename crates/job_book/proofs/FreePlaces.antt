@@ -11,7 +11,8 @@ use Rattle.farm_types.specs.declared.slot_row.SlotRow.{SlotRow}
 use Rattle.farm_types.specs.Farm.{is_placed, slot_from}
 use Rattle.farm_types.specs.Jobs.{frames_in, frames_of, is_free, layer_rows, place_frames}
 use Rattle.job_book.specs.Inside.{is_below}
-use Rattle.job_book.specs.Layers.{layer_position, place_in, places_past, put_places}
+use Rattle.job_book.specs.Layers.{place_in, places_past, put_places}
+use Rattle.job_entries.specs.Entries.{layer_position}
 use Rattle.job_book.specs.Lowest.{lowest_free, places_from}
 use Rattle.job_book.proofs.FreeSlots.{none_left}
 use Rattle.job_book.proofs.PlacedLayers.{none_placed, picked, picked_lists, picked_new}

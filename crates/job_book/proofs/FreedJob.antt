@@ -18,12 +18,13 @@ use Rattle.farm_types.proofs.Changed.{changed_at_each}
 use Rattle.farm_types.proofs.ChangedLists.{map-changed_at_kept}
 use Rattle.farm_types.proofs.Lists.{and_both, for_some_true}
 use Rattle.farm_types.proofs.ListSums.{sum_by-map_zero}
-use Rattle.job_book.specs.Book.{count_in, counts_of, is_in, number_of}
-use Rattle.job_book.specs.Counting.{new_counts, part}
+use Rattle.job_book.specs.Book.{count_in, counts_of, is_in}
+use Rattle.job_entries.specs.Counting.{number_of, new_counts, part}
 use Rattle.job_book.specs.Freed.{freed_all, freed_at}
 use Rattle.job_book.specs.Index.{waits_in}
 use Rattle.job_book.specs.Inside.{is_below, taken_by}
-use Rattle.job_book.specs.Layers.{KeepsLayers, layer_position, place_in, slots_of}
+use Rattle.job_book.specs.Layers.{KeepsLayers, place_in, slots_of}
+use Rattle.job_entries.specs.Entries.{layer_position}
 use Rattle.job_index.specs.Places.{LayerPlaces}
 use Rattle.job_book.proofs.InState.{part_is, same_counts}
 

@@ -16,9 +16,9 @@ use Rattle.farm_types.specs.Farm.{for_some, changed_at}
 use Rattle.farm_types.specs.Finish.{is_frame_of}
 use Rattle.std.specs.Prelude.{nat_le, nat_lt}
 use Rattle.farm_types.specs.Jobs.{JobLists, is_free, free_among, free_in}
-use Rattle.job_book.specs.declared.counts.Counts.{Counts}
-use Rattle.job_book.specs.Book.{is_in, count_in, counts_of, number_of, IsSameFrame, KeepsFrame}
-use Rattle.job_book.specs.Counting.{one, part, moved, CanMove}
+use Rattle.job_entries.specs.declared.counts.Counts.{Counts}
+use Rattle.job_book.specs.Book.{is_in, count_in, counts_of, IsSameFrame, KeepsFrame}
+use Rattle.job_entries.specs.Counting.{number_of, one, part, moved, CanMove}
 use Rattle.farm_types.specs.Rising.{IsRising, job_key}
 use Rattle.job_book.specs.Inside.{IsBook, KeepsFree, is_below, counts_for, has_slots, taken_by}
 use Rattle.farm_types.proofs.Changed.{changed_at_sum, length-changed_at}

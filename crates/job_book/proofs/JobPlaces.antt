@@ -10,7 +10,7 @@ use Rattle.farm_types.specs.Farm.{changed_at}
 use Rattle.job_book.specs.Book.{counts_of}
 use Rattle.job_book.specs.Inside.{counts_for}
 use Rattle.farm_types.specs.declared.rows.JobRow.{JobRow}
-use Rattle.job_book.specs.declared.counts.Counts.{Counts}
+use Rattle.job_entries.specs.declared.counts.Counts.{Counts}
 use Rattle.farm_types.specs.Rising.{IsRising, job_key}
 use Rattle.farm_types.proofs.ChangedLists.{changed_at_suc}
 

@@ -1,11 +1,13 @@
--- The lists of a job's layers, filled one after another.
-use Rattle.std.proofs.Common.{◌≡◌, ℕ, zero, suc, ◌+◌, ◌<◌, List, [], ◌∷◌, ◌++◌, length, map, take, get_or, refl, sym, ap, ◌∙◌, arith, append-nil}
+-- The lists of a job's layers, filled one after another, and what is read of them.
+use Rattle.std.proofs.Common.{◌≡◌, ℕ, zero, suc, ◌+◌, ◌<◌, List, [], ◌∷◌, ◌++◌, length, map, take, get_or, option_map, refl, sym, ap, ◌∙◌, arith, append-nil}
 use Rattle.std.proofs.Math.ListN.{set}
-use Rattle.std.specs.List.{concat}
+use Rattle.std.specs.List.{concat, slice_get}
+use Rattle.std.specs.Option.{option_and_then}
 use Rattle.std.proofs.lemmas.List.{take_more_set, map_push, length-replicate}
 use Rattle.std.proofs.lemmas.List.Folds.{concat-append}
+use Rattle.std.proofs.lemmas.Option.{slice_get-map}
 use Rattle.farm_types.specs.declared.job.LayerSpec.{LayerSpec}
-use Rattle.job_book.specs.Layers.{count_of, slots_of, fresh_places}
+use Rattle.job_book.specs.Layers.{count_of, fresh_places, place_in, slots_of}
 use Rattle.job_index.specs.Places.{LayerPlaces}
 
 -- what is read of an item stays where the item at the place is set to one of which the same is read
@@ -37,3 +39,8 @@ pub concat-more : (index : List LayerPlaces) (i : ℕ) (y : LayerPlaces) → i <
 concat-more index i y within =
     ap (λ (xs : List LayerPlaces). concat (map slots_of xs)) (take_more_set index i y within) ∙ ap concat (map_push slots_of (take i index) y)
     ∙ concat-append (map slots_of (take i index)) (y.slots ∷ []) ∙ ap (λ ns. concat (map slots_of (take i index)) ++ ns) (append-nil y.slots)
+
+-- the same layer of two lists has the same slots
+pub place_read : (xs ys : List LayerPlaces) (m n position : ℕ) → slice_get xs m ≡ slice_get ys n → place_in (map slots_of xs) m position ≡ place_in (map slots_of ys) n position
+place_read xs ys m n position same =
+    ap (option_and_then (λ (ns : List ℕ). slice_get ns position)) (slice_get-map slots_of xs m ∙ ap (option_map slots_of) same ∙ sym (slice_get-map slots_of ys n))

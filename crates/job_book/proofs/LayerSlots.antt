@@ -17,7 +17,8 @@ use Rattle.farm_types.proofs.ChangedLists.{map-changed_at_kept}
 use Rattle.farm_types.proofs.Lists.{and_both, for_some_true, slice_get_below}
 use Rattle.job_book.specs.Index.{waits_in}
 use Rattle.job_book.specs.Inside.{layer_key}
-use Rattle.job_book.specs.Layers.{KeepsLayers, KeepsWaiting, layer_position, place_in, slots_of}
+use Rattle.job_book.specs.Layers.{KeepsLayers, KeepsWaiting, place_in, slots_of}
+use Rattle.job_entries.specs.Entries.{layer_position}
 use Rattle.job_index.specs.Places.{LayerPlaces, marked}
 use Rattle.job_book.proofs.InState.{IsInState, read_same, with_row}
 use Rattle.farm_types.proofs.Searched.{rises}

@@ -16,10 +16,10 @@ use Rattle.farm_types.specs.Jobs.{JobLists, is_finished_named, is_pending_named,
 use Rattle.farm_types.specs.Kept.{is_of_pending, is_pending_job}
 use Rattle.farm_types.specs.Rising.{IsRising, job_key}
 use Rattle.farm_types.proofs.Lists.{and_both}
-use Rattle.job_book.specs.declared.counts.Counts.{Counts}
+use Rattle.job_entries.specs.declared.counts.Counts.{Counts}
 use Rattle.job_index.specs.declared.ready_jobs.TheConstants.{JOB_NUMBERS}
 use Rattle.job_book.specs.Book.{counts_of}
-use Rattle.job_book.specs.Entries.{beside}
+use Rattle.job_entries.specs.Entries.{beside}
 use Rattle.job_book.specs.Finished.{KeepsFinished, finish_key, has_finish, without_done}
 use Rattle.job_book.specs.Inside.{IsBook, counts_for, frames_left, has_layers_if, has_slots}
 use Rattle.job_book.specs.Names.{KeepsNames, as_list, is_named}

@@ -1,9 +1,5 @@
 pub mod FoundAt
 pub mod FinishNumbers
-pub mod Held
-pub mod HeldLists
-pub mod HeldKept
-pub mod HeldFinish
 pub mod LeftJobs
 pub mod CutJobs
 pub mod FreedSlots
@@ -32,7 +28,6 @@ pub mod RestoredBook
 pub mod RestoredCounts
 pub mod RestoredIndex
 pub mod RestoredKeys
-pub mod RestoredEntries
-pub mod RestoredLayers
+pub mod OwnedLayers
 pub mod RestoredNames
 pub mod NewNumber

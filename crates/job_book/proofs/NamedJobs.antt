@@ -15,11 +15,6 @@ use Rattle.farm_types.specs.Rising.{IsRising, job_key}
 use Rattle.job_book.specs.Names.{KeepsNames, as_list, is_named}
 use Rattle.job_index.specs.Names.{number_of}
 
--- of what is read of the items
-pub position_or_len-map : {X Y : Type 0} (test : Y → Bool) (read : X → Y) (xs : List X) → position_or_len test (map read xs) ≡ position_or_len (λ x. test (read x)) xs
-position_or_len-map test read [] = refl
-position_or_len-map test read (x ∷ xs) = ap (λ n. cond (not (test (read x))) (1 + n) 0) (position_or_len-map test read xs)
-
 ltb-suc : (a b : ℕ) → ltb (suc a) (suc b) ≡ ltb a b
 ltb-suc a b = grind (arith, nat_tests)
 

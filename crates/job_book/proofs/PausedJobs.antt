@@ -10,7 +10,8 @@ use Rattle.farm_types.specs.Jobs.{JobLists}
 use Rattle.farm_types.specs.Operators.{paused_row}
 use Rattle.farm_types.specs.Rising.{IsRising, job_key}
 use Rattle.farm_types.proofs.ChangedLists.{changed_at_suc, map-map_kept}
-use Rattle.job_book.specs.Book.{counts_of, with_pause}
+use Rattle.job_book.specs.Book.{counts_of}
+use Rattle.job_entries.specs.Entries.{with_pause}
 use Rattle.job_book.specs.Finished.{KeepsFinished, finish_key, has_finish}
 use Rattle.job_book.specs.Inside.{IsBook, counts_for, frames_left, has_layers_if, has_slots}
 use Rattle.job_book.specs.Names.{KeepsNames, is_named}

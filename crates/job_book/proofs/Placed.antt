@@ -20,9 +20,9 @@ use Rattle.farm_types.specs.Finish.{is_finished, is_frame_of}
 use Rattle.farm_types.specs.Jobs.{JobLists, is_free, free_among, free_in, slot_with, fresh_slot, place_frames, new_frame, frames_from, frames_of, job_row, layer_rows, job_refusal, layers_refusal, room_refusal, repeated_name, is_pending_named}
 use Rattle.farm_types.specs.Jobs.{frames_in}
 use Rattle.farm_types.specs.SpecLimits.{JobKeepsLimits, LayerKeepsLimits}
-use Rattle.job_book.specs.Book.{is_in, count_in, counts_of, number_of, with_new_job}
-use Rattle.job_book.specs.Counting.{part, new_counts}
-use Rattle.job_book.specs.Entries.{are_layers}
+use Rattle.job_book.specs.Book.{is_in, count_in, counts_of, with_new_job}
+use Rattle.job_entries.specs.Counting.{number_of, part, new_counts}
+use Rattle.job_entries.specs.Entries.{are_layers}
 use Rattle.job_book.specs.Finished.{KeepsFinished, finish_key, has_finish}
 use Rattle.job_index.specs.Keys.{sorted}
 use Rattle.std.proofs.lemmas.List.Elements.{filter-append}
@@ -30,6 +30,7 @@ use Rattle.farm_types.specs.Rising.{IsRising, job_key}
 use Rattle.job_book.specs.Inside.{IsBook, layer_key, is_below, counts_for, taken_by, has_slots, has_layers_if, frames_left}
 use Rattle.job_book.proofs.FreeSlots.{free_cons}
 use Rattle.farm_types.proofs.Lists.{and_both}
+use Rattle.farm_law.proofs.KeptJobsLists.{rising-append}
 use Rattle.job_book.proofs.Putting.{length-frames_of}
 use Rattle.job_book.proofs.InState.{same_counts, part_is}
 use Rattle.farm_types.specs.declared.limits.TheConstants.{LAST_JOB, LAST_VERSION, SLOT_LIMIT}
@@ -200,14 +201,6 @@ new_job_counts_none (s ∷ ss) next job state later below =
 pub rising_within : {X : Type 0} (key : X → ℕ) (low : ℕ) (xs : List X) (high : ℕ) → IsRising key low xs high → low ≤ high
 rising_within key low [] high rise = rise
 rising_within key low (x ∷ xs) high rise = omega (arith, rise.0, rising_within key (key x + 1) xs high rise.1)
-
-pub rising-append : {X : Type 0} (key : X → ℕ) (low mid high : ℕ) (xs ys : List X) → IsRising key low xs mid → IsRising key mid ys high → IsRising key low (xs ++ ys) high
-rising-append key low mid high [] ys first second = rising_lower key low mid ys high first second
-  where
-    rising_lower : {X : Type 0} (key : X → ℕ) (low mid : ℕ) (ys : List X) (high : ℕ) → low ≤ mid → IsRising key mid ys high → IsRising key low ys high
-    rising_lower key low mid [] high h rise = omega (arith, h, rise)
-    rising_lower key low mid (y ∷ ys) high h rise = (omega (arith, h, rise.0), rise.1)
-rising-append key low mid high (x ∷ xs) ys first second = (first.0, rising-append key (key x + 1) mid high xs ys first.1 second)
 
 layers_rising : (job p : ℕ) (ls : List LayerSpec) → p + length ls ≤ PLACE_LIMIT → IsRising layer_key (PLACE_LIMIT * job + p) (layer_rows job p ls) (PLACE_LIMIT * (job + 1))
 layers_rising job p [] few = omega arith

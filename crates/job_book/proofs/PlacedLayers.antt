@@ -16,7 +16,8 @@ use Rattle.farm_types.specs.Jobs.{is_free, slot_with, fresh_slot, place_frames, 
 use Rattle.farm_types.specs.Rising.{IsRising}
 use Rattle.farm_types.proofs.Lists.{and_both, list_all-at}
 use Rattle.job_book.specs.Inside.{is_below, layer_key}
-use Rattle.job_book.specs.Layers.{KeepsLayers, layer_position, place_in, places_past, put_places}
+use Rattle.job_book.specs.Layers.{KeepsLayers, place_in, places_past, put_places}
+use Rattle.job_entries.specs.Entries.{is_layer, layer_position}
 use Rattle.job_book.proofs.NamedJobs.{found_any}
 use Rattle.job_book.proofs.Placed.{no_frame, all_placed, all_from, all_of, length-layer_rows, rising_within}
 use Rattle.job_book.specs.declared.jobs.TheConstants.{PLACE_LIMIT}
@@ -237,9 +238,6 @@ module _ {X : Type 0} (test : X → Bool) where
   position-within xs some = ltb-true (position_or_len test xs) (length xs) (found_any test xs ∙ some)
 
 -- ---- the layers of all jobs
-
-abbrev pub is_layer : ℕ → ℕ → LayerRow → Bool
-is_layer job layer l = eqb l.job job && eqb l.place layer
 
 -- no layer of a job that wasn't placed
 pub no_layer : (job layer low high : ℕ) (ls : List LayerRow) → IsRising layer_key low ls high → high ≤ PLACE_LIMIT * job → list_any (is_layer job layer) ls ≡ false

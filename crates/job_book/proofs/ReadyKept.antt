@@ -17,7 +17,7 @@ use Rattle.farm_types.specs.SpecLimits.{JobKeepsLimits}
 use Rattle.farm_types.specs.declared.limits.TheConstants.{MOST_PRIORITY}
 use Rattle.farm_types.specs.Rising.{IsRising, job_key}
 use Rattle.farm_types.proofs.Lists.{found_is, list_all-at}
-use Rattle.job_book.specs.declared.counts.Counts.{Counts}
+use Rattle.job_entries.specs.declared.counts.Counts.{Counts}
 use Rattle.job_book.specs.Book.{count_in, counts_of, with_new_job}
 use Rattle.job_book.specs.Inside.{IsBook, counts_for}
 use Rattle.job_book.specs.Ready.{CanBeReady, CanChange, KeepsReady, changed_ready, has_priority, ready_key, waits}

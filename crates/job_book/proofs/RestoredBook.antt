@@ -20,6 +20,8 @@ use Rattle.farm_types.specs.Rising.{layer_key as kept_key}
 use Rattle.farm_types.proofs.Lists.{and_both, find_passes, for_some_true, found_is, list_all-at, list_all-from_at}
 use Rattle.farm_types.proofs.ListSums.{sum_by-each_zero}
 use Rattle.farm_law.proofs.FinishedCounts.{own_frames}
+use Rattle.farm_law.proofs.FormedParts.{layer_formed}
+use Rattle.farm_law.proofs.KeptJobsLists.{rising_lower}
 use Rattle.farm_law.proofs.KeptJobsRows.{frame_kept}
 use Rattle.job_book.specs.Finished.{has_finish}
 use Rattle.job_book.specs.Inside.{IsBook, frames_left, has_layers_if, has_slots, is_below, layer_key, taken_by}
@@ -27,16 +29,10 @@ use Rattle.job_book.specs.Ready.{has_priority}
 use Rattle.job_book.specs.declared.jobs.TheConstants.{PLACE_LIMIT}
 use Rattle.job_index.specs.declared.limits.TheConstants.{MOST_JOBS}
 use Rattle.job_index.specs.declared.ready_jobs.TheConstants.{JOB_NUMBERS}
-use Rattle.job_book.proofs.Held.{rising_from}
 use Rattle.job_book.proofs.LeftJobs.{find_numbered}
 use Rattle.job_book.proofs.Placed.{rising_within, rows_few}
 
 -- ---- layers by the book's keys
-
-pub place_within : (l : LayerRow) → is_formed_layer l ≡ true → l.place < MOST_LAYERS
-place_within l formed =
-    let first = and_both (is_name_text l.name) _ formed in
-    ltb-true l.place MOST_LAYERS (and_both (nat_lt l.place MOST_LAYERS) _ first.1).0
 
 key_step : (j p k q : ℕ) → p < MOST_LAYERS → q < MOST_LAYERS → MOST_LAYERS * j + p + 1 ≤ MOST_LAYERS * k + q → PLACE_LIMIT * j + p + 1 ≤ PLACE_LIMIT * k + q
 key_step j p k q first second above =
@@ -56,7 +52,7 @@ rekeyed : (low from : ℕ) (ls : List LayerRow) (high : ℕ) → list_all is_for
 rekeyed low from [] high formed step last rise = last rise
 rekeyed low from (l ∷ ls) high formed step last rise =
     let both = and_both (is_formed_layer l) (list_all is_formed_layer ls) formed in
-    let within = place_within l both.0 in (
+    let within = (layer_formed l both.0).place in (
       step l within rise.0,
       rekeyed (kept_key l + 1) (layer_key l + 1) ls high both.1
           (λ k below above. key_step l.job l.place k.job k.place within below above)
@@ -160,7 +156,7 @@ rising_to key low (x ∷ xs) high more le rise = (rise.0, rising_to key (key x +
 
 module _ (b : JobLists) (shows : ℕ) (kept : KeepsJobs b shows) where
   pub rise : IsRising job_key 0 b.jobs b.next_job
-  rise = rising_from job_key 1 0 b.jobs b.next_job (omega arith) kept.jobs_rise
+  rise = rising_lower job_key 0 1 b.jobs b.next_job (omega arith) kept.jobs_rise
 
   -- all numbers of jobs are below the most that there can be
   pub numbered : IsRising job_key 0 b.jobs JOB_NUMBERS

@@ -12,9 +12,9 @@ use Rattle.farm_types.specs.declared.states.FrameState.{FrameState}
 use Rattle.farm_types.specs.declared.states.FrameState.TheVariants.{Waiting, Setup, Running, Succeeded, Depend, Dead, Eaten}
 use Rattle.farm_types.specs.Farm.{for_some}
 use Rattle.farm_types.specs.Rising.{IsRising, job_key}
-use Rattle.job_book.specs.declared.counts.Counts.{Counts}
-use Rattle.job_book.specs.Book.{count_in, counts_of, is_in, number_of}
-use Rattle.job_book.specs.Counting.{new_counts, one, part, counted_in}
+use Rattle.job_entries.specs.declared.counts.Counts.{Counts}
+use Rattle.job_book.specs.Book.{count_in, counts_of, is_in}
+use Rattle.job_entries.specs.Counting.{number_of, new_counts, one, part, counted_in}
 use Rattle.job_book.specs.Inside.{counts_for}
 use Rattle.job_book.specs.Restored.{HasFew, counted_frame}
 use Rattle.job_book.proofs.InState.{part_is, same_counts}

@@ -21,11 +21,11 @@ use Rattle.farm_types.proofs.Lists.{and_both, for_some_true, found_is, list_all-
 use Rattle.farm_law.proofs.KeptJobsRows.{frame_kept}
 use Rattle.job_book.specs.Index.{waits_in}
 use Rattle.job_book.specs.Inside.{layer_key}
-use Rattle.job_book.specs.Layers.{KeepsLayers, KeepsWaiting, layer_position, place_in, slots_of}
+use Rattle.job_book.specs.Layers.{KeepsLayers, KeepsWaiting, place_in, slots_of}
+use Rattle.job_entries.specs.Entries.{layer_position}
 use Rattle.job_index.specs.Places.{LayerPlaces, with_slot}
-use Rattle.job_book.specs.Restored.{noted_frame, noted_from, range_length, unplaced}
+use Rattle.job_entries.specs.Restored.{noted_frame, noted_from, range_length, unplaced}
 use Rattle.job_book.proofs.LayerSlots.{at_row, from_slot}
-use Rattle.job_book.proofs.RestoredBook.{place_within}
 
 -- ---- lists
 
@@ -329,10 +329,3 @@ module _ (layers : List LayerRow) (high : ℕ) (rise : IsRising layer_key 0 laye
           let l = slice_get_below layers place (omega (arith, noted_count, slice_get_within noted place x at)) in
           marks_are place l.0 x l.1 at;
     }
-
--- a kept frame's layer is below the most that a job has
-pub layer_within : (layers : List LayerRow) (s : SlotRow) (y : Frame) → list_all is_formed_layer layers ≡ true → is_kept_slot layers s ≡ true → s.frame ≡ Some y → y.layer < MOST_LAYERS
-layer_within layers s y formed kept is =
-    let both = and_both (nat_le s.version LAST_VERSION) (for_any s.frame (is_kept_frame layers)) kept in
-    let own = has_layer layers y (sym (ap (λ (o : Option Frame). for_any o (is_kept_frame layers)) is) ∙ both.1) in
-    subst (λ (n : ℕ). n < MOST_LAYERS) own.place_is (place_within own.layer (list_all-at is_formed_layer layers (layer_position y.job y.layer layers) own.layer formed own.at))

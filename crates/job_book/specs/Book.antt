@@ -8,7 +8,9 @@ use Rattle.farm_types.specs.declared.states.FrameState.{FrameState}
 use Rattle.farm_types.specs.declared.states.FrameState.TheVariants as frame_state
 use Rattle.farm_types.specs.Farm.{for_some}
 use Rattle.farm_types.specs.Jobs.{JobLists, frames_in, frames_of, job_refusal, job_row, layer_rows, place_frames}
-use Rattle.job_book.specs.declared.counts.Counts.{Counts}
+use Rattle.job_entries.specs.declared.counts.Counts.{Counts}
+pub use Rattle.job_entries.specs.Counting.{number_of}
+pub use Rattle.job_entries.specs.Entries.{with_pause}
 use Rattle.job_book.specs.declared.frame_view.FrameView.{FrameView}
 use Rattle.farm_types.specs.declared.fault.FarmFault.{FarmFault}
 use Rattle.farm_types.specs.declared.fault.FarmFault.TheVariants as fault
@@ -64,12 +66,6 @@ abbrev pub KeepsFrame : Option SlotRow → SlotRow → Type 0
 KeepsFrame None row = ⊥
 KeepsFrame (Some old) row = IsSameFrame old.frame row.frame
 
--- ---- changes of one job
-
--- the job is paused, or it isn't
-abbrev pub with_pause : Bool → JobRow → JobRow
-with_pause paused j = record j { paused = paused }
-
 -- ---- what is read
 
 -- the jobs without the one of that number, where one is named
@@ -102,15 +98,6 @@ abbrev pub state_at : JobLists → ℕ → Option FrameState × ℕ
 state_at b slot = state_in (slice_get b.slots slot)
 
 -- ---- counts
-
-abbrev pub number_of : FrameState → ℕ
-number_of frame_state.Waiting = 0
-number_of frame_state.Setup = 1
-number_of frame_state.Running = 2
-number_of frame_state.Succeeded = 3
-number_of frame_state.Depend = 4
-number_of frame_state.Dead = 5
-number_of frame_state.Eaten = 6
 
 abbrev pub is_in : ℕ → FrameState → Frame → Bool
 is_in job state x = x.job == job && number_of x.state == number_of state

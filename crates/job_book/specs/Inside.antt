@@ -10,7 +10,7 @@ use Rattle.farm_types.specs.Farm.{for_some}
 use Rattle.farm_types.specs.Finish.{is_frame_of}
 use Rattle.farm_types.specs.Jobs.{JobLists, free_among, free_in}
 use Rattle.farm_types.specs.Rising.{IsRising, job_key}
-use Rattle.job_book.specs.declared.counts.Counts.{Counts}
+use Rattle.job_entries.specs.declared.counts.Counts.{Counts}
 use Rattle.job_book.specs.declared.jobs.Jobs.TheInside.{Inside}
 use Rattle.job_book.specs.Book.{counts_of}
 use Rattle.job_book.specs.Finished.{KeepsFinished, KeepsFinishes}

@@ -1,6 +1,5 @@
 -- Where the frames of the layers stand, and which of them wait.
 use Rattle.std.specs.Prelude.{ℕ, ◌≡◌, ◌==◌, ◌&&◌, ◌+◌, Bool, true, List, [], ◌∷◌, map, length, replicate, Option, Some, option_and_then, slice_get, slice_set, if◌then◌else◌}
-use Rattle.std.specs.List.{position_or_len}
 use Rattle.farm_types.specs.declared.job.JobSpec.{JobSpec}
 use Rattle.farm_types.specs.declared.job.LayerSpec.{LayerSpec}
 use Rattle.farm_types.specs.declared.rows.LayerRow.{LayerRow}
@@ -9,6 +8,7 @@ use Rattle.farm_types.specs.declared.slot_row.SlotRow.{SlotRow}
 use Rattle.farm_types.specs.Jobs.{JobLists, frames_of, is_free, place_frames}
 use Rattle.farm_types.specs.Farm.{is_placed, slot_from}
 use Rattle.job_index.specs.Places.{LayerPlaces}
+use Rattle.job_entries.specs.Entries.{layer_position}
 use Rattle.job_book.specs.Index.{waits_in}
 
 abbrev pub slots_of : LayerPlaces → List ℕ
@@ -33,10 +33,6 @@ abbrev pub spare_of : JobSpec → Spare
 spare_of spec = record { name = spec.name; layers = map fresh_places spec.layers }
 
 -- ---- layers
-
--- the place among all layers of the one at a place of a job
-abbrev pub layer_position : ℕ → ℕ → List LayerRow → ℕ
-layer_position job layer layers = position_or_len (λ (l : LayerRow). l.job == job && l.place == layer) layers
 
 -- the slot at a position of the layer at that place among all
 abbrev pub place_in : List (List ℕ) → ℕ → ℕ → Option ℕ

@@ -1,6 +1,4 @@
 pub mod Book
-pub mod Counting
-pub mod Entries
 pub mod Finished
 pub mod Freed
 pub mod Index
@@ -8,6 +6,5 @@ pub mod Inside
 pub mod Layers
 pub mod Lowest
 pub mod Names
-pub mod OneJob
 pub mod Ready
 pub mod Restored

@@ -9,10 +9,10 @@ ghost use Rattle.farm_types.specs.SpecLimits.{JobKeepsLimits};
 ghost use Rattle.farm_types.specs.declared.refusal.Refusal.TheVariants as refusal;
 ghost use Rattle.job_book.specs.Book.{Checks};
 
-use crate::entries::Entries;
 use crate::jobs::Jobs;
 use crate::placing::Placing;
 use farm_types::{Counted, FarmFault, JobNo, JobSpec, LAST_JOB, LayerSpec, Refusal, ShowNo, Text};
+use job_entries::Entries;
 use std::alloc::Global;
 
 impl Jobs {

@@ -16,7 +16,7 @@ use farm_types::{JobNo, Slot, SlotRow};
 use job_index::LayerFrames;
 
 /// How many slots are free, and a slot below which none is.
-#[derive(Clone, Copy, Debug, PartialEq, Eq)]
+#[derive(Clone, Copy)]
 pub(crate) struct Free {
     pub(crate) count: u32,
     pub(crate) lowest: u32,

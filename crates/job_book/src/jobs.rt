@@ -3,9 +3,9 @@
 ghost use Rattle.std.specs.Prelude.{◌≡◌, IfOk};
 ghost use Rattle.job_book.specs.Book.{no_jobs};
 
-use crate::entries::Entries;
 use crate::ready::no_ready;
 use farm_types::{SLOT_LIMIT, SlotRow};
+use job_entries::Entries;
 use job_index::{JobNames, ReadyJobs};
 use std::alloc::{AllocError, Global};
 use std::marker::Model;

@@ -1,10 +1,8 @@
-//! The index of layers: where the frames of each stand.
+//! What is read of where the frames of a job's layers stand, and that of a new job.
 
 ghost use Rattle.std.specs.Prelude.{◌≡◌, ℕ, map, slice_get, option_and_then, IfOk};
-ghost use Rattle.std.specs.Vec.{vec_capacity};
-ghost use Rattle.farm_types.specs.Farm.{changed_at};
 ghost use Rattle.job_book.specs.Layers.{fresh_places, place_in, slots_of};
-ghost use Rattle.job_index.specs.Places.{first_marked, marked};
+ghost use Rattle.job_index.specs.Places.{first_marked};
 
 use farm_types::{LayerSpec, Slot};
 use job_index::LayerFrames;
@@ -37,16 +35,6 @@ pub(crate) fn waiting_in(index: &[LayerFrames], place: usize, from: u32) -> Opti
     match index.get(place) {
         None => None,
         Some(frames) => frames.first_waiting(from),
-    }
-}
-
-/// Whether the frame at a position of the layer at that place waits is noted.
-pub(crate) fn mark_in(index: &mut Vec<LayerFrames>, place: usize, position: u32, waits: bool)
-    ensures items { index.new.items ≡ changed_at index.old.items place (marked position waits) }
-    ensures capacity { vec_capacity index.new ≡ vec_capacity index.old }
-{
-    if place < index.len() {
-        index[place].mark(position, waits);
     }
 }
 

@@ -4,14 +4,14 @@ ghost use Rattle.std.specs.Prelude.{◌≡◌, ◌==◌, ◌<◌, ◌+◌, ◌*�
 ghost use Rattle.farm_types.specs.Farm.{for_some};
 ghost use Rattle.farm_types.specs.Jobs.{without_finished};
 ghost use Rattle.job_book.specs.Book.{has_job};
-ghost use Rattle.job_book.specs.Entries.{IsAt};
+ghost use Rattle.job_entries.specs.Entries.{IsAt};
 ghost use Rattle.job_book.specs.Finished.{can_put, finish_key, has_finish, without_done};
 ghost use Rattle.job_index.specs.Keys.{put_key};
 ghost use Rattle.job_index.specs.declared.ready_jobs.TheConstants.{JOB_NUMBERS};
 
-use crate::entries::{At, Entries};
 use crate::jobs::Jobs;
 use farm_types::{JobNo, JobRow, Text};
+use job_entries::{At, Entries};
 use job_index::{JOB_NUMBERS, ReadyJobs};
 
 impl Jobs {

@@ -8,16 +8,14 @@ ghost use Rattle.farm_types.specs.SpecLimits.{JobKeepsLimits};
 ghost use Rattle.farm_types.specs.declared.limits.TheConstants.{MOST_LAYERS};
 ghost use Rattle.job_book.specs.Book.{placing_of, with_new_job};
 ghost use Rattle.job_book.specs.Layers.{spare_of};
-ghost use Rattle.job_book.specs.Counting.{new_counts};
 ghost use Rattle.job_book.specs.Names.{is_named};
 
-use crate::counts::Counts;
-use crate::entry::Entry;
 use crate::jobs::Jobs;
 use crate::placing::{JobSpare, Placing};
 use crate::put::{behind_last, put_layers};
 use crate::ready::put_ready;
 use farm_types::{JobNo, JobRow, JobSpec, JobState, LayerRow, LayerSpec};
+use job_entries::{Entry, all_waiting};
 
 impl Jobs {
     /// Places a job that isn't refused where `check` said, with the memory that was reserved for it: its frames wait in the
@@ -57,12 +55,8 @@ impl Jobs {
         add_layers(&mut rows, job, layers);
         self.names.add(name, job);
         put_ready(&mut self.ready, &row);
-        self.entries.add(Entry {
-            row,
-            counts: all_waiting(placing.frames),
-            layers: rows,
-            index,
-        });
+        self.entries
+            .add(Entry::make(row, all_waiting(placing.frames), rows, index));
         self.free -= placing.frames;
         job
     }
@@ -121,20 +115,5 @@ fn layer_row(job: JobNo, place: u32, layer: LayerSpec) -> LayerRow
         cores: layer.cores,
         memory: layer.memory,
         tags: layer.tags,
-    }
-}
-
-/// The counts of a job of so many frames, all of which wait.
-pub(crate) fn all_waiting(frames: u32) -> Counts
-    ensures { result ≡ new_counts frames }
-{
-    Counts {
-        waiting: frames,
-        setup: 0,
-        running: 0,
-        succeeded: 0,
-        depend: 0,
-        dead: 0,
-        eaten: 0,
     }
 }

@@ -8,12 +8,12 @@ ghost use Rattle.job_book.specs.Book.{job_named, job_after, frame_at, frame_view
 ghost use Rattle.job_book.specs.Finished.{finished_of};
 ghost use Rattle.job_book.specs.Index.{WaitsFirst, ready_of};
 
-use crate::counts::Counts;
 use crate::frame_view::FrameView;
 use crate::jobs::Jobs;
 use crate::layer_index::{slot_in, waiting_in};
 use crate::ready::jobs_in;
 use farm_types::{Frame, FrameState, JobNo, JobRow, LayerRow, ShowNo, Slot, SlotRow, Version};
+use job_entries::Counts;
 
 impl Jobs {
     /// The slots, each at its number, up to the last that was ever used.

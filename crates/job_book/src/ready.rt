@@ -4,12 +4,12 @@ ghost use Rattle.std.specs.Prelude.{ℕ, List, ◌≡◌, ◌==◌, find, ◌≤
 ghost use Rattle.farm_types.specs.Farm.{changed_at, for_some};
 ghost use Rattle.farm_types.specs.declared.limits.TheConstants.{MOST_PRIORITY, MOST_SHOWS};
 ghost use Rattle.job_index.specs.declared.ready_jobs.TheConstants.{JOB_NUMBERS};
-ghost use Rattle.job_book.specs.Entries.{IsAt, counts_in};
+ghost use Rattle.job_entries.specs.Entries.{IsAt, counts_in};
 ghost use Rattle.job_book.specs.Ready.{CanBeReady, CanChange, changed_ready, has_priority, jobs_in, ready_key};
 ghost use Rattle.job_index.specs.Keys.{drop_key, put_key};
 
-use crate::entries::{At, Entries};
 use farm_types::{JobNo, JobRow, MOST_PRIORITY, MOST_SHOWS};
+use job_entries::{At, Entries};
 use job_index::{JOB_NUMBERS, ReadyJobs};
 use std::alloc::{AllocError, Global};
 

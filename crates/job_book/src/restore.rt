@@ -10,10 +10,9 @@ ghost use Rattle.job_book.specs.Restored.{lists_in};
 use crate::jobs::Jobs;
 use crate::put::is_free;
 use crate::restored_counts::counts_in;
-use crate::restored_entries::entries_of;
-use crate::restored_index::index_of;
 use crate::restored_keys::{finished_of, names_of, ready_lists};
 use farm_types::{JobRow, LayerRow, SLOT_LIMIT, SlotRow};
+use job_entries::{entries_of, index_of};
 use std::alloc::{AllocError, Global};
 
 impl Jobs {

@@ -4,15 +4,13 @@ ghost use Rattle.std.specs.Prelude.{◌≡◌, ◌≤◌, ◌<◌, ◌==◌, ℕ
 ghost use Rattle.std.specs.List.{position_or_len};
 ghost use Rattle.farm_types.specs.Rising.{IsRising, job_key};
 ghost use Rattle.farm_types.specs.declared.limits.TheConstants.{SLOT_LIMIT};
-ghost use Rattle.job_book.specs.declared.counts.Counts.{Counts};
+ghost use Rattle.job_entries.specs.declared.counts.Counts.{Counts};
 ghost use Rattle.job_index.specs.declared.ready_jobs.TheConstants.{JOB_NUMBERS};
 ghost use Rattle.job_book.specs.Inside.{counts_for};
 ghost use Rattle.job_book.specs.Restored.{HasFew, counted_frame};
 
-use crate::counting::counted_in;
-use crate::counts::Counts;
-use crate::place::all_waiting;
 use farm_types::{JobNo, JobRow, SlotRow};
+use job_entries::{Counts, all_waiting, counted_in};
 use std::alloc::{AllocError, Global};
 
 /// The counts of these jobs, in their order.

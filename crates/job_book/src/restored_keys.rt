@@ -14,11 +14,11 @@ ghost use Rattle.job_book.specs.Ready.{has_priority};
 ghost use Rattle.job_index.specs.Keys.{sorted, AreKeys};
 ghost use Rattle.job_book.specs.Restored.{AreBeside, AreSorted, with_ready};
 
-use crate::counts::Counts;
 use crate::leave::finish_key;
 use crate::ready::ready_key;
 use crate::restored_counts::counts_at;
 use farm_types::{Items, JobRow, MOST_SHOWS};
+use job_entries::Counts;
 use job_index::{JobNames, ReadyJobs};
 use std::alloc::{AllocError, Global};
 

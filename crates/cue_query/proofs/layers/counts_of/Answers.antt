@@ -5,7 +5,7 @@ use Rattle.farm_types.specs.declared.states.FrameState.{FrameState}
 use Rattle.farm_types.specs.Depends.{layer_shape}
 use Rattle.farm_types.specs.Jobs.{JobLists}
 use Rattle.job_book.specs.Book.{state_at}
-use Rattle.job_book.specs.Counting.{part, counted_in}
+use Rattle.job_entries.specs.Counting.{part, counted_in}
 use Rattle.farm_types.specs.Step.{lists_of}
 use Rattle.cue_query.specs.Counts.{counts_among}
 use Rattle.cue_query.proofs.Counted.{all_counted, next_counted, next_passed, part_below}

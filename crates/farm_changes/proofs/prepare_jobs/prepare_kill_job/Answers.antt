@@ -3,7 +3,7 @@ use Rattle.farm_types.specs.declared.entry.Act.TheVariants as act
 use Rattle.farm_types.specs.declared.states.FrameState.TheVariants as frame_state
 use Rattle.farm_types.specs.Jobs.{JobLists}
 use Rattle.job_book.specs.Book.{count_in}
-use Rattle.job_book.specs.declared.counts.Counts.{Counts}
+use Rattle.job_entries.specs.declared.counts.Counts.{Counts}
 use Rattle.farm_changes.proofs.OperatedJobs.{job_refuses, kill_makes, named_is, named_there}
 use Rattle.farm_changes.proofs.prepare_jobs.prepare_kill_job.Goals as goal
 

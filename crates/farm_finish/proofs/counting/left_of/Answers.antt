@@ -1,5 +1,5 @@
 use Rattle.std.proofs.Common.{◌∙◌, ap, ◌+◌, arith}
-use Rattle.job_book.specs.declared.counts.Counts.{Counts}
+use Rattle.job_entries.specs.declared.counts.Counts.{Counts}
 use Rattle.farm_finish.proofs.LeftFrames.{left_sum}
 use Rattle.farm_finish.proofs.counting.left_of.Goals as goal
 

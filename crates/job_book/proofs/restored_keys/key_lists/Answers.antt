@@ -3,7 +3,7 @@ use Rattle.std.specs.List.{slice_get}
 use Rattle.std.proofs.lemmas.List.{drop_all, drop_more}
 use Rattle.std.proofs.lemmas.Option.{get_or_from_slice_get}
 use Rattle.farm_types.specs.declared.rows.JobRow.{JobRow}
-use Rattle.job_book.specs.declared.counts.Counts.{Counts}
+use Rattle.job_entries.specs.declared.counts.Counts.{Counts}
 use Rattle.job_book.specs.Restored.{keys_beside, with_ready}
 use Rattle.job_book.proofs.RestoredKeys.{length_ready, ready_step}
 use Rattle.job_book.proofs.restored_keys.key_lists.Goals as goal

@@ -2,7 +2,7 @@ use Rattle.std.proofs.Common.{◌≡◌, ◌∙◌, List, Some, sym, ap, eqb}
 use Rattle.std.specs.List.{position_or_len, slice_get}
 use Rattle.farm_types.specs.declared.rows.JobRow.{JobRow}
 use Rattle.farm_types.specs.Jobs.{JobLists}
-use Rattle.job_book.specs.declared.counts.Counts.{Counts}
+use Rattle.job_entries.specs.declared.counts.Counts.{Counts}
 use Rattle.job_book.specs.Book.{counts_of, has_job}
 use Rattle.job_book.specs.Inside.{counts_for}
 use Rattle.job_book.proofs.JobPlaces.{at_place, counts_there}

@@ -8,16 +8,15 @@ use Rattle.farm_types.specs.Farm.{changed_at, for_some}
 use Rattle.farm_types.specs.Finish.{freed_row, is_finished}
 use Rattle.farm_types.specs.Jobs.{JobLists}
 use Rattle.farm_types.specs.Kept.{is_of_pending}
-use Rattle.job_book.specs.declared.counts.Counts.{Counts}
-use Rattle.job_book.specs.declared.entries.At.{At}
+use Rattle.job_entries.specs.declared.counts.Counts.{Counts}
+use Rattle.job_entries.specs.declared.entries.At.{At}
 use Rattle.job_index.specs.declared.ready_jobs.TheConstants.{JOB_NUMBERS}
 use Rattle.job_book.specs.Book.{count_in, counts_of}
-use Rattle.job_book.specs.Counting.{new_counts}
-use Rattle.job_book.specs.Entries.{counts_in, with_end}
-use Rattle.job_book.specs.Layers.{layer_position}
+use Rattle.job_entries.specs.Counting.{new_counts}
+use Rattle.job_entries.specs.Entries.{counts_in, with_end, layer_position}
 use Rattle.job_book.specs.Finished.{KeepsFinishes, can_put, finish_key, has_finish, with_one_finished}
 use Rattle.job_book.specs.Inside.{book_of, counts_for}
-use Rattle.job_book.specs.OneJob.{AllJobs}
+use Rattle.job_entries.specs.OneJob.{AllJobs}
 use Rattle.job_index.specs.Keys.{put_key}
 use Rattle.job_book.proofs.FoundAt.{found_at, found_then}
 use Rattle.job_book.proofs.FinishNumbers.{finished_finishes, number_left}

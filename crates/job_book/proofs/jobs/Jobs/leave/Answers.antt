@@ -11,16 +11,16 @@ use Rattle.farm_types.specs.Finish.{is_finished}
 use Rattle.farm_types.specs.Jobs.{JobLists}
 use Rattle.farm_types.specs.Kept.{is_of_pending, is_pending_job}
 use Rattle.farm_types.proofs.Lists.{find_passes, found_is}
-use Rattle.job_book.specs.declared.counts.Counts.{Counts}
-use Rattle.job_book.specs.declared.entries.At.{At}
+use Rattle.job_entries.specs.declared.counts.Counts.{Counts}
+use Rattle.job_entries.specs.declared.entries.At.{At}
 use Rattle.job_index.specs.declared.ready_jobs.TheConstants.{JOB_NUMBERS}
 use Rattle.job_book.specs.Book.{has_job}
-use Rattle.job_book.specs.Entries.{beside, without_row}
+use Rattle.job_entries.specs.Entries.{beside, without_row}
 use Rattle.job_book.specs.Finished.{KeepsFinished, finish_key, has_finish, without_done}
 use Rattle.job_book.specs.Inside.{book_of, has_layers_if}
 use Rattle.job_book.specs.Names.{KeepsNames}
 use Rattle.job_index.specs.Names.{number_of}
-use Rattle.job_book.specs.OneJob.{AllJobs}
+use Rattle.job_entries.specs.OneJob.{AllJobs}
 use Rattle.job_book.specs.Ready.{KeepsReady}
 use Rattle.job_index.specs.Keys.{drop_key}
 use Rattle.job_book.proofs.FinishNumbers.{left_finishes}

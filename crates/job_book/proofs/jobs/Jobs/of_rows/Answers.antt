@@ -15,9 +15,10 @@ use Rattle.job_book.specs.Names.{KeepsNames}
 use Rattle.job_book.specs.Ready.{has_priority}
 use Rattle.job_index.specs.Keys.{sorted}
 use Rattle.job_index.specs.Names.{NameList}
-use Rattle.job_book.specs.Restored.{all_in, keys_beside, lists_in, noted_from, unplaced}
+use Rattle.job_book.specs.Restored.{keys_beside, lists_in}
+use Rattle.job_entries.specs.Restored.{all_in, noted_from, unplaced}
 use Rattle.job_book.proofs.RestoredBook.{few_jobs, finishes, layers_numbered, made_book, numbered, priorities, rise}
-use Rattle.job_book.proofs.RestoredEntries.{owned}
+use Rattle.job_book.proofs.OwnedLayers.{owned}
 use Rattle.job_book.proofs.RestoredIndex.{noted_count, noted_layers, noted_waiting}
 use Rattle.job_book.proofs.RestoredKeys.{beside_is}
 use Rattle.job_book.proofs.jobs.Jobs.of_rows.Goals as goal

@@ -10,24 +10,23 @@ use Rattle.farm_types.specs.declared.rows.LayerRow.{LayerRow}
 use Rattle.farm_types.specs.declared.slot_row.SlotRow.{SlotRow}
 use Rattle.farm_types.specs.Farm.{changed_at}
 use Rattle.farm_types.specs.Jobs.{JobLists, frames_in, free_among, job_refusal, job_row, layer_rows, place_frames, frames_of}
-use Rattle.job_book.specs.declared.counts.Counts.{Counts}
+use Rattle.job_entries.specs.declared.counts.Counts.{Counts}
 use Rattle.job_index.specs.declared.limits.TheConstants.{MOST_JOBS}
 use Rattle.job_book.specs.declared.placing.Placing.{Placing}
 use Rattle.job_book.specs.Book.{placing_of, with_new_job}
-use Rattle.job_book.specs.Counting.{new_counts}
-use Rattle.job_book.specs.Entries.{are_layers}
+use Rattle.job_entries.specs.Counting.{new_counts}
+use Rattle.job_entries.specs.Entries.{are_layers, with_entry}
 use Rattle.job_book.specs.Inside.{book_of, counts_for}
 use Rattle.job_book.specs.Layers.{Spare, count_of, fresh_places, marks_of}
 use Rattle.job_book.specs.Names.{is_named}
 use Rattle.job_index.specs.Names.{number_of}
-use Rattle.job_book.specs.OneJob.{AllJobs}
+use Rattle.job_entries.specs.OneJob.{AllJobs, OneJob}
 use Rattle.job_book.specs.Lowest.{AreNext, behind, filled, lowest_free}
 use Rattle.job_book.specs.Ready.{has_priority, ready_key}
 use Rattle.job_index.specs.Keys.{put_key}
 use Rattle.job_book.proofs.FinishNumbers.{placed_finishes}
 use Rattle.job_book.proofs.FreePlaces.{put_lowest}
 use Rattle.job_book.proofs.FreeSlots.{behind_placed, filled_all, length-lowest_free, next_lowest}
-use Rattle.job_book.proofs.HeldKept.{same_lists}
 use Rattle.job_book.proofs.NamedJobs.{keeps_more, unnamed}
 use Rattle.job_book.proofs.Placed.{accepted_fits, length-layer_rows, placed_book, placed_counts, placed_finished, placed_free, rows_few, rows_are_layers}
 use Rattle.job_book.proofs.PlacedWaiting.{more_layers, more_waiting}
@@ -157,7 +156,7 @@ add-requires-2-clause-number c =
     let placing : c.args.placing ≡ placing_of b show spec = c.requires.placing ∙ ap (λ (l : JobLists). placing_of l show spec) (sym c.self.view_is) in
     let job : c.args.placing.job ≡ b.next_job = ap (λ (p : Placing). p.job) placing in
     let fits = accepted_fits b spec accepted in
-    ap (λ (r : JobRow). r.job) c.taken_apart-row.ensures.row ∙ job
+    ap (λ (e : OneJob). e.row.job) c.make.ensures ∙ ap (λ (r : JobRow). r.job) c.taken_apart-row.ensures.row ∙ job
 
 pub add-requires-2-clause-left : goal.add-requires-2-clause-left
 add-requires-2-clause-left c =
@@ -186,14 +185,16 @@ add-requires-2-clause-layers c =
     let job : c.args.placing.job ≡ b.next_job = ap (λ (p : Placing). p.job) placing in
     let fits = accepted_fits b spec accepted in
     let rows = c.add_layers.ensures.rows ∙ ap (λ (ls : List LayerRow). ls ++ layer_rows c.args.placing.job 0 c.taken_apart-row.result.1.items) c.reserved.invariant.0 in
-    ap (λ (r : JobRow). are_layers r.job 0 c.add_layers.new.rows.items) c.taken_apart-row.ensures.row
+    ap (λ (e : OneJob). are_layers e.row.job 0 e.layers) c.make.ensures
+    ∙ ap (λ (r : JobRow). are_layers r.job 0 c.add_layers.new.rows.items) c.taken_apart-row.ensures.row
     ∙ ap (are_layers c.args.placing.job 0) rows ∙ rows_are_layers c.args.placing.job 0 c.taken_apart-row.result.1.items
 
 pub add-requires-2-clause-index : goal.add-requires-2-clause-index
 add-requires-2-clause-index c =
     let more = sym (length-map c.put_layers.new.index.items count_of) ∙ ap (λ (ns : List ℕ). length ns) c.put_layers.ensures.lengths ∙ length-map c.as_slice.result.now (λ (l : LayerSpec). length l.numbers) ∙ ap (λ (ls : List LayerSpec). length ls) c.as_slice.ensures.value in
     let rows = c.add_layers.ensures.rows ∙ ap (λ (ls : List LayerRow). ls ++ layer_rows c.args.placing.job 0 c.taken_apart-row.result.1.items) c.reserved.invariant.0 in
-    more ∙ sym (ap (λ (ls : List LayerRow). length ls) rows ∙ length-layer_rows c.args.placing.job 0 c.taken_apart-row.result.1.items)
+    ap (λ (e : OneJob). length e.index) c.make.ensures ∙ more
+    ∙ sym (ap (λ (e : OneJob). length e.layers) c.make.ensures ∙ ap (λ (ls : List LayerRow). length ls) rows ∙ length-layer_rows c.args.placing.job 0 c.taken_apart-row.result.1.items)
 
 pub add-requires-2-clause-few : goal.add-requires-2-clause-few
 add-requires-2-clause-few c =
@@ -238,8 +239,13 @@ invariant_of-self c =
     ∙ ap (λ (n : ℕ). layer_rows n 0 c.taken_apart-row.result.1.items) job ∙ ap (λ (ls : List LayerSpec). layer_rows b.next_job 0 ls) layers in
     let waiting = c.all_waiting.ensures ∙ ap new_counts frames in
     let more = c.put_layers.new.index.items in
+    let made : c.add-2.new.self ≡ with_entry (record { row = c.taken_apart-row.result.0; counts = c.all_waiting.result; layers = c.add_layers.new.rows.items; index = c.put_layers.new.index.items }) c.add-2.new.self.numbers inside.entries =
+    c.add-2.ensures ∙ ap (λ (e : OneJob). with_entry e c.add-2.new.self.numbers inside.entries) c.make.ensures in
+    let rows_are = ap (λ (r : JobRow). b.jobs ++ r ∷ []) row in
+    let counts_are = ap (λ (cs : List Counts). cs ++ c.all_waiting.result ∷ []) kept.counts_are ∙ ap (λ (k : Counts). counts_for b.jobs b.slots ++ k ∷ []) waiting in
+    let layers_are = ap (λ (ls : List LayerRow). b.layers ++ ls) new_rows in
     let entries : c.add-2.new.self ≡ record { rows = b.jobs ++ job_row b.next_job show spec ∷ []; counts = counts_for b.jobs b.slots ++ new_counts (frames_in spec.layers) ∷ []; layers = b.layers ++ layer_rows b.next_job 0 spec.layers; index = inside.entries.index ++ more; next = b.next_job + 1; numbers = c.add-2.new.self.numbers } =
-    c.add-2.ensures ∙ same_lists _ _ (ap (λ (r : JobRow). b.jobs ++ r ∷ []) row) (ap (λ (cs : List Counts). cs ++ c.all_waiting.result ∷ []) kept.counts_are ∙ ap (λ (k : Counts). counts_for b.jobs b.slots ++ k ∷ []) waiting) (ap (λ (ls : List LayerRow). b.layers ++ ls) new_rows) refl refl refl in
+    made ∙ (λ i. record { rows = rows_are i; counts = counts_are i; layers = layers_are i; index = inside.entries.index ++ more; next = b.next_job + 1; numbers = c.add-2.new.self.numbers }) in
     let placed = placed_book b show spec c.requires.limits accepted ok in
     let free = placed_free b show spec c.requires.limits accepted ok in
     let counted = placed_counts b show spec c.requires.limits accepted ok in
@@ -296,7 +302,9 @@ returns-clause-book c =
     let new_rows : c.add_layers.new.rows.items ≡ layer_rows b.next_job 0 spec.layers =
     c.add_layers.ensures.rows ∙ ap (λ (ls : List LayerRow). ls ++ layer_rows c.args.placing.job 0 c.taken_apart-row.result.1.items) c.reserved.invariant.0
     ∙ ap (λ (n : ℕ). layer_rows n 0 c.taken_apart-row.result.1.items) job ∙ ap (λ (ls : List LayerSpec). layer_rows b.next_job 0 ls) layers in
-    let rows_are = ap (λ (a : AllJobs). a.rows) c.add-2.ensures ∙ ap (λ (r : JobRow). b.jobs ++ r ∷ []) row in
-    let layers_are = ap (λ (a : AllJobs). a.layers) c.add-2.ensures ∙ ap (λ (ls : List LayerRow). b.layers ++ ls) new_rows in
-    let next_is = ap (λ (a : AllJobs). a.next) c.add-2.ensures in
+    let made : c.add-2.new.self ≡ with_entry (record { row = c.taken_apart-row.result.0; counts = c.all_waiting.result; layers = c.add_layers.new.rows.items; index = c.put_layers.new.index.items }) c.add-2.new.self.numbers inside.entries =
+    c.add-2.ensures ∙ ap (λ (e : OneJob). with_entry e c.add-2.new.self.numbers inside.entries) c.make.ensures in
+    let rows_are = ap (λ (a : AllJobs). a.rows) made ∙ ap (λ (r : JobRow). b.jobs ++ r ∷ []) row in
+    let layers_are = ap (λ (a : AllJobs). a.layers) made ∙ ap (λ (ls : List LayerRow). b.layers ++ ls) new_rows in
+    let next_is = ap (λ (a : AllJobs). a.next) made in
     (λ i. record { jobs = rows_are i; layers = layers_are i; slots = new_slots i; next_job = next_is i; next_finish = inside.next_finish }) ∙ ap (λ (l : JobLists). with_new_job l show spec) c.self.view_is

@@ -1,9 +1,9 @@
 use Rattle.std.proofs.Common.{◌∙◌, map, sym, ap}
 use Rattle.farm_types.specs.Jobs.{JobLists}
 use Rattle.farm_types.specs.Operators.{paused_row}
-use Rattle.job_book.specs.declared.entries.At.{At}
+use Rattle.job_entries.specs.declared.entries.At.{At}
 use Rattle.job_book.specs.Inside.{book_of}
-use Rattle.job_book.specs.OneJob.{AllJobs}
+use Rattle.job_entries.specs.OneJob.{AllJobs}
 use Rattle.job_book.proofs.FoundAt.{found_at}
 use Rattle.job_book.proofs.FinishNumbers.{paused_finishes}
 use Rattle.job_book.proofs.PausedJobs.{paused_book, paused_counts, paused_finished, paused_names, paused_ready}

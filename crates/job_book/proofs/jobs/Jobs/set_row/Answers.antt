@@ -9,15 +9,14 @@ use Rattle.farm_types.specs.Jobs.{JobLists}
 use Rattle.farm_types.proofs.Changed.{changed_at_is}
 use Rattle.farm_types.proofs.Lists.{found_is}
 use Rattle.std.proofs.lemmas.Bool.{eqb-true}
-use Rattle.job_book.specs.declared.counts.Counts.{Counts}
-use Rattle.job_book.specs.declared.entries.At.{At}
+use Rattle.job_entries.specs.declared.counts.Counts.{Counts}
+use Rattle.job_entries.specs.declared.entries.At.{At}
 use Rattle.job_index.specs.declared.limits.TheConstants.{MOST_JOBS}
-use Rattle.job_book.specs.Counting.{CanMove, moved}
-use Rattle.job_book.specs.Entries.{counts_in, with_moved_in}
+use Rattle.job_entries.specs.Counting.{CanMove, moved}
+use Rattle.job_entries.specs.Entries.{counts_in, with_moved_in, layer_position}
 use Rattle.job_book.specs.Inside.{book_of, counts_for}
-use Rattle.job_book.specs.Layers.{layer_position}
 use Rattle.job_index.specs.Places.{marked}
-use Rattle.job_book.specs.OneJob.{AllJobs}
+use Rattle.job_entries.specs.OneJob.{AllJobs}
 use Rattle.job_book.specs.Ready.{CanChange, changed_ready}
 use Rattle.job_book.proofs.FoundAt.{found_at, found_then}
 use Rattle.job_book.proofs.InState.{begun_here, can_move, counts_in_state, in_state, in_state_book, in_state_free, with_row}

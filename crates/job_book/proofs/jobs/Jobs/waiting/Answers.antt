@@ -4,7 +4,7 @@ use Rattle.std.specs.Option.{option_and_then}
 use Rattle.farm_types.specs.Jobs.{JobLists}
 use Rattle.job_book.specs.Index.{WaitsFirst}
 use Rattle.job_book.specs.Inside.{book_of}
-use Rattle.job_book.specs.Layers.{layer_position}
+use Rattle.job_entries.specs.Entries.{layer_position}
 use Rattle.job_index.specs.Places.{first_marked}
 use Rattle.job_book.proofs.FirstWaiting.{waits_first}
 use Rattle.job_book.proofs.jobs.Jobs.waiting.Goals as goal

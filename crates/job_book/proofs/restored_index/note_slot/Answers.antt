@@ -1,5 +1,0 @@
-use Rattle.job_book.proofs.RestoredIndex.{layer_within}
-use Rattle.job_book.proofs.restored_index.note_slot.Goals as goal
-
-pub layer_place-place-requires-clause-within : goal.layer_place-place-requires-clause-within
-layer_place-place-requires-clause-within c = layer_within c.args.layers.now c.args.row.now c.in-Some.frame c.requires.formed c.requires.kept c.in-Some.is

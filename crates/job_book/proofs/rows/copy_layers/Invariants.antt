@@ -1,5 +1,0 @@
-use Rattle.std.proofs.Common.{◌≡◌, ◌++◌, take}
-use Rattle.job_book.proofs.rows.copy_layers.Given as goal
-
-abbrev pub invariant-loop-layer : goal.invariant-loop-layer
-invariant-loop-layer l = l.rows.items ≡ l.fn.rows.items ++ take l.layer-index l.layers

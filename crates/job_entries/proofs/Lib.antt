@@ -1,0 +1,6 @@
+pub mod Held
+pub mod HeldLists
+pub mod HeldKept
+pub mod HeldFinish
+pub mod RestoredEntries
+pub mod RestoredLayers

@@ -1,0 +1,4 @@
+pub mod Counting
+pub mod Entries
+pub mod OneJob
+pub mod Restored
