@@ -1,5 +1,5 @@
 -- How many frames a job has.
-use Rattle.std.proofs.Common.{◌≡◌, ℕ, suc, ◌+◌, ◌<◌, ◌≤◌, List, [], ◌∷◌, length, take, get_or, ℤ, refl, sym, ap, subst, ◌∙◌, arith, length-append}
+use Rattle.std.proofs.Common.{◌≡◌, ℕ, suc, ◌+◌, ◌<◌, ◌≤◌, List, [], ◌∷◌, length, take, get_or, ℤ, refl, sym, ap, subst, arith, length-append}
 use Rattle.std.proofs.lemmas.List.Sums.{sum_by-cons, sum_by_more_le}
 use Rattle.farm_types.specs.declared.job.LayerSpec.{LayerSpec}
 use Rattle.farm_types.specs.Jobs.{frames_from, frames_in, frames_of}

@@ -7,13 +7,13 @@ use Rattle.std.proofs.lemmas.Bool.{cases_lt, true≢false, eqb-true, eq-eqb, and
 use Rattle.std.proofs.lemmas.List.{length-map}
 use Rattle.std.proofs.lemmas.List.Folds.{find_at}
 use Rattle.std.proofs.lemmas.Option.{none-some, same_Some, slice_get_past, slice_get_within, slice_get-map}
-use Rattle.farm_types.specs.declared.limits.TheConstants.{LAST_VERSION, MOST_LAYERS}
+use Rattle.farm_types.specs.declared.limits.TheConstants.{LAST_VERSION}
 use Rattle.farm_types.specs.declared.rows.LayerRow.{LayerRow}
 use Rattle.farm_types.specs.declared.slot_row.Frame.{Frame}
 use Rattle.farm_types.specs.declared.slot_row.SlotRow.{SlotRow}
 use Rattle.farm_types.specs.Booking.{is_waiting}
 use Rattle.farm_types.specs.Farm.{for_some, is_placed, slot_from}
-use Rattle.farm_types.specs.Kept.{EachOnce, EachThere, for_any, is_formed_layer, is_kept_frame, is_kept_slot, layer_in}
+use Rattle.farm_types.specs.Kept.{EachOnce, EachThere, for_any, is_kept_frame, is_kept_slot, layer_in}
 use Rattle.farm_types.specs.Ranges.{range_numbers}
 use Rattle.farm_types.specs.Rising.{IsRising}
 use Rattle.farm_types.proofs.Changed.{changed_at_each, length-changed_at, slice_get-set_other, slice_get-set_same}

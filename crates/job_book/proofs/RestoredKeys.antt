@@ -1,10 +1,7 @@
 -- The keys of jobs whose rows are given, in order.
-use Rattle.std.proofs.Common.{◌≡◌, ℕ, zero, suc, ◌+◌, ◌-◌, ◌*◌, ◌<◌, ◌≤◌, ◌&&◌, ◌||◌, Bool, true, false, cond, eqb, ltb, List, [], ◌∷◌, ◌++◌, length, map, filter, Some, refl, sym, ap, subst, ◌∙◌, ◌⊎◌, inl, inr, append_assoc, arith}
-use Rattle.std.specs.List.{list_all, list_any, slice_get, sum_by}
-use Rattle.std.specs.List.Sorted.{IsNonDecreasing, IsPermutation}
-use Rattle.std.proofs.lemmas.Bool.{cases_eq, false≢true, eq-eqb, ne_eqb, ltb-true}
-use Rattle.std.proofs.lemmas.List.Sorted.{sum_by-IsPermutation}
-use Rattle.std.proofs.lemmas.List.Sums.{sum_by-cons}
+use Rattle.std.proofs.Common.{◌≡◌, ℕ, zero, suc, ◌+◌, ◌-◌, ◌*◌, ◌<◌, ◌&&◌, ◌||◌, Bool, true, false, cond, eqb, ltb, List, [], ◌∷◌, ◌++◌, length, map, filter, Some, refl, sym, ap, ◌∙◌, append_assoc, arith}
+use Rattle.std.specs.List.{list_all, list_any, slice_get}
+use Rattle.std.proofs.lemmas.Bool.{eq-eqb, ne_eqb, ltb-true}
 use Rattle.std.proofs.lemmas.Option.{none-some, same_Some}
 use Rattle.farm_types.specs.declared.limits.TheConstants.{MOST_PRIORITY}
 use Rattle.farm_types.specs.declared.rows.JobRow.{JobRow}
@@ -15,18 +12,15 @@ use Rattle.farm_types.specs.Rising.{IsRising, job_key}
 use Rattle.farm_types.specs.Farm.{changed_at}
 use Rattle.farm_types.proofs.Changed.{changed_at_each, length-changed_at}
 use Rattle.farm_types.proofs.Lists.{and_both}
-use Rattle.farm_types.proofs.Searched.{rising_keys}
 use Rattle.job_entries.specs.declared.counts.Counts.{Counts}
 use Rattle.job_index.specs.declared.ready_jobs.TheConstants.{JOB_NUMBERS}
 use Rattle.job_book.specs.Finished.{finish_key, has_finish}
 use Rattle.job_book.specs.Inside.{counts_for}
 use Rattle.job_book.specs.Ready.{is_ready_in, ready_key}
-use Rattle.job_index.specs.Keys.{itself, put_key, sorted, AreKeys}
+use Rattle.job_index.specs.Keys.{sorted, AreKeys}
 use Rattle.job_book.specs.Restored.{is_ready_by, keys_beside, with_ready}
-use Rattle.job_index.proofs.KeyLists.{put_rising}
 use Rattle.job_book.proofs.Placed.{rising_within}
 use Rattle.job_book.proofs.ReadyLists.{keys_apart}
-use Rattle.job_index.proofs.PutKeys.{none-put}
 
 -- ---- keys of jobs
 

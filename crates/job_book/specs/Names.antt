@@ -1,5 +1,5 @@
 -- The names of the jobs, by which a job is found without a walk.
-use Rattle.std.specs.Prelude.{ℕ, ◌≡◌, ◌≤◌, Bool, List, [], ◌∷◌, map, filter, length, bytes_eq, Option, None, Some, if◌then◌else◌}
+use Rattle.std.specs.Prelude.{ℕ, ◌≡◌, ◌≤◌, Bool, List, [], ◌∷◌, map, filter, length, bytes_eq, Option, None, Some}
 use Rattle.farm_types.specs.declared.rows.JobRow.{JobRow}
 use Rattle.job_index.specs.Names.{number_of}
 use Rattle.farm_types.specs.Rising.{job_key}

@@ -1,15 +1,13 @@
 -- The ready jobs of each show, as the book keeps them: by keys that rise.
-use Rattle.std.specs.Prelude.{ℕ, ◌≡◌, ◌==◌, ◌&&◌, ◌+◌, ◌-◌, ◌*◌, ◌%◌, ◌<◌, ◌≤◌, Bool, true, false, List, [], ◌∷◌, map, filter, length, nat_le, nat_lt, Option, None, Some, IfSome, slice_get, if◌then◌else◌}
-use Rattle.std.specs.List.{list_all, list_any}
+use Rattle.std.specs.Prelude.{ℕ, ◌≡◌, ◌==◌, ◌&&◌, ◌+◌, ◌-◌, ◌*◌, Bool, true, false, List, [], map, filter, length, nat_le, nat_lt, Option, None, Some, IfSome, slice_get}
+use Rattle.std.specs.List.{list_all}
 use Rattle.farm_types.specs.declared.rows.JobRow.{JobRow}
 use Rattle.farm_types.specs.declared.slot_row.SlotRow.{SlotRow}
 use Rattle.farm_types.specs.declared.states.FrameState.TheVariants as frame_state
 use Rattle.farm_types.specs.Booking.{is_pending}
 use Rattle.farm_types.specs.Farm.{changed_at}
-use Rattle.farm_types.specs.Rising.{IsRising}
 use Rattle.farm_types.specs.declared.limits.TheConstants.{MOST_PRIORITY, MOST_SHOWS}
 use Rattle.job_book.specs.Book.{count_in}
-use Rattle.job_index.specs.declared.limits.TheConstants.{MOST_JOBS}
 use Rattle.job_index.specs.Keys.{CanPut, drop_key, job_of, put_key, sorted}
 use Rattle.job_index.specs.declared.ready_jobs.TheConstants.{JOB_NUMBERS}
 

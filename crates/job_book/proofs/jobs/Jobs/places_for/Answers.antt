@@ -1,4 +1,4 @@
-use Rattle.std.proofs.Common.{◌≡◌, ◌∙◌, List, length, map, sym, ap, true}
+use Rattle.std.proofs.Common.{◌≡◌, ◌∙◌, length, map, sym, ap, true}
 use Rattle.std.specs.List.{concat, list_all}
 use Rattle.farm_types.specs.declared.job.LayerSpec.{LayerSpec}
 use Rattle.farm_types.specs.Jobs.{frames_in}
