@@ -15,7 +15,7 @@ use std::alloc::{AllocError, Global};
 use std::marker::Model;
 
 /// The depends in the order of their numbers, and the graph of their groups.
-#[derive(Debug, Drop)]
+#[derive(Drop)]
 pub struct Depends {
     pub(crate) rows: RowList,
     pub(crate) graph: Graph,

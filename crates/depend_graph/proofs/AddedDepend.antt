@@ -1,30 +1,31 @@
 -- A depend is added behind all others.
-use Rattle.std.proofs.Common.{◌≡◌, ◌≢◌, ◌≤◌, ◌<◌, ◌^◌, ◌*◌, ℕ, zero, suc, ◌+◌, Bool, true, false, cond, eqb, List, [], ◌∷◌, ◌++◌, map, length, Some, refl, sym, ap, subst, ◌∙◌, ◌⊎◌, inl, inr, arith, length-append}
+use Rattle.std.proofs.Common.{◌≡◌, ◌≢◌, ◌≤◌, ◌<◌, ◌^◌, ◌*◌, ℕ, zero, suc, ◌+◌, Bool, true, false, cond, eqb, List, [], ◌∷◌, ◌++◌, map, length, Some, refl, sym, ap, subst, ◌∙◌, arith, length-append}
 use Rattle.std.specs.Prelude.{◌&&◌, ◌||◌}
-use Rattle.std.specs.List.{slice_get, count_by, list_all, list_any, All}
-use Rattle.std.proofs.lemmas.Bool.{cases_Bool, eq-eqb, eqb-true, ltb-true, false≢true}
+use Rattle.std.specs.List.{slice_get, count_by, list_any, All}
+use Rattle.std.proofs.lemmas.Bool.{eq-eqb, false≢true}
 use Rattle.std.proofs.lemmas.List.{length-map}
-use Rattle.std.proofs.lemmas.List.Sums.{count_by-le-length, length-filter, sum_by_push}
-use Rattle.std.proofs.lemmas.Option.{none-some, same_Some, slice_get-map, slice_get_within, get_or_from_slice_get}
+use Rattle.std.proofs.lemmas.List.Sums.{length-filter, sum_by_push}
+use Rattle.std.proofs.lemmas.Option.{none-some, same_Some, slice_get-map}
 use Rattle.farm_types.specs.declared.depend.Group.{Group}
-use Rattle.farm_types.specs.declared.limits.TheConstants.{MOST_DEPENDS, MOST_GROUPS, SLOT_LIMIT}
+use Rattle.farm_types.specs.declared.limits.TheConstants.{MOST_DEPENDS, MOST_GROUPS}
 use Rattle.farm_types.specs.Sums.{total_at}
 use Rattle.farm_types.proofs.Changed.{appended_each}
-use Rattle.farm_types.proofs.Lists.{and_both}
 use Rattle.farm_types.proofs.Passes.{option_map-from}
+use Rattle.depend_edges.specs.Aims.{aims_from}
+use Rattle.depend_edges.specs.Groups.{IsGroup}
+use Rattle.depend_edges.specs.Listed.{IsListed, ListedLists, aim_of, has_number, is_enough, is_there, is_unmet}
+use Rattle.depend_edges.specs.Ways.{edge_lists, edges_in}
+use Rattle.depend_edges.specs.declared.links.Edge.{Edge}
+use Rattle.depend_edges.specs.declared.listed.Count.{Count}
+use Rattle.depend_edges.proofs.Counts.{count_by-push}
+use Rattle.depend_edges.proofs.Targets.{are_done_by, edges_counted, group_at, targets_in}
 use Rattle.depend_graph.specs.Added.{count_for, held_in, is_lacking}
-use Rattle.depend_graph.specs.Aims.{aims_from}
-use Rattle.depend_graph.specs.Graph.{CanAdd, IsGroup, Watch, Watched, groups_left, is_below, is_flagged, unmet_in, unmet_of, watched}
+use Rattle.depend_graph.specs.Graph.{CanAdd, Watch, Watched, groups_left, is_flagged, unmet_in, unmet_of, watched}
 use Rattle.depend_graph.specs.Inside.{KeepsDepends, KeepsSums, there_of, watches}
-use Rattle.depend_graph.specs.Listed.{IsListed, KeepsCounts, ListedLists, aim_of, has_number, is_enough, is_there, is_unmet, watch_by, watched_with}
 use Rattle.depend_graph.specs.Marked.{marked_counts, marked_watch, marked_with}
-use Rattle.depend_graph.specs.Ways.{edge_lists, edges_in}
-use Rattle.depend_graph.specs.declared.links.Edge.{Edge}
-use Rattle.depend_graph.specs.declared.listed.Count.{Count}
-use Rattle.depend_graph.proofs.Counts.{count_by-cons, count_by-push}
+use Rattle.depend_graph.specs.Watches.{KeepsCounts, watch_by, watched_with}
 use Rattle.depend_graph.proofs.Fewer.{unmet_low}
 use Rattle.depend_graph.proofs.Held.{held_in_long, held_in_total}
-use Rattle.depend_graph.proofs.Targets.{are_done_by, edges_at, edges_counted, group_of_edge, target_of_edge, targets_in}
 use Rattle.depend_graph.proofs.Thinned.{there_left}
 use Rattle.depend_graph.proofs.Unchanged.{numbers_any}
 use Rattle.depend_graph.proofs.Watches.{satisfied_by, weight_of}
@@ -48,9 +49,6 @@ there_push (d ∷ ds) l there = by_mark (is_there d) (there_push ds l there) whe
 pub edge_lists_push : (ds : List ListedLists) (l : ListedLists) → edge_lists (ds ++ l ∷ []) ≡ edge_lists ds ++ l.edges ∷ []
 edge_lists_push ds l = map-push edges_in ds l
 
-pub edge_lists_long : (ds : List ListedLists) → length (edge_lists ds) ≡ length ds
-edge_lists_long ds = length-map ds edges_in
-
 pub none_at : {X : Type 0} (test : X → Bool) (xs : List X) (p : ℕ) (x : X) → list_any test xs ≡ false → slice_get xs p ≡ Some x → test x ≡ true → ⊥
 none_at test [] p x none at passes = none-some x at
 none_at {X} test (y ∷ ys) zero x none at passes = false≢true (sym none ∙ (ap (λ b. b || list_any test ys) (ap test (same_Some y x at) ∙ passes)))
@@ -59,36 +57,9 @@ none_at test (y ∷ ys) (suc p) x none at passes = none_at test ys p x (rest (te
   rest true b is = absurd (false≢true (sym is))
   rest false b is = is
 
-any_all : (test : ℕ → Bool) (ts : List ℕ) (s : ℕ) → list_any (λ t. eqb t s) ts ≡ true → list_all test ts ≡ true → test s ≡ true
-any_all test [] s some all = absurd (false≢true some)
-any_all test (t ∷ ts) s some all = by_first (cases_Bool (eqb t s)) (and_both (test t) (list_all test ts) all) (any_all test ts s) where
-  by_first : (eqb t s ≡ true) ⊎ (eqb t s ≡ false) → (test t ≡ true) × (list_all test ts ≡ true) → (list_any (λ x. eqb x s) ts ≡ true → list_all test ts ≡ true → test s ≡ true) → test s ≡ true
-  by_first (inl same) both more = subst (λ (x : ℕ). test x ≡ true) (eqb-true t s same) both.0
-  by_first (inr other) both more = more (sym (ap (λ b. b || list_any (λ x. eqb x s) ts) other) ∙ some) both.1
-
-pub group_at : (gs : List Group) → All IsGroup gs → (k : ℕ) (g : Group) → slice_get gs k ≡ Some g → IsGroup g
-group_at gs each k g at = subst IsGroup (get_or_from_slice_get gs k g g at) (each k g (slice_get_within gs k g at))
-
 -- how many weren't forgotten
 pub there_long : (ds : List ListedLists) → length (watches (there_of ds)) ≡ count_by is_there ds
 there_long ds = length-map (there_of ds) watch_by ∙ length-filter is_there ds
-
--- ---- the edges that were reserved
-
-module _ (edges : List Edge) (gs : List Group) (aims : map aim_of edges ≡ aims_from 0 gs) where
-  pub slots_within : All IsGroup gs → (i : ℕ) (e : Edge) → slice_get edges i ≡ Some e → e.slot < SLOT_LIMIT
-  slots_within each i e at =
-      let g = group_of_edge edges gs aims i e at in
-      ltb-true e.slot SLOT_LIMIT (any_all is_below g.0.targets e.slot (target_of_edge edges gs aims i e at g.0 g.1) (group_at gs each e.group g.0 g.1).targets_within)
-
-  all_counted_true : (ts : List ℕ) → count_by (λ t. true) ts ≡ length ts
-  all_counted_true [] = refl
-  all_counted_true (t ∷ ts) = omega (arith, count_by-cons (λ t. true) t ts, all_counted_true ts)
-
-  pub targets_small : length edges < 2 ^ 32 → (k : ℕ) (g : Group) → slice_get gs k ≡ Some g → length g.targets < 2 ^ 32
-  targets_small within k g at =
-      let counted = edges_counted edges gs k (λ t. true) aims ∙ (ap (targets_in (λ t. true)) at ∙ all_counted_true g.targets) in
-      omega (arith, count_by-le-length (edges_at k (λ t. true)) edges)
 
 -- ---- marks
 

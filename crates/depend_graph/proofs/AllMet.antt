@@ -3,11 +3,12 @@ use Rattle.std.proofs.Common.{◌≡◌, ℕ, ◌+◌, Bool, true, false, not, e
 use Rattle.std.specs.List.{count_by, list_all, list_any}
 use Rattle.std.proofs.lemmas.Bool.{ne_eqb}
 use Rattle.farm_types.specs.declared.depend.Group.{Group}
-use Rattle.depend_graph.specs.declared.listed.Count.{Count}
+use Rattle.depend_edges.specs.Listed.{IsListed, ListedLists, is_unmet}
+use Rattle.depend_edges.specs.declared.listed.Count.{Count}
+use Rattle.depend_edges.proofs.Counts.{count_by-cons, one_if}
 use Rattle.depend_graph.specs.Graph.{is_met}
 use Rattle.depend_graph.specs.MetAt.{has_mark, is_met_at}
-use Rattle.depend_graph.proofs.Counts.{count_by-cons, one_if}
-use Rattle.depend_graph.specs.Listed.{IsListed, ListedLists, is_unmet, watched_with}
+use Rattle.depend_graph.specs.Watches.{watched_with}
 
 all_met : (gs : List Group) (cs : List Count) → length cs ≡ length gs → list_all is_met (watched_with gs cs) ≡ eqb (count_by is_unmet cs) 0
 all_met [] [] long = refl

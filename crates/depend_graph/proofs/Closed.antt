@@ -3,8 +3,9 @@ use Rattle.std.proofs.Common.{◌≡◌, ℕ, zero, suc, Bool, true, false, cond
 use Rattle.std.specs.List.{slice_get, count_by, filter}
 use Rattle.std.proofs.lemmas.List.Sums.{length-filter}
 use Rattle.std.proofs.lemmas.Option.{none-some, same_Some}
+use Rattle.depend_edges.specs.Listed.{ListedLists, is_there}
 use Rattle.depend_graph.specs.Inside.{KeepsDepends, KeepsSums, there_of}
-use Rattle.depend_graph.specs.Listed.{KeepsCounts, ListedLists, is_there}
+use Rattle.depend_graph.specs.Watches.{KeepsCounts}
 use Rattle.depend_graph.proofs.Thinned.{there_left, there_unmet}
 
 -- what stands in the list of those that pass stood in the list

@@ -3,9 +3,9 @@ use Rattle.std.proofs.Common.{◌≡◌, ◌≢◌, ◌≤◌, ℕ, zero, suc, �
 use Rattle.std.specs.List.{slice_get, count_by}
 use Rattle.std.proofs.lemmas.Bool.{false≢true}
 use Rattle.std.proofs.lemmas.Option.{none-some, same_Some}
+use Rattle.depend_edges.specs.declared.links.Edge.{Edge}
+use Rattle.depend_edges.proofs.Counts.{count_by-cons, one_if}
 use Rattle.depend_graph.specs.Passing.{count_from}
-use Rattle.depend_graph.specs.declared.links.Edge.{Edge}
-use Rattle.depend_graph.proofs.Counts.{count_by-cons, one_if}
 
 -- where two tests agree at each place, so do the counts
 pub count_from-alike : (f g : ℕ → Edge → Bool) (i : ℕ) (es : List Edge) → ((n m : ℕ) (e : Edge) → m ≡ i + n → slice_get es n ≡ Some e → f m e ≡ g m e) → count_from f i es ≡ count_from g i es

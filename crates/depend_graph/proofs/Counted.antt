@@ -8,9 +8,9 @@ use Rattle.std.proofs.lemmas.Option.{slice_get_past}
 use Rattle.farm_types.specs.declared.limits.TheConstants.{SLOT_LIMIT}
 use Rattle.farm_types.specs.Sums.{total_at, total_in}
 use Rattle.farm_types.proofs.Changed.{places}
+use Rattle.depend_edges.proofs.Counts.{count_by-push, one_if}
 use Rattle.depend_graph.specs.Graph.{Watch, has_opened, opened_between, unmet_of}
 use Rattle.depend_graph.specs.Trial.{IsFreed, count_or, is_at}
-use Rattle.depend_graph.proofs.Counts.{count_by-push, one_if}
 use Rattle.depend_graph.proofs.Ordered.{ordered}
 
 -- a frame that waits in so many groups, and is freed of so many

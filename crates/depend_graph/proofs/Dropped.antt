@@ -7,13 +7,16 @@ use Rattle.farm_types.specs.declared.depend.Group.{Group}
 use Rattle.farm_types.specs.Farm.{changed_at}
 use Rattle.farm_types.proofs.Changed.{changed_at_each, changed_at_other, changed_at_same, places}
 use Rattle.farm_types.proofs.Lists.{slice_get_below}
-use Rattle.depend_graph.specs.Flow.{Flow, IsGroupAt, flow_of, met_at, met_count, met_flow}
+use Rattle.depend_edges.specs.Counts.{met_at, met_count}
+use Rattle.depend_edges.specs.Listed.{ListedLists, is_enough, is_there}
+use Rattle.depend_edges.specs.Places.{IsGroupAt}
+use Rattle.depend_edges.specs.declared.listed.Count.{Count}
+use Rattle.depend_graph.specs.Flow.{Flow, flow_of, met_flow}
 use Rattle.depend_graph.specs.Graph.{met_group, met_where, nothing_opened}
 use Rattle.depend_graph.specs.Inside.{KeepsDepends, KeepsSums, watches}
 use Rattle.depend_graph.specs.Kept.{KeepsFlow, Still}
-use Rattle.depend_graph.specs.Listed.{KeepsCounts, ListedLists, is_enough, is_there, is_undone, watch_by, watched_with}
 use Rattle.depend_graph.specs.Passing.{IsDropping}
-use Rattle.depend_graph.specs.declared.listed.Count.{Count}
+use Rattle.depend_graph.specs.Watches.{KeepsCounts, is_undone, watch_by, watched_with}
 use Rattle.depend_graph.proofs.Finished.{length_still, watched_changed, watches_changed}
 use Rattle.depend_graph.proofs.FlowKept.{start_kept}
 use Rattle.depend_graph.proofs.Gone.{few_left, met_stays, other_empty}

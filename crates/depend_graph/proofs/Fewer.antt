@@ -6,8 +6,8 @@ use Rattle.std.proofs.lemmas.Bool.{cases_Bool}
 use Rattle.std.proofs.lemmas.List.Sums.{sum_by-cons, count_by-le-length}
 use Rattle.farm_types.specs.Depends.{waits_in}
 use Rattle.farm_types.proofs.Lists.{and_both}
+use Rattle.depend_edges.proofs.Counts.{count_by-cons, one_if}
 use Rattle.depend_graph.specs.Graph.{Watch, Watched, groups_left, holds, is_met, is_satisfied, unmet_in, unmet_of}
-use Rattle.depend_graph.proofs.Counts.{count_by-cons, one_if}
 use Rattle.depend_graph.proofs.Watches.{weight_of}
 
 met_holds_none : (s : ℕ) (ws : List Watched) → list_all is_met ws ≡ true → count_by (holds s) ws ≡ 0

@@ -12,22 +12,23 @@ use Rattle.farm_types.specs.Farm.{for_some}
 use Rattle.farm_types.specs.Sums.{total_in}
 use Rattle.farm_types.proofs.Changed.{slice_get-set_other, slice_get-set_same}
 use Rattle.farm_types.proofs.Lists.{and_both, slice_get_below}
+use Rattle.depend_edges.specs.Listed.{AllListed, ListedLists, is_enough}
+use Rattle.depend_edges.specs.Ways.{IsLast, edge_lists, is_any, is_past}
+use Rattle.depend_edges.specs.declared.links.Edge.{Edge}
+use Rattle.depend_edges.specs.declared.links.EdgeAt.{EdgeAt}
+use Rattle.depend_edges.specs.declared.listed.Count.{Count}
+use Rattle.depend_edges.proofs.EdgeLists.{edge_is}
+use Rattle.depend_edges.proofs.Targets.{are_done_by, edges_counted, targets_in}
 use Rattle.depend_graph.specs.Flow.{Flow, flow_of}
 use Rattle.depend_graph.specs.Graph.{HasOpened, OpenedLists, Watch, Watched, completed, completed_in, has_opened, is_completed, is_flagged, nothing_opened, opened_between, unmet_of}
 use Rattle.depend_graph.specs.Inside.{KeepsDepends, KeepsSums, watches}
-use Rattle.depend_graph.specs.Kept.{is_left, KeepsFlow, Still, still_of}
-use Rattle.depend_graph.specs.Listed.{AllCounted, AllListed, ListedLists, is_enough, is_undone, watch_by, watched_by, watched_with}
+use Rattle.depend_graph.specs.Kept.{KeepsFlow, Still, is_left, still_of}
 use Rattle.depend_graph.specs.Passing.{CountsPending, IsMarked, IsPassing, count_from, is_pending}
-use Rattle.depend_graph.specs.Ways.{IsLast, edge_lists, is_any, is_past}
-use Rattle.depend_graph.specs.declared.links.Edge.{Edge}
-use Rattle.depend_graph.specs.declared.links.EdgeAt.{EdgeAt}
-use Rattle.depend_graph.specs.declared.listed.Count.{Count}
+use Rattle.depend_graph.specs.Watches.{AllCounted, is_undone, watch_by, watched_by, watched_with}
 use Rattle.depend_graph.proofs.CountFrom.{count_from-alike, count_from-by}
-use Rattle.depend_graph.proofs.EdgeLists.{edge_is}
 use Rattle.depend_graph.proofs.FlowKept.{start_kept}
 use Rattle.depend_graph.proofs.Ordered.{ordered}
-use Rattle.depend_graph.proofs.Still.{still_differ, still_empty, there_counted, there_still, still_pair}
-use Rattle.depend_graph.proofs.Targets.{are_done_by, edges_counted, targets_in}
+use Rattle.depend_graph.proofs.Still.{still_differ, still_empty, still_pair, there_counted, there_still}
 use Rattle.farm_types.specs.Depends.{are_done}
 
 -- ---- flags by slot

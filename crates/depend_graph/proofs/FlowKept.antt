@@ -9,13 +9,14 @@ use Rattle.farm_types.specs.declared.limits.TheConstants.{MOST_DEPENDS}
 use Rattle.farm_types.specs.Farm.{changed_at, changed_by}
 use Rattle.farm_types.proofs.Changed.{changed_at_each, length-changed_at}
 use Rattle.farm_types.proofs.ChangedLists.{map-changed_at_kept}
+use Rattle.depend_edges.specs.Listed.{IsListed, ListedLists, is_unmet}
+use Rattle.depend_edges.specs.declared.listed.Count.{Count}
+use Rattle.depend_edges.proofs.Counts.{count_by-changed, one_if}
 use Rattle.depend_graph.specs.Flow.{Flow, flow_of, is_positive}
-use Rattle.depend_graph.specs.Graph.{Watch, has_opened, is_satisfied, groups_left, nothing_opened, unmet_of, was_satisfied}
+use Rattle.depend_graph.specs.Graph.{Watch, groups_left, has_opened, is_satisfied, nothing_opened, unmet_of, was_satisfied}
 use Rattle.depend_graph.specs.Inside.{KeepsSums, watches}
 use Rattle.depend_graph.specs.Kept.{KeepsFlow, is_left, still_of}
-use Rattle.depend_graph.specs.Listed.{IsListed, ListedLists, is_unmet, watch_by}
-use Rattle.depend_graph.specs.declared.listed.Count.{Count}
-use Rattle.depend_graph.proofs.Counts.{count_by-changed, one_if}
+use Rattle.depend_graph.specs.Watches.{watch_by}
 use Rattle.depend_graph.proofs.Watches.{watched_same}
 
 -- ---- a change of a count but for its mark

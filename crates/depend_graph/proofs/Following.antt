@@ -8,21 +8,23 @@ use Rattle.std.proofs.lemmas.Option.{same_Some, slice_get_within}
 use Rattle.farm_types.specs.declared.limits.TheConstants.{SLOT_LIMIT}
 use Rattle.farm_types.specs.Sums.{total_at}
 use Rattle.farm_types.proofs.Lists.{slice_get_below}
-use Rattle.depend_graph.specs.Flow.{AtEdge, AtTarget, IsEdgeAt, flow_of, passed_flow}
+use Rattle.depend_edges.specs.Counts.{becomes_due}
+use Rattle.depend_edges.specs.Listed.{AllListed, ListedLists, is_enough}
+use Rattle.depend_edges.specs.Places.{AtEdge, AtTarget, IsEdgeAt}
+use Rattle.depend_edges.specs.Ways.{IsLast, KeepsNext, edge_lists, is_any}
+use Rattle.depend_edges.specs.declared.links.Edge.{Edge}
+use Rattle.depend_edges.specs.declared.links.EdgeAt.{EdgeAt}
+use Rattle.depend_edges.specs.declared.listed.Count.{Count}
+use Rattle.depend_graph.specs.Flow.{flow_of, passed_flow}
 use Rattle.depend_graph.specs.Graph.{GraphLists, HasMet, Watch, completed_in, is_flagged, is_mark, nothing_opened, unmet_of, was_met, was_satisfied, with_done}
 use Rattle.depend_graph.specs.Inside.{KeepsDepends, KeepsSums, watches}
 use Rattle.depend_graph.specs.Kept.{Still, still_of}
-use Rattle.depend_graph.specs.Listed.{AllCounted, AllListed, ListedLists, is_enough}
-use Rattle.depend_graph.specs.Trial.{IsFollowing, IsHit, IsLaid, IsMetWhere, IsTried, IsUnderWay, MetLists, becomes_due, count_or, is_at, key_of, nothing_laid, nothing_met}
-use Rattle.depend_graph.specs.Ways.{IsLast, KeepsNext, edge_lists, is_any}
-use Rattle.depend_graph.specs.declared.links.Edge.{Edge}
-use Rattle.depend_graph.specs.declared.links.EdgeAt.{EdgeAt}
-use Rattle.depend_graph.specs.declared.listed.Count.{Count}
+use Rattle.depend_graph.specs.Trial.{IsFollowing, IsHit, IsLaid, IsMetWhere, IsTried, IsUnderWay, MetLists, count_or, is_at, key_of, nothing_laid, nothing_met}
+use Rattle.depend_graph.specs.Watches.{AllCounted}
 use Rattle.depend_graph.specs.declared.marks.Marks.{Marks}
-use Rattle.depend_graph.proofs.EdgeLists.{edge_lists-still}
 use Rattle.depend_graph.proofs.Finished.{completed_all, depends_kept, end_counted, flag_other, start_passing}
 use Rattle.depend_graph.proofs.Gone.{few_left}
-use Rattle.depend_graph.proofs.Still.{still_at}
+use Rattle.depend_graph.proofs.Still.{edge_lists-still, still_at}
 use Rattle.depend_graph.proofs.Telling.{start_tells, tells_step}
 use Rattle.depend_graph.proofs.Tried.{step_agrees}
 use Rattle.depend_graph.proofs.Unchanged.{done_already, flag_past}

@@ -9,12 +9,14 @@ use Rattle.farm_types.specs.declared.limits.TheConstants.{MOST_GROUPS}
 use Rattle.farm_types.specs.Farm.{changed_at}
 use Rattle.farm_types.proofs.Changed.{changed_at_each, changed_at_is, length-changed_at}
 use Rattle.farm_types.proofs.Lists.{and_both}
+use Rattle.depend_edges.specs.Groups.{IsGroup}
+use Rattle.depend_edges.specs.Listed.{IsListed, ListedLists, emptied, has_number, is_there}
+use Rattle.depend_edges.proofs.Counts.{count_by-changed, one_if}
+use Rattle.depend_edges.proofs.Targets.{group_at}
 use Rattle.depend_graph.specs.Added.{released_in}
-use Rattle.depend_graph.specs.Graph.{IsGroup, Watch, groups_left, is_not_named, is_satisfied, unmet_in}
+use Rattle.depend_graph.specs.Graph.{Watch, groups_left, is_not_named, is_satisfied, unmet_in}
 use Rattle.depend_graph.specs.Inside.{KeepsDepends, KeepsSums, there_of, watches}
-use Rattle.depend_graph.specs.Listed.{IsListed, KeepsCounts, ListedLists, emptied, has_number, is_there, watch_by, watched_with}
-use Rattle.depend_graph.proofs.AddedDepend.{group_at}
-use Rattle.depend_graph.proofs.Counts.{count_by-changed, one_if}
+use Rattle.depend_graph.specs.Watches.{KeepsCounts, watch_by, watched_with}
 use Rattle.depend_graph.proofs.Released.{released_in_long, released_in_total}
 use Rattle.depend_graph.proofs.Watches.{length-watched, satisfied_by, watches_change, weight_of}
 

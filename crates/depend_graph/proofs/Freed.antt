@@ -6,8 +6,8 @@ use Rattle.std.proofs.lemmas.Bool.{eq-eqb, ne_eqb, false≢true}
 use Rattle.farm_types.specs.Farm.{changed_at, changed_by}
 use Rattle.farm_types.specs.Sums.{total_at, total_in}
 use Rattle.farm_types.proofs.Changed.{length-changed_at, places}
+use Rattle.depend_edges.proofs.Counts.{count_by-changed, count_by-push, one_if, total_at-changed_other, total_at-changed_same}
 use Rattle.depend_graph.specs.Flow.{Waiting, all_freed, freed, is_positive}
-use Rattle.depend_graph.proofs.Counts.{count_by-changed, count_by-push, one_if, total_at-changed_other, total_at-changed_same}
 
 abbrev pub is_among : ℕ → List ℕ → Bool
 is_among s ws = list_any (λ w. eqb w s) ws

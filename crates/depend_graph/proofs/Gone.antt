@@ -5,11 +5,12 @@ use Rattle.std.proofs.lemmas.Bool.{cases_Bool, eqb-true, ltb-true, false≢true}
 use Rattle.std.proofs.lemmas.List.Sums.{count_by-le-length}
 use Rattle.farm_types.specs.declared.depend.Group.{Group}
 use Rattle.farm_types.specs.declared.limits.TheConstants.{MOST_DEPENDS}
+use Rattle.depend_edges.specs.Listed.{ListedLists, is_there, is_unmet}
+use Rattle.depend_edges.proofs.Counts.{count_by-cons, one_if}
 use Rattle.depend_graph.specs.Graph.{Watch, met_group, met_where}
 use Rattle.depend_graph.specs.Inside.{KeepsDepends}
 use Rattle.depend_graph.specs.Kept.{is_left}
-use Rattle.depend_graph.specs.Listed.{ListedLists, is_there, is_unmet, watch_by, watched_with}
-use Rattle.depend_graph.proofs.Counts.{count_by-cons, one_if}
+use Rattle.depend_graph.specs.Watches.{watch_by, watched_with}
 
 pub gone_by : (d : ListedLists) → is_there d ≡ false → d.gone ≡ true
 gone_by d not_there = by_mark d.gone not_there where

@@ -11,13 +11,16 @@ use Rattle.farm_types.specs.Farm.{changed_at}
 use Rattle.farm_types.specs.Sums.{total_at}
 use Rattle.farm_types.proofs.Changed.{changed_at_each, length-changed_at, places}
 use Rattle.farm_types.proofs.ChangedLists.{map-changed_at_kept}
-use Rattle.depend_graph.specs.Flow.{Flow, all_freed, is_last_of, met_at, met_count, met_flow, waiting_in}
-use Rattle.depend_graph.specs.Graph.{IsGroup, groups_left, has_opened, is_satisfied, unmet_in, unmet_of, was_satisfied}
+use Rattle.depend_edges.specs.Counts.{met_at, met_count}
+use Rattle.depend_edges.specs.Groups.{IsGroup}
+use Rattle.depend_edges.specs.Listed.{IsListed, ListedLists, is_unmet}
+use Rattle.depend_edges.specs.declared.listed.Count.{Count}
+use Rattle.depend_edges.proofs.Counts.{count_by-changed, one_if}
+use Rattle.depend_graph.specs.Flow.{Flow, all_freed, is_last_of, met_flow, waiting_in}
+use Rattle.depend_graph.specs.Graph.{groups_left, has_opened, is_satisfied, unmet_in, unmet_of, was_satisfied}
 use Rattle.depend_graph.specs.Inside.{KeepsSums, watches}
 use Rattle.depend_graph.specs.Kept.{KeepsFlow, Still, is_left, still_of}
-use Rattle.depend_graph.specs.Listed.{IsListed, ListedLists, is_unmet, watch_by, watched_with}
-use Rattle.depend_graph.specs.declared.listed.Count.{Count}
-use Rattle.depend_graph.proofs.Counts.{count_by-changed, one_if}
+use Rattle.depend_graph.specs.Watches.{watch_by, watched_with}
 use Rattle.depend_graph.proofs.Freed.{freed_count, freed_room, freed_slots, freed_unmet, is_among, is_slot}
 use Rattle.depend_graph.proofs.Satisfied.{any_where, satisfied_step}
 use Rattle.depend_graph.proofs.Still.{still_at}

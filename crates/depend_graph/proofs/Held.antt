@@ -9,11 +9,12 @@ use Rattle.farm_types.specs.Depends.{waits_in}
 use Rattle.farm_types.specs.Sums.{total_at, total_in}
 use Rattle.farm_types.proofs.Changed.{changed_at_same, length-changed_at, places}
 use Rattle.farm_types.proofs.Lists.{and_both, slice_get_below}
+use Rattle.depend_edges.specs.Groups.{IsGroup, is_below}
+use Rattle.depend_edges.specs.declared.listed.Count.{Count}
+use Rattle.depend_edges.proofs.Counts.{count_by-cons, one_if, total_at-changed_other}
 use Rattle.depend_graph.specs.Added.{all_held, held, held_in, one_more}
-use Rattle.depend_graph.specs.Graph.{IsGroup, holds, is_below}
-use Rattle.depend_graph.specs.Listed.{watched_by, watched_with}
-use Rattle.depend_graph.specs.declared.listed.Count.{Count}
-use Rattle.depend_graph.proofs.Counts.{count_by-cons, one_if, total_at-changed_other}
+use Rattle.depend_graph.specs.Graph.{holds}
+use Rattle.depend_graph.specs.Watches.{watched_by, watched_with}
 use Rattle.depend_graph.proofs.Freed.{among_head, among_later, among_tail, is_among, not_later}
 
 one_held : (u : List ℕ) (x : ℕ) → x < length u → total_at u x < 4294967295 → total_at (held u x) x ≡ total_at u x + 1

@@ -4,8 +4,9 @@ use Rattle.std.specs.List.{slice_get}
 use Rattle.std.proofs.lemmas.Option.{same_Some}
 use Rattle.farm_types.specs.Farm.{changed_at}
 use Rattle.farm_types.proofs.Changed.{changed_at_same}
-use Rattle.depend_graph.specs.Flow.{IsGroupAt, fewer, lowered}
-use Rattle.depend_graph.specs.Listed.{ListedLists}
+use Rattle.depend_edges.specs.Counts.{fewer, lowered}
+use Rattle.depend_edges.specs.Listed.{ListedLists}
+use Rattle.depend_edges.specs.Places.{IsGroupAt}
 
 pub lowered_same : (depends : List ListedLists) (place group : ℕ) (d : ListedLists) → slice_get depends place ≡ Some d → slice_get (changed_at depends place (lowered group)) place ≡ Some (lowered group d)
 lowered_same depends place group d at = changed_at_same depends place (lowered group) d at

@@ -5,10 +5,11 @@ use Rattle.std.proofs.lemmas.List.{length-replicate}
 use Rattle.std.proofs.lemmas.Option.{none-some, same_Some}
 use Rattle.farm_types.specs.declared.limits.TheConstants.{SLOT_LIMIT}
 use Rattle.farm_types.specs.Sums.{total_at}
+use Rattle.depend_edges.specs.Listed.{ListedLists}
+use Rattle.depend_edges.specs.Ways.{IsLast, KeepsWays, edge_lists, is_any}
+use Rattle.depend_edges.specs.declared.links.EdgeAt.{EdgeAt}
 use Rattle.depend_graph.specs.Inside.{KeepsDepends, KeepsSums}
-use Rattle.depend_graph.specs.Listed.{KeepsCounts, ListedLists}
-use Rattle.depend_graph.specs.Ways.{IsLast, KeepsWays, edge_lists, is_any}
-use Rattle.depend_graph.specs.declared.links.EdgeAt.{EdgeAt}
+use Rattle.depend_graph.specs.Watches.{KeepsCounts}
 
 all_zero : (n s : ℕ) → total_at (replicate n 0) s ≡ 0
 all_zero zero s = refl

@@ -2,9 +2,9 @@
 use Rattle.std.proofs.Common.{◌≡◌, ℕ, zero, suc, ◌||◌, Bool, true, false, List, [], ◌∷◌, ◌++◌, ◌+◌, take, drop, Some, refl, sym, ap, ◌∙◌, arith}
 use Rattle.std.specs.List.{slice_get, slice_set}
 use Rattle.std.proofs.lemmas.Option.{none-some, same_Some}
+use Rattle.depend_edges.specs.declared.listed.Count.{Count}
 use Rattle.depend_graph.specs.Graph.{is_flagged}
 use Rattle.depend_graph.specs.Marked.{marked, marked_counts}
-use Rattle.depend_graph.specs.declared.listed.Count.{Count}
 
 none_marked : (cs : List Count) → marked_counts cs [] ≡ cs
 none_marked [] = refl

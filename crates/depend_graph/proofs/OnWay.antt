@@ -1,33 +1,20 @@
 -- An edge that a way has come to: where it stands, and what counts once the way goes on.
-use Rattle.std.proofs.Common.{◌≡◌, ℕ, Bool, List, map, Some, sym, ap, subst, ◌∙◌, ◌⊎◌, inl, inr, arith}
+use Rattle.std.proofs.Common.{◌≡◌, ℕ, Bool, List, map, Some, sym, ap, subst, ◌∙◌, ◌⊎◌, inl, inr}
 use Rattle.std.specs.List.{slice_get}
-use Rattle.std.proofs.lemmas.Option.{same_Some, slice_get_within}
-use Rattle.farm_types.proofs.Lists.{slice_get_below}
-use Rattle.depend_graph.specs.Flow.{IsEdgeAt}
+use Rattle.std.proofs.lemmas.Option.{same_Some}
+use Rattle.depend_edges.specs.Listed.{AllListed, ListedLists}
+use Rattle.depend_edges.specs.Places.{IsEdgeAt}
+use Rattle.depend_edges.specs.Ways.{IsEdge, IsEdgeOf, IsLast, edge_lists, is_ahead_of}
+use Rattle.depend_edges.specs.declared.links.Edge.{Edge}
+use Rattle.depend_edges.specs.declared.links.EdgeAt.{EdgeAt}
+use Rattle.depend_edges.specs.declared.listed.Count.{Count}
+use Rattle.depend_edges.proofs.EdgeLists.{edge_is, edges_listed}
+use Rattle.depend_edges.proofs.Standing.{edge_at}
 use Rattle.depend_graph.specs.Kept.{Still, still_of}
-use Rattle.depend_graph.specs.Listed.{AllListed, ListedLists}
 use Rattle.depend_graph.specs.Passing.{CountsPending, count_from, is_pending}
-use Rattle.depend_graph.specs.Ways.{IsEdge, IsEdgeOf, IsLast, edge_lists, is_ahead_of}
-use Rattle.depend_graph.specs.declared.links.Edge.{Edge}
-use Rattle.depend_graph.specs.declared.links.EdgeAt.{EdgeAt}
-use Rattle.depend_graph.specs.declared.listed.Count.{Count}
-use Rattle.depend_graph.proofs.EdgeLists.{edge_found, edge_is, edge_lists-still, edges_listed}
 use Rattle.depend_graph.proofs.Pending.{pending_other}
 use Rattle.depend_graph.proofs.Recounted.{IsElsewhere, IsHere}
-use Rattle.depend_graph.proofs.Targets.{group_of_edge}
-
--- that edge and its group are there
-pub edge_at : (ds : List ListedLists) → AllListed ds → (slot : ℕ) (a : EdgeAt) → IsEdgeOf (edge_lists ds) slot a → IsEdgeAt ds a
-edge_at ds listed slot a on =
-    let d = edge_found ds a.depend a.edge on.edge on.there in
-    let one = listed a.depend d.0 d.1 in
-    let g = group_of_edge d.0.edges d.0.groups one.aims a.edge on.edge d.2 in
-    let c = slice_get_below d.0.counts on.edge.group (omega (arith, slice_get_within d.0.groups on.edge.group g.0 g.1, one.counted)) in
-    record {
-      edge = on.edge;
-      place = record { listed = d.0; one = g.0; count = c.0; listed_there = d.1; group_there = g.1; count_there = c.1 };
-      edge_there = d.2;
-    }
+use Rattle.depend_graph.proofs.Still.{edge_lists-still}
 
 -- also where only counts have changed since
 pub edge_standing : (olds news : List ListedLists) → map still_of news ≡ map still_of olds → AllListed news → (slot : ℕ) (a : EdgeAt) → IsEdgeOf (edge_lists olds) slot a → IsEdgeAt news a

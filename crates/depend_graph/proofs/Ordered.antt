@@ -6,8 +6,8 @@ use Rattle.std.specs.List.Sorted.{IsNonDecreasing, IsPermutation}
 use Rattle.std.proofs.lemmas.Bool.{cases_lt, eq-eqb, ne_eqb, lt-ltb, le-ltb}
 use Rattle.std.proofs.lemmas.List.Sorted.{sum_by-IsPermutation}
 use Rattle.farm_types.proofs.Changed.{places}
+use Rattle.depend_edges.proofs.Counts.{count_by-cons, one_if}
 use Rattle.depend_graph.specs.Graph.{numbers_from}
-use Rattle.depend_graph.proofs.Counts.{count_by-cons, one_if}
 use Rattle.depend_graph.proofs.Freed.{is_slot}
 
 -- so often stands each slot in the list, where only those from a place on are looked at

@@ -10,22 +10,24 @@ use Rattle.farm_types.specs.Farm.{changed_at, for_some}
 use Rattle.farm_types.proofs.Changed.{changed_at_same, slice_get-set_other, slice_get-set_same}
 use Rattle.farm_types.proofs.ChangesInTurn.{changed_at_twice}
 use Rattle.farm_types.proofs.Lists.{and_both, slice_get_below}
-use Rattle.depend_graph.specs.Flow.{Flow, fewer, is_due, lowered, lowered_flow, met_at, met_count, met_flow, passed_flow}
+use Rattle.depend_edges.specs.Counts.{fewer, is_due, lowered, met_at, met_count}
+use Rattle.depend_edges.specs.Listed.{ListedLists, is_enough}
+use Rattle.depend_edges.specs.Ways.{IsEdge, IsEdgeOf, IsLast, edge_lists, is_ahead_of, is_past}
+use Rattle.depend_edges.specs.declared.links.Edge.{Edge}
+use Rattle.depend_edges.specs.declared.links.EdgeAt.{EdgeAt}
+use Rattle.depend_edges.specs.declared.listed.Count.{Count}
+use Rattle.depend_edges.proofs.Targets.{are_done_by, edges_counted, enough_fewer, target_of_edge, targets_in}
+use Rattle.depend_graph.specs.Flow.{Flow, lowered_flow, met_flow, passed_flow}
 use Rattle.depend_graph.specs.Graph.{is_completed, is_flagged}
 use Rattle.depend_graph.specs.Kept.{KeepsFlow, Still, still_of}
-use Rattle.depend_graph.specs.Listed.{ListedLists, is_enough, is_undone}
 use Rattle.depend_graph.specs.Passing.{CountsPending, IsMarked, IsPassing, MeetsAll, OnlyCompletes, count_from, is_pending}
-use Rattle.depend_graph.specs.Ways.{IsEdge, IsEdgeOf, IsLast, edge_lists, is_ahead_of, is_past}
-use Rattle.depend_graph.specs.declared.links.Edge.{Edge}
-use Rattle.depend_graph.specs.declared.links.EdgeAt.{EdgeAt}
-use Rattle.depend_graph.specs.declared.listed.Count.{Count}
+use Rattle.depend_graph.specs.Watches.{is_undone}
 use Rattle.depend_graph.proofs.CountFrom.{count_from-by, count_from-less}
 use Rattle.depend_graph.proofs.FlowKept.{recount_kept}
 use Rattle.depend_graph.proofs.GroupMet.{met_kept}
 use Rattle.depend_graph.proofs.OnWay.{counts_on, listed_before, of_slot, there_before}
 use Rattle.depend_graph.proofs.Pending.{pending_falls}
 use Rattle.depend_graph.proofs.Recounted.{IsElsewhere, IsHere, recounted}
-use Rattle.depend_graph.proofs.Targets.{are_done_by, edges_counted, enough_fewer, target_of_edge, targets_in}
 
 -- ---- what becomes of the depend
 

@@ -5,12 +5,12 @@ use Rattle.std.specs.List.{slice_get}
 use Rattle.std.proofs.lemmas.Bool.{eq-eqb, eqb-true, ne_eqb}
 use Rattle.std.proofs.lemmas.Option.{same_Some}
 use Rattle.farm_types.proofs.Changed.{places}
+use Rattle.depend_edges.specs.Ways.{IsEdge, IsLast, is_ahead_of, is_past}
+use Rattle.depend_edges.specs.declared.links.Edge.{Edge}
+use Rattle.depend_edges.specs.declared.links.EdgeAt.{EdgeAt}
+use Rattle.depend_edges.proofs.Before.{not_past_at, past_at, past_same}
 use Rattle.depend_graph.specs.Graph.{is_flagged}
 use Rattle.depend_graph.specs.Passing.{count_from, is_pending}
-use Rattle.depend_graph.specs.Ways.{IsEdge, IsLast, is_ahead_of, is_past}
-use Rattle.depend_graph.specs.declared.links.Edge.{Edge}
-use Rattle.depend_graph.specs.declared.links.EdgeAt.{EdgeAt}
-use Rattle.depend_graph.proofs.Before.{not_past_at, past_at, past_same}
 use Rattle.depend_graph.proofs.CountFrom.{count_from-alike, count_from-one}
 
 pending_by : (turned : Bool → Bool) (u v b flag : Bool) → (b ≡ true → u ≡ v) → cond b (turned u) flag ≡ cond b (turned v) flag

@@ -4,9 +4,9 @@ use Rattle.std.specs.List.{slice_get}
 use Rattle.std.proofs.lemmas.Option.{same_Some}
 use Rattle.farm_types.specs.Farm.{changed_at}
 use Rattle.farm_types.proofs.Changed.{changed_at_other, changed_at_same, places}
+use Rattle.depend_edges.specs.Listed.{ListedLists}
+use Rattle.depend_edges.specs.declared.listed.Count.{Count}
 use Rattle.depend_graph.specs.Kept.{still_of}
-use Rattle.depend_graph.specs.Listed.{ListedLists}
-use Rattle.depend_graph.specs.declared.listed.Count.{Count}
 
 -- the count is another one, which stands where it stood
 pub record IsElsewhere (ds : List ListedLists) (q k p m : ℕ) (e : ListedLists) (n : Count) : Type 0 where

@@ -6,12 +6,13 @@ use Rattle.farm_types.specs.declared.depend.Group.{Group}
 use Rattle.farm_types.specs.Depends.{waits_in}
 use Rattle.farm_types.specs.Sums.{total_at}
 use Rattle.farm_types.proofs.Changed.{length-changed_at}
+use Rattle.depend_edges.specs.Groups.{IsGroup}
+use Rattle.depend_edges.specs.declared.listed.Count.{Count}
+use Rattle.depend_edges.proofs.Counts.{count_by-cons, one_if}
 use Rattle.depend_graph.specs.Added.{all_released, released, released_in}
 use Rattle.depend_graph.specs.Flow.{Waiting, all_freed, freed, waiting_of}
-use Rattle.depend_graph.specs.Graph.{IsGroup, holds}
-use Rattle.depend_graph.specs.Listed.{watched_by, watched_with}
-use Rattle.depend_graph.specs.declared.listed.Count.{Count}
-use Rattle.depend_graph.proofs.Counts.{count_by-cons, one_if}
+use Rattle.depend_graph.specs.Graph.{holds}
+use Rattle.depend_graph.specs.Watches.{watched_by, watched_with}
 use Rattle.depend_graph.proofs.Freed.{freed_unmet, is_among}
 
 released_is : (w : Waiting) (ws : List ℕ) → (all_freed w ws).unmet ≡ all_released w.unmet ws

@@ -4,18 +4,21 @@ use Rattle.std.specs.List.{slice_get, slice_set}
 use Rattle.std.proofs.lemmas.Option.{slice_get_within}
 use Rattle.farm_types.specs.Farm.{changed_at}
 use Rattle.farm_types.proofs.ChangedLists.{map-changed_at_kept}
-use Rattle.depend_graph.specs.Flow.{IsEdgeAt, more, raised}
+use Rattle.depend_edges.specs.Counts.{more, raised}
+use Rattle.depend_edges.specs.Listed.{AllListed, ListedLists, is_enough}
+use Rattle.depend_edges.specs.Places.{IsEdgeAt}
+use Rattle.depend_edges.specs.Ways.{IsEdge, IsEdgeOf, IsLast, KeepsNext, edge_lists, is_ahead_of, is_any}
+use Rattle.depend_edges.specs.declared.links.Edge.{Edge}
+use Rattle.depend_edges.specs.declared.links.EdgeAt.{EdgeAt}
+use Rattle.depend_edges.specs.declared.listed.Count.{Count}
+use Rattle.depend_edges.proofs.EdgeLists.{edge_found}
+use Rattle.depend_edges.proofs.Targets.{enough_fewer}
 use Rattle.depend_graph.specs.Graph.{is_flagged}
 use Rattle.depend_graph.specs.Inside.{KeepsDepends}
 use Rattle.depend_graph.specs.Kept.{Still, still_of}
-use Rattle.depend_graph.specs.Listed.{AllCounted, AllListed, ListedLists, is_enough}
 use Rattle.depend_graph.specs.Passing.{CountsPending, IsReopening, MeetsAll, count_from, is_pending, same}
-use Rattle.depend_graph.specs.Ways.{IsEdge, IsEdgeOf, IsLast, KeepsNext, edge_lists, is_ahead_of, is_any}
-use Rattle.depend_graph.specs.declared.links.Edge.{Edge}
-use Rattle.depend_graph.specs.declared.links.EdgeAt.{EdgeAt}
-use Rattle.depend_graph.specs.declared.listed.Count.{Count}
+use Rattle.depend_graph.specs.Watches.{AllCounted}
 use Rattle.depend_graph.proofs.CountFrom.{count_from-within}
-use Rattle.depend_graph.proofs.EdgeLists.{edge_found}
 use Rattle.depend_graph.proofs.Finished.{flag_other, flag_set, length_still, pending_is, start_counts}
 use Rattle.depend_graph.proofs.FlowKept.{recount_each, watches_same}
 use Rattle.depend_graph.proofs.OnWay.{counts_on, edge_standing, listed_before, of_slot, there_before}
@@ -23,7 +26,6 @@ use Rattle.depend_graph.proofs.Pending.{pending_rises}
 use Rattle.depend_graph.proofs.Recounted.{IsElsewhere, IsHere, recounted}
 use Rattle.depend_graph.proofs.Steps.{steps_fall, steps_left}
 use Rattle.depend_graph.proofs.Still.{still_differ, still_empty, there_counted, there_still}
-use Rattle.depend_graph.proofs.Targets.{enough_fewer}
 
 -- ---- the beginning
 

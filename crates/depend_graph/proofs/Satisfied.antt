@@ -6,9 +6,10 @@ use Rattle.std.proofs.lemmas.Bool.{false≢true}
 use Rattle.std.proofs.lemmas.Option.{none-some, same_Some}
 use Rattle.farm_types.specs.Farm.{changed_at}
 use Rattle.farm_types.proofs.ChangedLists.{changed_at_suc}
+use Rattle.depend_edges.specs.Listed.{ListedLists}
 use Rattle.depend_graph.specs.Graph.{became_satisfied, is_satisfied, was_satisfied}
 use Rattle.depend_graph.specs.Inside.{watches}
-use Rattle.depend_graph.specs.Listed.{ListedLists, watch_by}
+use Rattle.depend_graph.specs.Watches.{watch_by}
 
 -- the first of two ors, where the second is behind
 pub or_later : (b r x : Bool) → cond b true (r || x) ≡ (cond b true r || x)

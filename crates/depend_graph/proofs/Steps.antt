@@ -1,8 +1,8 @@
 -- The way along a slot's edges comes to its end.
 use Rattle.std.proofs.Common.{◌≡◌, ◌<◌, ℕ, ◌+◌, ◌*◌, Option, Some, None, true, refl, ◌⊎◌, inl, inr, arith}
-use Rattle.depend_graph.specs.Ways.{is_before}
-use Rattle.depend_graph.specs.declared.links.EdgeAt.{EdgeAt}
-use Rattle.depend_graph.proofs.Before.{true_before}
+use Rattle.depend_edges.specs.Ways.{is_before}
+use Rattle.depend_edges.specs.declared.links.EdgeAt.{EdgeAt}
+use Rattle.depend_edges.proofs.Before.{true_before}
 
 -- a bound on how many edges there are up to that one
 abbrev pub steps_left : Option EdgeAt → ℕ

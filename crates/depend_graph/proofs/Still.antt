@@ -3,9 +3,11 @@ use Rattle.std.proofs.Common.{◌≡◌, ℕ, Bool, true, not, cond, List, [], �
 use Rattle.std.specs.List.{slice_get, count_by}
 use Rattle.std.proofs.lemmas.Option.{same_Some, slice_get-map}
 use Rattle.farm_types.proofs.Passes.{option_map-from}
+use Rattle.depend_edges.specs.Listed.{ListedLists, is_there}
+use Rattle.depend_edges.specs.Ways.{edge_lists}
+use Rattle.depend_edges.specs.declared.links.Edge.{Edge}
+use Rattle.depend_edges.proofs.Counts.{sum_by-mapped}
 use Rattle.depend_graph.specs.Kept.{Still, still_of}
-use Rattle.depend_graph.specs.Listed.{ListedLists, is_there}
-use Rattle.depend_graph.proofs.Counts.{sum_by-mapped}
 
 pub still_at : (olds news : List ListedLists) → map still_of news ≡ map still_of olds → (p : ℕ) (d : ListedLists) → slice_get news p ≡ Some d
     → (old : ListedLists) × (slice_get olds p ≡ Some old) × (still_of old ≡ still_of d)
@@ -44,3 +46,10 @@ module _ (olds news : List ListedLists) (same : map still_of news ≡ map still_
       let y = still_at olds news same q e at_e in
       differ p q x.0 y.0 x.1 y.1 (ap (λ (s : Still). not s.gone) x.2 ∙ there_d) (ap (λ (s : Still). not s.gone) y.2 ∙ there_e)
       (ap (λ (s : Still). s.depend) x.2 ∙ (one ∙ ap (λ (s : Still). s.depend) (sym y.2)))
+
+still_edges : (ds : List ListedLists) → edge_lists ds ≡ map (λ (s : Still). s.edges) (map still_of ds)
+still_edges [] = refl
+still_edges (d ∷ ds) = ap (λ (ls : List (List Edge)). d.edges ∷ ls) (still_edges ds)
+
+pub edge_lists-still : (olds news : List ListedLists) → map still_of news ≡ map still_of olds → edge_lists news ≡ edge_lists olds
+edge_lists-still olds news same = still_edges news ∙ (ap (map (λ (s : Still). s.edges)) same ∙ sym (still_edges olds))

@@ -9,12 +9,14 @@ use Rattle.farm_types.specs.Farm.{changed_at}
 use Rattle.farm_types.proofs.Changed.{changed_at_each, changed_at_same}
 use Rattle.farm_types.proofs.ChangedLists.{changed_at_suc}
 use Rattle.farm_types.proofs.Lists.{and_both}
-use Rattle.depend_graph.specs.Flow.{Flow, fewer, is_due, lowered, lowered_flow, met_at, met_count, met_flow, passed_flow}
+use Rattle.depend_edges.specs.Counts.{becomes_due, fewer, is_due, lowered, met_at, met_count}
+use Rattle.depend_edges.specs.Listed.{AllListed, ListedLists, is_enough}
+use Rattle.depend_edges.specs.declared.listed.Count.{Count}
+use Rattle.depend_graph.specs.Flow.{Flow, lowered_flow, met_flow, passed_flow}
 use Rattle.depend_graph.specs.Graph.{Watch, Watched, becomes_met, is_mark, met_between, was_met, was_satisfied}
 use Rattle.depend_graph.specs.Inside.{watches}
-use Rattle.depend_graph.specs.Listed.{AllListed, ListedLists, is_enough, mark_for, watched_by, watched_with}
-use Rattle.depend_graph.specs.Trial.{IsLaid, IsMet, IsMetWhere, MetLists, Tells, becomes_due, count_or, nothing_met}
-use Rattle.depend_graph.specs.declared.listed.Count.{Count}
+use Rattle.depend_graph.specs.Trial.{IsLaid, IsMet, IsMetWhere, MetLists, Tells, count_or, nothing_met}
+use Rattle.depend_graph.specs.Watches.{mark_for, watched_by, watched_with}
 use Rattle.depend_graph.proofs.FlowKept.{never_became, never_satisfied, recount_each, watches_same}
 use Rattle.depend_graph.proofs.Satisfied.{any_last, any_where, or_later, satisfied_step}
 use Rattle.depend_graph.proofs.Tried.{due_by}

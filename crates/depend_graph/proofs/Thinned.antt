@@ -10,12 +10,13 @@ use Rattle.farm_types.specs.declared.limits.TheConstants.{SLOT_LIMIT}
 use Rattle.farm_types.specs.declared.depend.MetRow.{MetRow}
 use Rattle.farm_types.proofs.Lists.{and_both}
 use Rattle.farm_types.proofs.Passes.{option_map-from}
+use Rattle.depend_edges.specs.Listed.{ListedLists, has_number, is_there}
+use Rattle.depend_edges.specs.declared.listed.Count.{Count}
 use Rattle.depend_graph.specs.Graph.{GraphLists, HasMet, HasOpened, OpenedLists, Watch, Watched, became_satisfied, completed, completed_in, group_mark, groups_at, groups_left, holds, is_met, is_satisfied, met_between, met_group, met_where, numbers_from, opened_between, unmet_in, unmet_of, was_met, was_satisfied, with_all_done, with_done}
 use Rattle.depend_graph.specs.Inside.{KeepsDepends, there_of, watches}
-use Rattle.depend_graph.proofs.Gone.{gone_by}
-use Rattle.depend_graph.specs.Listed.{ListedLists, has_number, is_there, mark_for, watch_by, watched_with}
-use Rattle.depend_graph.specs.declared.listed.Count.{Count}
+use Rattle.depend_graph.specs.Watches.{mark_for, watch_by, watched_with}
 use Rattle.depend_graph.specs.declared.marks.Marks.{Marks}
+use Rattle.depend_graph.proofs.Gone.{gone_by}
 use Rattle.depend_graph.proofs.Watches.{weight_of}
 
 -- those with a mark

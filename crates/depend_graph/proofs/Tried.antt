@@ -8,15 +8,16 @@ use Rattle.std.proofs.lemmas.Option.{same_Some, slice_get_within}
 use Rattle.farm_types.specs.declared.depend.Group.{Group}
 use Rattle.farm_types.specs.Sums.{total_at}
 use Rattle.farm_types.proofs.Changed.{places}
-use Rattle.depend_graph.specs.Flow.{Flow, Waiting, all_freed, fewer, freed, is_due, lowered, lowered_flow, met_flow, passed_flow}
+use Rattle.depend_edges.specs.Counts.{becomes_due, fewer, is_due, lowered}
+use Rattle.depend_edges.specs.Listed.{AllListed, ListedLists, is_enough}
+use Rattle.depend_edges.specs.declared.listed.Count.{Count}
+use Rattle.depend_edges.proofs.Counts.{count_by-cons, one_if, total_at-changed_other, total_at-changed_same}
+use Rattle.depend_edges.proofs.Targets.{enough_fewer}
+use Rattle.depend_graph.specs.Flow.{Flow, Waiting, all_freed, freed, lowered_flow, met_flow, passed_flow}
 use Rattle.depend_graph.specs.Kept.{still_of}
-use Rattle.depend_graph.specs.Listed.{AllListed, ListedLists, is_enough}
-use Rattle.depend_graph.specs.Trial.{Agrees, IsHit, IsLaid, becomes_due, count_or, is_at, key_of}
-use Rattle.depend_graph.specs.declared.listed.Count.{Count}
-use Rattle.depend_graph.proofs.Counts.{count_by-cons, one_if, total_at-changed_other, total_at-changed_same}
+use Rattle.depend_graph.specs.Trial.{Agrees, IsHit, IsLaid, count_or, is_at, key_of}
 use Rattle.depend_graph.proofs.Passed.{flow_depends, stepped, stepped_counts, stepped_still, turned}
 use Rattle.depend_graph.proofs.Recounted.{IsElsewhere, IsHere, recounted}
-use Rattle.depend_graph.proofs.Targets.{enough_fewer}
 
 -- ---- those who are freed, by slot
 

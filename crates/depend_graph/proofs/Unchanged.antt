@@ -7,15 +7,16 @@ use Rattle.std.proofs.lemmas.Option.{same_Some}
 use Rattle.farm_types.specs.declared.depend.Group.{Group}
 use Rattle.farm_types.specs.Depends.{are_done}
 use Rattle.farm_types.proofs.Lists.{and_both}
+use Rattle.depend_edges.specs.Listed.{AllListed, ListedLists, has_number, is_enough, is_there}
+use Rattle.depend_edges.specs.declared.listed.Count.{Count}
+use Rattle.depend_edges.proofs.Targets.{are_done_by, edges_counted, targets_in}
 use Rattle.depend_graph.specs.Graph.{GraphLists, HasOpened, OpenedLists, Watch, completed, completed_in, has_opened, is_completed, is_flagged, nothing_opened, numbers_from, opened_between, with_done}
-use Rattle.farm_types.specs.declared.limits.TheConstants.{SLOT_LIMIT}
 use Rattle.depend_graph.specs.Inside.{there_of, watches}
-use Rattle.depend_graph.specs.Listed.{AllCounted, AllListed, ListedLists, has_number, is_enough, is_there, watch_by, watched_by}
-use Rattle.depend_graph.specs.declared.listed.Count.{Count}
+use Rattle.depend_graph.specs.Watches.{AllCounted, watch_by, watched_by}
 use Rattle.depend_graph.proofs.Finished.{watched_changed, watches_changed}
 use Rattle.depend_graph.proofs.FlowKept.{never_opened, never_satisfied}
 use Rattle.depend_graph.proofs.Thinned.{mapped_there}
-use Rattle.depend_graph.proofs.Targets.{are_done_by, edges_counted, targets_in}
+use Rattle.farm_types.specs.declared.limits.TheConstants.{SLOT_LIMIT}
 
 -- ---- a flag that is so already
 

@@ -12,12 +12,14 @@ use Rattle.farm_types.specs.Depends.{waits_in}
 use Rattle.farm_types.specs.Sums.{total_at}
 use Rattle.farm_types.proofs.Changed.{places}
 use Rattle.farm_types.proofs.Passes.{option_map-from}
-use Rattle.depend_graph.specs.Graph.{IsGroup, Watch, Watched, holds, met_group, met_where, unmet_in, unmet_of}
+use Rattle.depend_edges.specs.Groups.{IsGroup}
+use Rattle.depend_edges.specs.Listed.{ListedLists, is_there}
+use Rattle.depend_edges.specs.declared.listed.Count.{Count}
+use Rattle.depend_edges.proofs.Counts.{count_by-cons, one_if}
+use Rattle.depend_graph.specs.Graph.{Watch, Watched, holds, met_group, met_where, unmet_in, unmet_of}
 use Rattle.depend_graph.specs.Inside.{KeepsDepends, KeepsSums, watches}
-use Rattle.depend_graph.specs.Listed.{ListedLists, is_there, watch_by, watched_by, watched_with}
 use Rattle.depend_graph.specs.Trial.{is_at, waiters_left}
-use Rattle.depend_graph.specs.declared.listed.Count.{Count}
-use Rattle.depend_graph.proofs.Counts.{count_by-cons, one_if}
+use Rattle.depend_graph.specs.Watches.{watch_by, watched_by, watched_with}
 use Rattle.depend_graph.proofs.Freed.{among_head, among_tail, is_among, not_later}
 use Rattle.depend_graph.proofs.Gone.{met_stays, other_empty}
 use Rattle.depend_graph.proofs.Tried.{at_both}

@@ -4,18 +4,20 @@ use Rattle.std.specs.List.{slice_get}
 use Rattle.std.proofs.lemmas.Bool.{eqb-true, lt-ltb}
 use Rattle.std.proofs.lemmas.Option.{slice_get_within}
 use Rattle.farm_types.specs.declared.limits.TheConstants.{MOST_DEPENDS}
-use Rattle.depend_graph.specs.Flow.{AtEdge, Flow, HasPassed, HasRoomAt, IsEdgeAt, is_last_of, passed_flow}
+use Rattle.depend_edges.specs.Listed.{IsListed, ListedLists}
+use Rattle.depend_edges.specs.Places.{AtEdge, IsEdgeAt}
+use Rattle.depend_edges.specs.Ways.{IsEdge, IsLast, KeepsNext, edge_lists, is_ahead_of}
+use Rattle.depend_edges.specs.declared.links.Edge.{Edge}
+use Rattle.depend_edges.specs.declared.links.EdgeAt.{EdgeAt}
+use Rattle.depend_edges.proofs.EdgeLists.{edge_found, edge_is}
+use Rattle.depend_edges.proofs.Targets.{count_by-there}
+use Rattle.depend_graph.specs.Flow.{Flow, HasPassed, HasRoomAt, is_last_of, passed_flow}
 use Rattle.depend_graph.specs.Kept.{KeepsFlow, is_left}
-use Rattle.depend_graph.specs.Listed.{IsListed, ListedLists}
 use Rattle.depend_graph.specs.Passing.{IsPassing}
-use Rattle.depend_graph.specs.Ways.{IsEdge, IsLast, KeepsNext, edge_lists, is_ahead_of}
-use Rattle.depend_graph.specs.declared.links.Edge.{Edge}
-use Rattle.depend_graph.specs.declared.links.EdgeAt.{EdgeAt}
-use Rattle.depend_graph.proofs.EdgeLists.{edge_found, edge_is, edge_lists-still}
 use Rattle.depend_graph.proofs.OnWay.{edge_standing}
 use Rattle.depend_graph.proofs.Passed.{passed}
 use Rattle.depend_graph.proofs.Steps.{steps_fall, steps_left}
-use Rattle.depend_graph.proofs.Targets.{count_by-there}
+use Rattle.depend_graph.proofs.Still.{edge_lists-still}
 
 -- there is room for the number of a depend that is about to be satisfied
 satisfied_fits : (olds : List ListedLists) (f : Flow) → KeepsFlow olds f → (q : ℕ) (d : ListedLists) → slice_get f.depends q ≡ Some d → is_last_of d ≡ true → length f.opened.satisfied < MOST_DEPENDS

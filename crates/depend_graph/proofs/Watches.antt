@@ -9,12 +9,13 @@ use Rattle.farm_types.specs.Depends.{waits_in}
 use Rattle.farm_types.specs.Farm.{changed_at}
 use Rattle.farm_types.proofs.Changed.{changed_at_sum, length-changed_at, places}
 use Rattle.farm_types.proofs.ChangedLists.{changed_at_suc}
-use Rattle.depend_graph.specs.Flow.{met_at, met_count}
+use Rattle.depend_edges.specs.Counts.{met_at, met_count}
+use Rattle.depend_edges.specs.Listed.{IsListed, ListedLists, is_unmet}
+use Rattle.depend_edges.specs.declared.listed.Count.{Count}
+use Rattle.depend_edges.proofs.Counts.{count_by-changed, count_by-cons, one_if, sum_by-mapped}
 use Rattle.depend_graph.specs.Graph.{Watch, Watched, holds, is_met, is_satisfied, unmet_in}
 use Rattle.depend_graph.specs.Inside.{watches}
-use Rattle.depend_graph.specs.Listed.{IsListed, ListedLists, is_unmet, watch_by, watched_by, watched_with}
-use Rattle.depend_graph.specs.declared.listed.Count.{Count}
-use Rattle.depend_graph.proofs.Counts.{count_by-changed, count_by-cons, one_if, sum_by-mapped}
+use Rattle.depend_graph.specs.Watches.{watch_by, watched_by, watched_with}
 
 -- ---- sums over the depends that are stood for
 

@@ -2,9 +2,9 @@
 use Rattle.std.specs.Prelude.{ℕ, ◌+◌, ◌-◌, Bool, not, List, [], ◌∷◌, count_by, fold, min, if◌then◌else◌}
 use Rattle.farm_types.specs.declared.depend.Group.{Group}
 use Rattle.farm_types.specs.Farm.{changed_at}
+use Rattle.depend_edges.specs.Listed.{is_enough}
+use Rattle.depend_edges.specs.declared.listed.Count.{Count}
 use Rattle.depend_graph.specs.Graph.{is_flagged}
-use Rattle.depend_graph.specs.Listed.{is_enough}
-use Rattle.depend_graph.specs.declared.listed.Count.{Count}
 
 -- the slot's frame isn't done
 abbrev pub is_lacking : List Bool → ℕ → Bool

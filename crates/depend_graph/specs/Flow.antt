@@ -1,42 +1,16 @@
 -- What changes while groups are met.
-use Rattle.std.specs.Prelude.{ℕ, ◌≡◌, ◌==◌, ◌&&◌, ◌+◌, ◌-◌, ◌<◌, ◌≤◌, Bool, true, not, Some, if◌then◌else◌}
-use Rattle.std.specs.Prelude.{List, [], ◌∷◌, ◌++◌, count_by, fold, length, nat_lt, slice_get}
+use Rattle.std.specs.Prelude.{ℕ, ◌≡◌, ◌==◌, ◌+◌, ◌-◌, ◌<◌, ◌≤◌, Bool, true, if◌then◌else◌, List, [], ◌∷◌, ◌++◌, count_by, fold, length, nat_lt}
 use Rattle.farm_types.specs.declared.depend.Group.{Group}
 use Rattle.farm_types.specs.declared.limits.TheConstants.{MOST_DEPENDS, MOST_GROUPS, SLOT_LIMIT}
 use Rattle.farm_types.specs.Farm.{changed_at}
 use Rattle.farm_types.specs.Sums.{total_at}
+use Rattle.depend_edges.specs.Counts.{fewer, is_due, lowered, met_at}
+use Rattle.depend_edges.specs.Listed.{ListedLists}
+use Rattle.depend_edges.specs.Places.{AtDepend, AtGroup, AtTarget}
+use Rattle.depend_edges.specs.declared.links.EdgeAt.{EdgeAt}
+use Rattle.depend_edges.specs.declared.listed.Count.{Count}
 use Rattle.depend_graph.specs.Graph.{OpenedLists}
-use Rattle.depend_graph.specs.Listed.{ListedLists, OfGroup, is_enough}
-use Rattle.depend_graph.specs.declared.links.Edge.{Edge}
-use Rattle.depend_graph.specs.declared.links.EdgeAt.{EdgeAt}
-use Rattle.depend_graph.specs.declared.listed.Count.{Count}
 use Rattle.depend_graph.specs.declared.tally.Tally.{Tally}
-
--- ---- one depend
-
-abbrev pub fewer : Count → Count
-fewer c = record c { undone = c.undone - 1 }
-
-abbrev pub more : Count → Count
-more c = record c { undone = c.undone + 1 }
-
-abbrev pub met_count : Count → Count
-met_count c = record c { met = true }
-
--- a target of the group is done, or isn't any more
-abbrev pub lowered : ℕ → ListedLists → ListedLists
-lowered group d = record d { counts = changed_at d.counts group fewer }
-
-abbrev pub raised : ℕ → ListedLists → ListedLists
-raised group d = record d { counts = changed_at d.counts group more }
-
--- the group is met
-abbrev pub met_at : ℕ → ListedLists → ListedLists
-met_at group d = record d { counts = changed_at d.counts group met_count; unmet = d.unmet - 1 }
-
--- the group isn't met, and lacks no target
-abbrev pub is_due : Group → Count → Bool
-is_due g c = not c.met && is_enough g c.undone
 
 -- ---- those who wait in a group
 
@@ -111,39 +85,6 @@ due_flow place group d g c f = if is_due g c then met_flow place group d g f els
 -- the target of an edge is done: the group lacks one fewer, and is met where it lacks none
 abbrev pub passed_flow : ℕ → ℕ → ListedLists → Group → Count → Flow → Flow
 passed_flow place group d g c f = due_flow place group (lowered group d) g (fewer c) (lowered_flow place group f)
-
--- ---- places
-
--- what stands at the place of a group
-pub record IsGroupAt (depends : List ListedLists) (place group : ℕ) : Type 0 where
-  pub listed : ListedLists
-  pub one : Group
-  pub count : Count
-  pub listed_there : slice_get depends place ≡ Some listed
-  pub group_there : slice_get listed.groups group ≡ Some one
-  pub count_there : slice_get listed.counts group ≡ Some count
-
--- the edge that is named, and its group
-pub record IsEdgeAt (depends : List ListedLists) (at : EdgeAt) : Type 0 where
-  pub edge : Edge
-  pub place : IsGroupAt depends at.depend edge.group
-  pub edge_there : slice_get place.listed.edges at.edge ≡ Some edge
-
--- what holds of the depend at a place
-abbrev pub AtDepend : List ListedLists → ℕ → (ListedLists → Type 0) → Type 0
-AtDepend depends place P = (d : ListedLists) → slice_get depends place ≡ Some d → P d
-
--- of a group of it, and of the group's count
-abbrev pub AtGroup : List ListedLists → ℕ → ℕ → (ListedLists → Group → Count → Type 0) → Type 0
-AtGroup depends place group P = AtDepend depends place (λ d. OfGroup d group (P d))
-
--- of the edge that is named
-abbrev pub AtEdge : List ListedLists → EdgeAt → (ListedLists → Edge → Type 0) → Type 0
-AtEdge depends at P = (d : ListedLists) (e : Edge) → slice_get depends at.depend ≡ Some d → slice_get d.edges at.edge ≡ Some e → P d e
-
--- and of its group
-abbrev pub AtTarget : List ListedLists → EdgeAt → (ListedLists → Edge → Group → Count → Type 0) → Type 0
-AtTarget depends at P = AtEdge depends at (λ d e. OfGroup d e.group (P d e))
 
 -- ---- one flow and the next
 

@@ -1,12 +1,12 @@
 -- The graph: the groups of depends, which of them are met, and how many unmet ones a frame waits in.
 use Rattle.std.specs.Prelude.{ℕ, zero, suc, ◌≡◌, ◌==◌, ◌&&◌, ◌+◌, ◌<◌, ◌≤◌, Bool, true, false, not, List, [], ◌∷◌, ◌++◌, map, filter, length, replicate, count_by, sum_by, slice_get, slice_set, nat_lt, All, if◌then◌else◌}
-use Rattle.std.specs.List.{IsDistinct, list_all, list_any}
-use Rattle.std.specs.Prelude.{nat_eq}
+use Rattle.std.specs.List.{list_all, list_any}
 use Rattle.farm_types.specs.declared.depend.Group.{Group}
 use Rattle.farm_types.specs.declared.depend.MetRow.{MetRow}
 use Rattle.farm_types.specs.Depends.{are_done, waits_in}
 use Rattle.farm_types.specs.Farm.{for_some}
 use Rattle.farm_types.specs.declared.limits.TheConstants.{MOST_DEPENDS, MOST_GROUPS, SLOT_LIMIT}
+pub use Rattle.depend_edges.specs.Groups.{IsGroup, is_below}
 use Rattle.depend_graph.specs.declared.marks.Marks.{Marks}
 
 -- a group, and whether it is met
@@ -178,16 +178,6 @@ abbrev pub group_mark : ℕ → Watched → MetRow
 group_mark depend w = record { depend = depend; position = w.group.position }
 
 -- ---- conditions
-
-abbrev pub is_below : ℕ → Bool
-is_below slot = nat_lt slot SLOT_LIMIT
-
--- no slot stands twice among those that wait, nor among the targets, and each is one of the farm's
-pub record IsGroup (g : Group) : Type 0 where
-  pub waiters_differ : IsDistinct nat_eq g.waiters
-  pub targets_differ : IsDistinct nat_eq g.targets
-  pub waiters_within : list_all is_below g.waiters ≡ true
-  pub targets_within : list_all is_below g.targets ≡ true
 
 -- the depend isn't there, one more fits, and so do its groups
 pub record CanAdd (g : GraphLists) (depend : ℕ) (groups : List Group) : Type 0 where

@@ -3,9 +3,10 @@ use Rattle.std.specs.Prelude.{ℕ, ◌≡◌, ◌≤◌, ◌*◌, List, [], true
 use Rattle.std.specs.Vec.{vec_capacity}
 use Rattle.farm_types.specs.declared.limits.TheConstants.{MOST_DEPENDS, MOST_GROUPS, SLOT_LIMIT}
 use Rattle.farm_types.specs.Sums.{total_at}
+use Rattle.depend_edges.specs.Listed.{AllListed, ListedLists, has_number, is_there}
+use Rattle.depend_edges.specs.Ways.{KeepsWays, edge_lists}
 use Rattle.depend_graph.specs.Graph.{GraphLists, Watch, groups_left, is_not_named, met_where, unmet_of}
-use Rattle.depend_graph.specs.Listed.{AllCounted, AllListed, ListedLists, has_number, is_there, watch_by}
-use Rattle.depend_graph.specs.Ways.{KeepsWays, edge_lists}
+use Rattle.depend_graph.specs.Watches.{AllCounted, watch_by}
 use Rattle.depend_graph.specs.declared.graph.Graph.TheInside.{Inside}
 use Rattle.depend_graph.specs.declared.tally.Tally.{Tally}
 

@@ -3,11 +3,12 @@ use Rattle.std.specs.Prelude.{ℕ, ◌≡◌, ◌≤◌, ◌+◌, ◌==◌, Bool
 use Rattle.std.specs.List.{list_any}
 use Rattle.farm_types.specs.declared.depend.Group.{Group}
 use Rattle.farm_types.specs.declared.limits.TheConstants.{MOST_DEPENDS, SLOT_LIMIT}
+use Rattle.depend_edges.specs.Listed.{AllListed, ListedLists}
+use Rattle.depend_edges.specs.declared.links.Edge.{Edge}
 use Rattle.depend_graph.specs.Flow.{Flow, is_positive}
 use Rattle.depend_graph.specs.Graph.{has_opened, is_satisfied, unmet_of, was_satisfied}
 use Rattle.depend_graph.specs.Inside.{KeepsSums, watches}
-use Rattle.depend_graph.specs.Listed.{AllListed, ListedLists, watch_by}
-use Rattle.depend_graph.specs.declared.links.Edge.{Edge}
+use Rattle.depend_graph.specs.Watches.{watch_by}
 
 -- what no change of counts changes of a depend
 pub record Still : Type 0 where

@@ -1,13 +1,8 @@
 pub mod Added
-pub mod Aims
-pub mod Bare
 pub mod Flow
 pub mod Graph
 pub mod Inside
 pub mod Kept
-pub mod Linking
-pub mod Listed
-pub mod ListedInside
 pub mod Marked
 pub mod Meeting
 pub mod MetAt
@@ -17,4 +12,4 @@ pub mod Spare
 pub mod SpareInside
 pub mod Trial
 pub mod Tries
-pub mod Ways
+pub mod Watches

@@ -1,8 +1,8 @@
 -- A depend that is added with marks: groups that are met although their targets aren't done.
 use Rattle.std.specs.Prelude.{ℕ, ◌||◌, Bool, List, [], ◌∷◌, ◌++◌, map}
 use Rattle.farm_types.specs.declared.depend.Group.{Group}
+use Rattle.depend_edges.specs.declared.listed.Count.{Count}
 use Rattle.depend_graph.specs.Graph.{GraphLists, Watch, Watched, watched}
-use Rattle.depend_graph.specs.declared.listed.Count.{Count}
 
 -- where a mark stands at a group's place, the group is met
 abbrev pub marked_with : List Watched → List Bool → List Watched

@@ -1,15 +1,16 @@
 -- What is true on the way along a slot's edges, while some of them are past.
 use Rattle.std.specs.Prelude.{ℕ, ◌≡◌, ◌≢◌, ◌<◌, ◌==◌, ◌&&◌, ◌+◌, Bool, true, false, not, List, [], ◌∷◌, map, slice_get, slice_set, Option, Some, if◌then◌else◌}
 use Rattle.farm_types.specs.declared.depend.Group.{Group}
+use Rattle.depend_edges.specs.Listed.{AllListed, ListedLists, is_enough}
+use Rattle.depend_edges.specs.Ways.{IsEdgeOf, edge_lists, is_past}
+use Rattle.depend_edges.specs.declared.links.Edge.{Edge}
+use Rattle.depend_edges.specs.declared.links.EdgeAt.{EdgeAt}
+use Rattle.depend_edges.specs.declared.listed.Count.{Count}
 use Rattle.depend_graph.specs.Flow.{Flow}
 use Rattle.depend_graph.specs.Graph.{is_completed, is_flagged}
 use Rattle.depend_graph.specs.Inside.{watches}
 use Rattle.depend_graph.specs.Kept.{KeepsFlow, still_of}
-use Rattle.depend_graph.specs.Listed.{AllListed, ListedLists, StayCounted, is_enough}
-use Rattle.depend_graph.specs.Ways.{IsEdgeOf, edge_lists, is_past}
-use Rattle.depend_graph.specs.declared.links.Edge.{Edge}
-use Rattle.depend_graph.specs.declared.links.EdgeAt.{EdgeAt}
-use Rattle.depend_graph.specs.declared.listed.Count.{Count}
+use Rattle.depend_graph.specs.Watches.{StayCounted}
 
 -- The edge is one of the group's, and counts as undone: an edge of the slot by whether it is past, each other by its flag.
 abbrev pub is_pending : (Bool → Bool) → List Bool → ℕ → Option EdgeAt → ℕ → ℕ → ℕ → Edge → Bool

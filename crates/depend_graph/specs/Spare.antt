@@ -1,7 +1,7 @@
 -- What is reserved for a depend.
 use Rattle.std.specs.Prelude.{ℕ, List, length}
 use Rattle.farm_types.specs.declared.depend.Group.{Group}
-use Rattle.depend_graph.specs.Aims.{Aim, aims_from}
+use Rattle.depend_edges.specs.Aims.{Aim, aims_from}
 
 -- for so many groups, with an edge for each of these targets
 pub record SpareLists : Type 0 where

@@ -1,6 +1,6 @@
 -- What contracts see of what is reserved.
 use Rattle.std.specs.Prelude.{◌<◌, ◌^◌, length, map}
-use Rattle.depend_graph.specs.Listed.{aim_of}
+use Rattle.depend_edges.specs.Listed.{aim_of}
 use Rattle.depend_graph.specs.Spare.{SpareLists}
 use Rattle.depend_graph.specs.declared.spare.GraphSpare.TheInside.{Inside}
 

@@ -1,19 +1,20 @@
 -- What would become of the graph: counts that are laid over its own, and the slots of those who would be freed.
-use Rattle.std.specs.Prelude.{ℕ, ◌≡◌, ◌≢◌, ◌==◌, ◌&&◌, ◌||◌, ◌+◌, ◌*◌, ◌-◌, Bool, true, false, not, List, [], ◌∷◌, ◌++◌, map, length, count_by, slice_get, Option, None, Some, if◌then◌else◌}
+use Rattle.std.specs.Prelude.{ℕ, ◌≡◌, ◌≢◌, ◌==◌, ◌||◌, ◌+◌, ◌*◌, ◌-◌, Bool, true, false, List, [], ◌∷◌, ◌++◌, map, length, count_by, slice_get, Option, None, Some, if◌then◌else◌, nat_eq}
 use Rattle.farm_types.specs.declared.depend.Group.{Group}
 use Rattle.farm_types.specs.declared.depend.MetRow.{MetRow}
 use Rattle.farm_types.specs.declared.limits.TheConstants.{SLOT_LIMIT}
 use Rattle.farm_types.specs.Sums.{total_at}
-use Rattle.std.specs.Prelude.{nat_eq}
 use Rattle.std.specs.List.{AllByRecursion, IsDistinct, list_any}
+use Rattle.depend_edges.specs.Counts.{becomes_due}
+use Rattle.depend_edges.specs.Listed.{ListedLists, is_enough}
+use Rattle.depend_edges.specs.declared.links.EdgeAt.{EdgeAt}
+use Rattle.depend_edges.specs.declared.listed.Count.{Count}
 use Rattle.depend_graph.specs.Flow.{Flow}
 use Rattle.depend_graph.specs.Graph.{GraphLists, Watch, is_flagged, is_mark, opened_between, unmet_of, was_met, was_satisfied, with_all_done}
 use Rattle.depend_graph.specs.Inside.{KeepsDepends, KeepsSums, watches}
 use Rattle.depend_graph.specs.Kept.{still_of}
-use Rattle.depend_graph.specs.Listed.{AllCounted, ListedLists, is_enough, mark_for}
 use Rattle.depend_graph.specs.Passing.{IsPassing}
-use Rattle.depend_graph.specs.declared.links.EdgeAt.{EdgeAt}
-use Rattle.depend_graph.specs.declared.listed.Count.{Count}
+use Rattle.depend_graph.specs.Watches.{AllCounted, mark_for}
 
 -- ---- counts that are laid over others
 
@@ -39,10 +40,6 @@ key_of place group = 4294967296 * place + group
 -- the slot stands in the list
 abbrev pub is_at : ℕ → ℕ → Bool
 is_at slot n = n == slot
-
--- the group isn't met, lacks that many targets, and would lack none with one fewer
-abbrev pub becomes_due : Group → Count → ℕ → Bool
-becomes_due g c lacked = not c.met && (not (is_enough g lacked) && is_enough g (lacked - 1))
 
 -- one target of the group fewer is undone, and those who wait in it are freed where it becomes met by that
 pub record IsHit (key : ℕ) (g : Group) (c : Count) (old new : ℕ → Option ℕ) (freed news : List ℕ) : Type 0 where

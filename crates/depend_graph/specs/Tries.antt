@@ -3,12 +3,13 @@ use Rattle.std.specs.Prelude.{ℕ, ◌≡◌, ◌-◌, false, true, List, [], Al
 use Rattle.indexmap.specs.IndexMap.{get}
 use Rattle.farm_types.specs.declared.depend.Group.{Group}
 use Rattle.farm_types.specs.Sums.{total_at}
+use Rattle.depend_edges.specs.Counts.{becomes_due}
+use Rattle.depend_edges.specs.Listed.{ListedLists}
+use Rattle.depend_edges.specs.declared.listed.Count.{Count}
 use Rattle.depend_graph.specs.Graph.{GraphLists, HasMet, is_flagged, unmet_of, with_all_done, with_done}
 use Rattle.depend_graph.specs.Inside.{watches}
-use Rattle.depend_graph.specs.Listed.{ListedLists}
 use Rattle.depend_graph.specs.Meeting.{met_lists}
-use Rattle.depend_graph.specs.Trial.{IsHit, IsMetWhere, IsTried, becomes_due, count_or, is_at, key_of, nothing_laid, nothing_met}
-use Rattle.depend_graph.specs.declared.listed.Count.{Count}
+use Rattle.depend_graph.specs.Trial.{IsHit, IsMetWhere, IsTried, count_or, is_at, key_of, nothing_laid, nothing_met}
 use Rattle.depend_graph.specs.declared.marks.Marks.{Marks}
 use Rattle.depend_graph.specs.declared.trial.Trial.{Trial}
 

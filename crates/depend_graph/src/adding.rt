@@ -8,11 +8,10 @@ ghost use Rattle.depend_graph.specs.Spare.{spare_of};
 
 use crate::counting::{count_all, hold_all, unmet_among};
 use crate::graph::Graph;
-use crate::linking::link;
-use crate::listed::Listed;
 use crate::marking::mark_all;
 use crate::room::make_room;
 use crate::spare::GraphSpare;
+use depend_edges::{Listed, link};
 use farm_types::{DependNo, Group, Items};
 
 impl Graph {
@@ -46,14 +45,9 @@ impl Graph {
         let unmet = unmet_among(counts.as_slice());
         self.tally.left = raised_left(self.tally.left, unmet, groups.len());
         let place = self.tally.depends.len() as u32;
-        self.tally.depends.push_reserved(Listed {
-            depend,
-            groups,
-            counts,
-            edges,
-            unmet,
-            gone: false,
-        });
+        self.tally
+            .depends
+            .push_reserved(Listed::new(depend, groups, counts, edges, unmet));
         link(&mut self.first, &mut self.tally.depends, place);
     }
 }

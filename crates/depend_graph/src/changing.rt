@@ -1,13 +1,13 @@
 //! Frames are done or not any more, and depends are dropped.
 
-ghost use Rattle.std.specs.Prelude.{◌≡◌, ◌<◌, false, length, not, slice_get, slice_set, Some, true};
+ghost use Rattle.std.specs.Prelude.{◌≡◌, ◌<◌, false, length, not, slice_set, true};
 ghost use Rattle.depend_graph.specs.Graph.{HasOpened, has_depend, is_flagged, with_done, without_depend};
 
 use crate::dropping::place_of;
 use crate::graph::{Graph, is_flagged_at};
-use crate::links::EdgeAt;
 use crate::opened::Opened;
 use crate::reopening::reopen;
+use depend_edges::first_of;
 use farm_types::{DependNo, Slot};
 
 impl Graph {
@@ -54,12 +54,4 @@ fn is_change(done: &[bool], slot: Slot, flag: bool) -> bool
         return !is_flagged_at(done, slot);
     }
     is_flagged_at(done, slot)
-}
-
-/// The first edge on the slot's way.
-pub(crate) fn first_of(first: &[Option<EdgeAt>], slot: Slot) -> Option<EdgeAt>
-    requires { slot < length first.now }
-    ensures { slice_get first.now slot ≡ Some result }
-{
-    first[slot.0 as usize]
 }

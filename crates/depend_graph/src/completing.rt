@@ -1,14 +1,15 @@
 //! A frame is done: the groups that it is a target of.
 
 ghost use Rattle.std.specs.Prelude.{◌≡◌, ◌<◌, false, length, map, slice_set, true};
+ghost use Rattle.depend_edges.specs.Listed.{is_there};
+ghost use Rattle.depend_edges.specs.Ways.{IsLast, KeepsNext, edge_lists, is_any};
 ghost use Rattle.depend_graph.specs.Graph.{HasOpened, completed_in, is_flagged, nothing_opened};
 ghost use Rattle.depend_graph.specs.Inside.{KeepsTally, watches};
-ghost use Rattle.depend_graph.specs.Listed.{AllCounted, is_there};
-ghost use Rattle.depend_graph.specs.Ways.{IsLast, KeepsNext, edge_lists, is_any};
+ghost use Rattle.depend_graph.specs.Watches.{AllCounted};
 
-use crate::links::EdgeAt;
 use crate::opened::Opened;
 use crate::tally::Tally;
+use depend_edges::EdgeAt;
 use farm_types::Slot;
 
 impl Tally {

@@ -5,9 +5,9 @@ ghost use Rattle.std.specs.Vec.{vec_capacity};
 ghost use Rattle.farm_types.specs.declared.limits.TheConstants.{MOST_DEPENDS};
 
 use crate::graph::Graph;
-use crate::listed::Listed;
 use crate::tally::Tally;
-use farm_types::{Group, Items, MOST_DEPENDS};
+use depend_edges::Listed;
+use farm_types::MOST_DEPENDS;
 use std::alloc::{AllocError, Global};
 
 impl Graph {
@@ -45,44 +45,7 @@ fn copy_depends(alloc: Global, depends: &[Listed]) -> Result<Vec<Listed>, AllocE
 {
     let mut copies = Vec::with_capacity(alloc, 2 * MOST_DEPENDS as usize)?;
     for listed in depends {
-        copies.push(copy_listed(alloc, listed)?)?;
+        copies.push(listed.copy(alloc)?)?;
     }
     Ok(copies)
-}
-
-// An equal depend.
-fn copy_listed(alloc: Global, listed: &Listed) -> Result<Listed, AllocError>
-    ensures { IfOk result (λ copy. copy ≡ listed.now) }
-{
-    Ok(Listed {
-        depend: listed.depend,
-        groups: copy_groups(alloc, listed.groups.as_slice())?,
-        counts: Vec::from_slice(alloc, listed.counts.as_slice())?,
-        edges: Vec::from_slice(alloc, listed.edges.as_slice())?,
-        unmet: listed.unmet,
-        gone: listed.gone,
-    })
-}
-
-// Equal groups.
-fn copy_groups(alloc: Global, groups: &[Group]) -> Result<Items<Group>, AllocError>
-    ensures { IfOk result (λ copies. copies ≡ groups.now) }
-{
-    let mut copies = Items::new(alloc);
-    for group in groups {
-        copies.push(copy_group(alloc, group)?)?;
-    }
-    Ok(copies)
-}
-
-// An equal group.
-fn copy_group(alloc: Global, group: &Group) -> Result<Group, AllocError>
-    ensures { IfOk result (λ copy. copy ≡ group.now) }
-{
-    Ok(Group {
-        position: group.position,
-        waiters: group.waiters.copy(alloc)?,
-        targets: group.targets.copy(alloc)?,
-        any: group.any,
-    })
 }

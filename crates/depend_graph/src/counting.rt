@@ -2,11 +2,11 @@
 
 ghost use Rattle.std.specs.Prelude.{◌≡◌, ◌<◌, ◌^◌, ℕ, Some, count_by, if◌then◌else◌, length, map, slice_get};
 ghost use Rattle.farm_types.specs.declared.depend.Group.{Group};
+ghost use Rattle.depend_edges.specs.Listed.{is_unmet};
 ghost use Rattle.depend_graph.specs.Added.{all_held, count_for, held, held_in, is_lacking};
-ghost use Rattle.depend_graph.specs.Listed.{is_unmet};
 
 use crate::graph::is_flagged_at;
-use crate::listed::{Count, is_enough};
+use depend_edges::{Count, is_enough};
 use farm_types::{Group, Slot};
 
 /// Each group is counted, and met at once where it lacks no target.

@@ -4,15 +4,17 @@ ghost use Rattle.std.specs.Prelude.{◌≡◌, ◌*◌, ◌≤◌, ◌<◌, None
 ghost use Rattle.std.specs.List.{list_any};
 ghost use Rattle.std.specs.Vec.{vec_capacity};
 ghost use Rattle.farm_types.specs.declared.limits.TheConstants.{MOST_DEPENDS, MOST_GROUPS};
-ghost use Rattle.depend_graph.specs.Flow.{AtDepend, AtGroup, HasMetUnmet, HasRoomAt, IsGroupAt, flow_in};
+ghost use Rattle.depend_edges.specs.Listed.{has_number, is_there};
+ghost use Rattle.depend_edges.specs.Places.{AtDepend, AtGroup, IsGroupAt};
+ghost use Rattle.depend_edges.specs.Ways.{edge_lists};
+ghost use Rattle.depend_graph.specs.Flow.{HasMetUnmet, HasRoomAt, flow_in};
 ghost use Rattle.depend_graph.specs.Graph.{HasOpened, nothing_opened};
 ghost use Rattle.depend_graph.specs.Inside.{HasMetAll, KeepsTally, watches};
-ghost use Rattle.depend_graph.specs.Listed.{StayCounted, has_number, is_there};
-ghost use Rattle.depend_graph.specs.Ways.{edge_lists};
+ghost use Rattle.depend_graph.specs.Watches.{StayCounted};
 
-use crate::listed::Listed;
 use crate::opened::Opened;
 use crate::tally::Tally;
+use depend_edges::Listed;
 use farm_types::DependNo;
 
 /// The place of the depend of that number.

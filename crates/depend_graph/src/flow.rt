@@ -4,23 +4,16 @@ ghost use Rattle.std.specs.Prelude.{◌≡◌, ◌+◌, ◌-◌, ◌^◌, ◌<�
 ghost use Rattle.std.specs.Vec.{vec_capacity};
 ghost use Rattle.farm_types.specs.declared.limits.TheConstants.{MOST_DEPENDS, MOST_GROUPS, SLOT_LIMIT};
 ghost use Rattle.farm_types.specs.Farm.{changed_at};
-ghost use Rattle.depend_graph.specs.Flow.{AtDepend, AtEdge, AtGroup, HasMetDue, HasMetGroup, HasPassed, HasRoomAt, IsEdgeAt, IsGroupAt};
-ghost use Rattle.depend_graph.specs.Flow.{all_freed, depend_opened, flow_in, is_due, is_last_of, is_positive, lowered, met_at, raised, slots_opened, waiting_of};
-ghost use Rattle.depend_graph.specs.Listed.{ListedLists};
-ghost use Rattle.depend_graph.specs.declared.listed.Count.{Count};
+ghost use Rattle.depend_edges.specs.Counts.{is_due, lowered, met_at, raised};
+ghost use Rattle.depend_edges.specs.Listed.{ListedLists};
+ghost use Rattle.depend_edges.specs.Places.{AtDepend, AtEdge, AtGroup, IsEdgeAt, IsGroupAt};
+ghost use Rattle.depend_edges.specs.declared.listed.Count.{Count};
+ghost use Rattle.depend_graph.specs.Flow.{HasMetDue, HasMetGroup, HasPassed, HasRoomAt};
+ghost use Rattle.depend_graph.specs.Flow.{all_freed, depend_opened, flow_in, is_last_of, is_positive, slots_opened, waiting_of};
 
-use crate::links::{Edge, EdgeAt};
-use crate::listed::Listed;
 use crate::opened::Opened;
 use crate::tally::Tally;
-
-/// The edge that is named.
-pub(crate) fn edge_in(depends: &[Listed], at: EdgeAt) -> Edge
-    requires { IsEdgeAt depends.now at }
-    ensures { (d : ListedLists) → slice_get depends.now at.depend ≡ Some d → slice_get d.edges at.edge ≡ Some result }
-{
-    depends[at.depend as usize].edge(at.edge)
-}
+use depend_edges::{EdgeAt, Listed, edge_in};
 
 /// Whether the group at a place of the depend at a place isn't met and lacks no target.
 pub(crate) fn is_due_in(depends: &[Listed], place: u32, group: u32) -> bool

@@ -4,18 +4,17 @@ ghost use Rattle.std.specs.Prelude.{◌≡◌, ◌<◌, length};
 ghost use Rattle.std.specs.Vec.{vec_capacity};
 ghost use Rattle.farm_types.specs.declared.limits.TheConstants.{SLOT_LIMIT};
 ghost use Rattle.farm_types.specs.Farm.{changed_at};
+ghost use Rattle.depend_edges.specs.Listed.{emptied};
+ghost use Rattle.depend_edges.specs.Ways.{KeepsWays, edge_lists};
 ghost use Rattle.depend_graph.specs.Graph.{forgotten};
 ghost use Rattle.depend_graph.specs.Inside.{HasForgotten, KeepsTally};
-ghost use Rattle.depend_graph.specs.Listed.{StayCounted, emptied};
-ghost use Rattle.depend_graph.specs.Ways.{KeepsWays, edge_lists};
+ghost use Rattle.depend_graph.specs.Watches.{StayCounted};
 
 use crate::dropping::find_place;
 use crate::graph::Graph;
-use crate::links::EdgeAt;
-use crate::listed::Listed;
 use crate::releasing::{left_without, release_at};
 use crate::tally::Tally;
-use crate::unlinking::unlink;
+use depend_edges::{EdgeAt, Listed, unlink};
 use farm_types::DependNo;
 use std::alloc::Global;
 

@@ -7,9 +7,9 @@ ghost use Rattle.depend_graph.specs.Graph.{groups_left, is_flagged, no_graph, un
 ghost use Rattle.depend_graph.specs.Inside.{KeepsTally};
 ghost use Rattle.farm_types.specs.declared.limits.TheConstants.{MOST_GROUPS, SLOT_LIMIT};
 
-use crate::links::EdgeAt;
 use crate::opens::unmet_at;
 use crate::tally::Tally;
+use depend_edges::EdgeAt;
 use farm_types::{Group, MOST_DEPENDS, SLOT_LIMIT, Slot};
 use std::alloc::{AllocError, Global};
 use std::marker::Model;
@@ -17,7 +17,7 @@ use std::marker::Model;
 /// The groups of depends, which of them are met, and which frames are done. Beside them are kept by slot in how many unmet groups the frame waits,
 /// and the way along the groups that it is a target of: at each slot the edge that was added last, and at each edge the one before it and the one
 /// behind it. A depend that is forgotten leaves an empty place.
-#[derive(Debug, Drop)]
+#[derive(Drop)]
 pub struct Graph {
     pub(crate) done: Vec<bool>,
     pub(crate) first: Vec<Option<EdgeAt>>,

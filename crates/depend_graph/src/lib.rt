@@ -10,9 +10,7 @@ mod dropping;
 mod flow;
 mod forgetting;
 mod graph;
-mod linking;
-mod links;
-mod listed;
+mod group_marks;
 mod marking;
 mod marks;
 mod meeting;
@@ -28,7 +26,6 @@ mod spare;
 mod tally;
 mod trial;
 mod trying;
-mod unlinking;
 
 pub use graph::Graph;
 pub use marks::Marks;

@@ -1,11 +1,11 @@
 //! Groups that are met although their targets aren't done, as a depend is added.
 
 ghost use Rattle.std.specs.Prelude.{◌≡◌, ◌<◌, length, slice_get, slice_set, Some};
+ghost use Rattle.depend_edges.specs.declared.listed.Count.{Count};
 ghost use Rattle.depend_graph.specs.Graph.{is_flagged};
 ghost use Rattle.depend_graph.specs.Marked.{marked, marked_counts};
-ghost use Rattle.depend_graph.specs.declared.listed.Count.{Count};
 
-use crate::listed::Count;
+use depend_edges::Count;
 
 /// Each group is met where a mark stands at its place.
 pub(crate) fn mark_all(counts: &mut Vec<Count>, marks: &[bool])

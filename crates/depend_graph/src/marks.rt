@@ -3,7 +3,7 @@
 use farm_types::{DependNo, Items, MetRow};
 
 /// The marks of the groups that would become met, and the numbers of the depends that would become satisfied, in no order.
-#[derive(Debug, Drop)]
+#[derive(Drop)]
 pub struct Marks {
     pub met: Items<MetRow>,
     pub satisfied: Items<DependNo>,

@@ -5,16 +5,16 @@ ghost use Rattle.farm_types.specs.declared.depend.Group.{Group};
 ghost use Rattle.depend_graph.specs.Meeting.{met_lists};
 ghost use Rattle.depend_graph.specs.Trial.{IsMet, nothing_met};
 
-use crate::listed::Listed;
 use crate::marks::Marks;
 use crate::over::lower;
+use depend_edges::Listed;
 use farm_types::{DependNo, Items, MetRow};
 use indexmap::IndexMap;
 use std::alloc::{AllocError, Global};
 
 /// By the places of depends how many of their groups wouldn't be met, where that isn't as in the graph; the marks of the groups that would be met; and
 /// the numbers of the depends that would be satisfied.
-#[derive(Debug, Drop)]
+#[derive(Drop)]
 pub(crate) struct Meeting {
     pub(crate) left: IndexMap<u64, u32>,
     pub(crate) met: Vec<MetRow>,

@@ -13,7 +13,7 @@ use std::marker::Model;
 
 /// The frames that the last change opened, by slot, in order, and the numbers of the depends that it satisfied. There is room for all slots and
 /// all depends.
-#[derive(Debug, Drop)]
+#[derive(Drop)]
 pub struct Opened {
     pub(crate) slots: Vec<Slot>,
     pub(crate) satisfied: Vec<DependNo>,

@@ -7,6 +7,7 @@ ghost use Rattle.depend_graph.specs.MetAt.{has_mark};
 
 use crate::dropping::{find_place, place_of};
 use crate::graph::Graph;
+use crate::group_marks::{has_mark_in, marks_in};
 use crate::marks::Marks;
 use crate::opens::opened_by;
 use crate::trying::{free_left, freed_by, met_by};
@@ -57,7 +58,7 @@ impl Graph {
         let Some(place) = find_place(self.tally.depends.as_slice(), depend) else {
             return Ok(Items::new(alloc));
         };
-        self.tally.depends[place as usize].marks(alloc)
+        marks_in(alloc, &self.tally.depends[place as usize])
     }
 
     /// Whether a group of the depend at that position is marked: it is met, and another group of the depend isn't.
@@ -66,7 +67,7 @@ impl Graph {
     {
         match find_place(self.tally.depends.as_slice(), depend) {
             None => false,
-            Some(place) => self.tally.depends[place as usize].is_marked(position),
+            Some(place) => has_mark_in(&self.tally.depends[place as usize], position),
         }
     }
 

@@ -3,10 +3,10 @@
 ghost use Rattle.std.specs.Prelude.{◌≡◌, ◌==◌, ◌-◌, ◌<◌, ◌≤◌, if◌then◌else◌, length};
 ghost use Rattle.farm_types.specs.declared.depend.Group.{Group};
 ghost use Rattle.farm_types.specs.declared.limits.TheConstants.{MOST_GROUPS};
+ghost use Rattle.depend_edges.specs.Places.{AtDepend};
 ghost use Rattle.depend_graph.specs.Added.{all_released, released, released_in};
-ghost use Rattle.depend_graph.specs.Flow.{AtDepend};
 
-use crate::listed::{Count, Listed};
+use depend_edges::{Count, Listed};
 use farm_types::{Group, Slot};
 
 /// Those who wait in the unmet groups of the depend at a place wait in them no more.
@@ -23,7 +23,7 @@ fn release(unmet: &mut Vec<u32>, listed: &Listed)
     requires { length listed.now.counts ≡ length listed.now.groups }
     ensures { unmet.new.items ≡ released_in unmet.old.items listed.now.groups listed.now.counts }
 {
-    release_all(unmet, listed.groups.as_slice(), listed.counts.as_slice());
+    release_all(unmet, listed.groups(), listed.counts());
 }
 
 // Those who wait in groups that aren't met wait in one unmet group fewer, each.

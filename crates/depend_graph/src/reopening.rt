@@ -2,14 +2,14 @@
 
 ghost use Rattle.std.specs.Prelude.{◌≡◌, ◌<◌, false, length, map, slice_set, true};
 ghost use Rattle.std.specs.Vec.{vec_capacity};
+ghost use Rattle.depend_edges.specs.Listed.{is_there};
+ghost use Rattle.depend_edges.specs.Ways.{IsLast, KeepsNext, edge_lists, is_any};
 ghost use Rattle.depend_graph.specs.Graph.{is_flagged};
 ghost use Rattle.depend_graph.specs.Inside.{KeepsDepends, watches};
-ghost use Rattle.depend_graph.specs.Listed.{AllCounted, is_there};
-ghost use Rattle.depend_graph.specs.Ways.{IsLast, KeepsNext, edge_lists, is_any};
+ghost use Rattle.depend_graph.specs.Watches.{AllCounted};
 
 use crate::flow::pass_back;
-use crate::links::EdgeAt;
-use crate::listed::Listed;
+use depend_edges::{EdgeAt, Listed};
 use farm_types::Slot;
 
 /// The frame of the slot isn't done any more: along its way each group lacks one more. What is met stays met.

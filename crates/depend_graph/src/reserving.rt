@@ -1,15 +1,12 @@
 //! The memory for the groups of one depend.
 
-ghost use Rattle.std.specs.Prelude.{◌≡◌, ◌<◌, ◌^◌, ◌++◌, ◌∷◌, [], None, IfOk, OnOk, length, map};
-ghost use Rattle.depend_graph.specs.Aims.{aim_at, aims_from};
-ghost use Rattle.depend_graph.specs.Listed.{aim_of};
+ghost use Rattle.std.specs.Prelude.{◌≡◌, IfOk, length};
 ghost use Rattle.depend_graph.specs.Spare.{spare_of};
 
 use crate::graph::Graph;
-use crate::links::Edge;
-use crate::listed::Count;
 use crate::spare::GraphSpare;
-use farm_types::{Group, Items, Slot};
+use depend_edges::{Count, edges_for};
+use farm_types::{Group, Items};
 use std::alloc::{AllocError, Global};
 
 impl Graph {
@@ -46,48 +43,4 @@ fn counts_for(alloc: Global, count: usize) -> Result<Vec<Count>, AllocError>
         met: false,
     };
     Ok(vec![in alloc; none; count]?)
-}
-
-// An edge for each target of each group in order.
-fn edges_for(alloc: Global, groups: &[Group]) -> Result<Vec<Edge>, AllocError>
-    ensures aims { IfOk result (λ edges. map aim_of edges.items ≡ aims_from 0 groups.now) }
-    ensures within { IfOk result (λ edges. length edges.items < 2 ^ 32) }
-{
-    if groups.len() > u32::MAX as usize {
-        return Err(AllocError);
-    }
-    let mut edges = Vec::new(alloc);
-    for place in 0..groups.len() {
-        push_edges(&mut edges, place as u32, groups[place].targets.as_slice())?;
-    }
-    Ok(edges)
-}
-
-// An edge more for each target of the group.
-fn push_edges(edges: &mut Vec<Edge>, group: u32, targets: &[Slot]) -> Result<(), AllocError>
-    requires { length edges.old.items < 2 ^ 32 }
-    ensures aims { OnOk result (map aim_of edges.new.items ≡ map aim_of edges.old.items ++ map (aim_at group) targets.now) }
-    ensures within { OnOk result (length edges.new.items < 2 ^ 32) }
-{
-    for target in targets {
-        push_edge(edges, group, target)?;
-    }
-    Ok(())
-}
-
-// An edge more.
-fn push_edge(edges: &mut Vec<Edge>, group: u32, target: &Slot) -> Result<(), AllocError>
-    ensures items { OnOk result (edges.new.items ≡ edges.old.items ++ record { slot = target.now; group = group; next = None; prev = None } ∷ []) }
-    ensures within { OnOk result (length edges.new.items < 2 ^ 32) }
-{
-    if edges.len() >= u32::MAX as usize {
-        return Err(AllocError);
-    }
-    edges.push(Edge {
-        slot: *target,
-        group,
-        next: None,
-        prev: None,
-    })?;
-    Ok(())
 }

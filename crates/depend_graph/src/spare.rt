@@ -1,11 +1,10 @@
 //! What is reserved for a depend.
 
-use crate::links::Edge;
-use crate::listed::Count;
+use depend_edges::{Count, Edge};
 use std::marker::Model;
 
 /// The memory that was taken for the groups of one depend: a count for each group, and an edge for each of their targets.
-#[derive(Debug, Drop)]
+#[derive(Drop)]
 pub struct GraphSpare {
     pub(crate) counts: Vec<Count>,
     pub(crate) edges: Vec<Edge>,

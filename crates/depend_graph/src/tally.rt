@@ -1,9 +1,9 @@
 //! The depends, and what is counted over them.
 
-use crate::listed::Listed;
+use depend_edges::Listed;
 
 /// The depends, by slot in how many unmet groups the frame waits, and how many groups the depends have together that aren't satisfied.
-#[derive(Debug, Drop)]
+#[derive(Drop)]
 pub(crate) struct Tally {
     pub(crate) depends: Vec<Listed>,
     pub(crate) unmet: Vec<u32>,

@@ -13,7 +13,7 @@ use std::alloc::Global;
 
 /// How many targets groups would lack, where that isn't as in the graph, under a key for each group; those who would be freed, each as often as it
 /// would be; and what would be met.
-#[derive(Debug, Drop)]
+#[derive(Drop)]
 pub(crate) struct Trial {
     pub(crate) lacking: IndexMap<u64, u32>,
     pub(crate) freed: Vec<Slot>,

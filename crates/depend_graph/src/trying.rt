@@ -3,20 +3,17 @@
 ghost use Rattle.std.specs.Prelude.{◌≡◌, ◌++◌, ◌<◌, ◌≤◌, [], if◌then◌else◌, length, nat_eq, IfOk, OnOk};
 ghost use Rattle.std.specs.List.{IsDistinct};
 ghost use Rattle.farm_types.specs.declared.limits.TheConstants.{MOST_GROUPS, SLOT_LIMIT};
-ghost use Rattle.depend_graph.specs.Flow.{AtEdge, AtTarget, IsEdgeAt};
+ghost use Rattle.depend_edges.specs.Listed.{OfGroup};
+ghost use Rattle.depend_edges.specs.Places.{AtEdge, AtTarget, IsEdgeAt};
+ghost use Rattle.depend_edges.specs.Ways.{IsLast, KeepsNext, KeepsWays, edge_lists, is_any};
 ghost use Rattle.depend_graph.specs.Inside.{KeepsDepends};
-ghost use Rattle.depend_graph.specs.Listed.{OfGroup};
 ghost use Rattle.depend_graph.specs.Trial.{waiters_left};
 ghost use Rattle.depend_graph.specs.Tries.{FreesAll, Hits, MarksAll, MeetsBy, TriesAll, TriesDone};
-ghost use Rattle.depend_graph.specs.Ways.{IsLast, KeepsNext, KeepsWays, edge_lists, is_any};
 
-use crate::changing::first_of;
-use crate::flow::edge_in;
-use crate::links::EdgeAt;
-use crate::listed::Listed;
 use crate::marks::Marks;
 use crate::over::{key_of, lower};
 use crate::trial::Trial;
+use depend_edges::{EdgeAt, Listed, edge_in, first_of};
 use farm_types::Slot;
 use std::alloc::{AllocError, Global};
 

@@ -8,7 +8,7 @@ use farm_types::{Answer, HostNo, Items, JobNo};
 
 /// A change that was prepared for an entry: what its act does, what follows of depends, which jobs finish, and the rows of the store that change. It is
 /// applied once its memory is reserved.
-#[derive(Debug, Drop)]
+#[derive(Drop)]
 pub struct Change {
     pub(crate) act: farm_changes::Change,
     pub(crate) follow: Follow,

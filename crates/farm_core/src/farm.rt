@@ -10,7 +10,7 @@ use std::alloc::{AllocError, Global};
 use std::marker::Model;
 
 /// A farm, which contracts see as its rows. It holds its books, and keeps what every farm keeps (`IsKeptFarm` of `farm_types`).
-#[derive(Debug, Drop)]
+#[derive(Drop)]
 pub struct Farm {
     pub(crate) books: Books,
 }

@@ -18,7 +18,7 @@ use Rattle.farm_rows.specs.Changes.{MakesRows, row_at}
 use Rattle.farm_rows.proofs.MadeLists.{find-last, find-not_last}
 use Rattle.farm_rows.proofs.MadeRows.{makes_then}
 use Rattle.depend_graph.specs.Graph.{Watch, groups_at, is_flagged, is_mark, is_met, is_satisfied, watch_of, watched}
-use Rattle.depend_graph.specs.Listed.{mark_for}
+use Rattle.depend_graph.specs.Watches.{mark_for}
 use Rattle.depend_book.specs.declared.new_depend.NewDepend.{NewDepend}
 use Rattle.depend_book.specs.Book.{DependLists, added_row, joined, mark_of, marks_in, marks_of, row_in, with_new}
 use Rattle.farm_depends.specs.Follow.{with_new_all}

@@ -22,7 +22,7 @@ use Rattle.farm_rows.specs.Changes.{MakesRows, beside, row_after}
 use Rattle.farm_rows.specs.Rows.{frame_row}
 use Rattle.depend_graph.specs.declared.marks.Marks.{Marks}
 use Rattle.depend_graph.specs.Graph.{groups_at, is_flagged}
-use Rattle.depend_graph.specs.Listed.{mark_for}
+use Rattle.depend_graph.specs.Watches.{mark_for}
 use Rattle.depend_book.specs.declared.new_depend.NewDepend.{NewDepend}
 use Rattle.depend_book.specs.Book.{DependLists, added_row, mark_of, row_in}
 use Rattle.farm_depends.specs.declared.follow.Follow.{Follow}

@@ -11,7 +11,7 @@ use std::alloc::Global;
 /// What follows an act of depends: the depends that come, with the memory that was taken for each, in the same order; the one that is dropped; the
 /// frames that the act completes; the one that isn't done any more; those that open; those that are blocked, and whether these leave their version.
 /// `count` is what the reply to a depend or a drop counts: the frames that wait unmet, and those that open.
-#[derive(Debug, Drop)]
+#[derive(Drop)]
 pub struct Follow {
     pub depends: Items<NewDepend>,
     pub spares: Items<GraphSpare>,

@@ -16,7 +16,7 @@ use std::marker::Model;
 
 /// The books at a moment (seconds), with changed rows laid over them: lives of hosts, and slots. Contracts see the farm of the books, and the farm that
 /// the draft comes to. Nothing of the books changes.
-#[derive(Debug, Drop)]
+#[derive(Drop)]
 pub struct Draft<'a> {
     pub(crate) books: &'a Books,
     pub(crate) moment: u64,

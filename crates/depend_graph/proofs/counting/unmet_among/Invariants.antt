@@ -1,6 +1,6 @@
 use Rattle.std.proofs.Common.{◌≡◌, ◌≤◌, take}
 use Rattle.std.specs.List.{count_by}
-use Rattle.depend_graph.specs.Listed.{is_unmet}
+use Rattle.depend_edges.specs.Listed.{is_unmet}
 use Rattle.depend_graph.proofs.counting.unmet_among.Given as goal
 
 abbrev pub invariant-loop-one : goal.invariant-loop-one

@@ -1,7 +1,7 @@
 use Rattle.std.proofs.Common.{rules, ◌≤◌, length, sym, ap, ◌∙◌, arith}
 use Rattle.std.specs.List.{list_any}
 use Rattle.std.proofs.lemmas.List.{take_all}
-use Rattle.depend_graph.specs.Listed.{has_number}
+use Rattle.depend_edges.specs.Listed.{has_number}
 use Rattle.depend_graph.proofs.dropping.first_place_of.Goals as goal
 
 pub returns-clause-none : goal.returns-clause-none

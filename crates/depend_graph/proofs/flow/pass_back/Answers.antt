@@ -2,9 +2,9 @@ use Rattle.std.proofs.Common.{List, sym, ◌∙◌, ap}
 use Rattle.std.specs.List.{slice_get}
 use Rattle.std.proofs.lemmas.Option.{same_Some}
 use Rattle.farm_types.specs.Farm.{changed_at}
-use Rattle.depend_graph.specs.Flow.{raised}
-use Rattle.depend_graph.specs.Listed.{ListedLists}
-use Rattle.depend_graph.specs.declared.links.Edge.{Edge}
+use Rattle.depend_edges.specs.Counts.{raised}
+use Rattle.depend_edges.specs.Listed.{ListedLists}
+use Rattle.depend_edges.specs.declared.links.Edge.{Edge}
 use Rattle.depend_graph.proofs.flow.pass_back.Goals as goal
 
 pub raise_in-requires : goal.raise_in-requires

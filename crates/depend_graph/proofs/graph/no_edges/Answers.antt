@@ -1,6 +1,6 @@
 use Rattle.std.proofs.Common.{◌≡◌, None, Option, replicate, ap, ◌∙◌, arith}
 use Rattle.farm_types.specs.declared.limits.TheConstants.{SLOT_LIMIT}
-use Rattle.depend_graph.specs.declared.links.EdgeAt.{EdgeAt}
+use Rattle.depend_edges.specs.declared.links.EdgeAt.{EdgeAt}
 use Rattle.depend_graph.proofs.graph.no_edges.Goals as goal
 
 pub returns : goal.returns

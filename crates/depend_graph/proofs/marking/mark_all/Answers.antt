@@ -2,8 +2,8 @@ use Rattle.std.proofs.Common.{◌≤◌, ◌∙◌, ◌++◌, List, append-nil, 
 use Rattle.std.proofs.Math.ListN.{length-set}
 use Rattle.std.proofs.lemmas.List.{drop_all, take_all}
 use Rattle.farm_types.proofs.Lists.{slice_get_below}
+use Rattle.depend_edges.specs.declared.listed.Count.{Count}
 use Rattle.depend_graph.specs.Marked.{marked, marked_counts}
-use Rattle.depend_graph.specs.declared.listed.Count.{Count}
 use Rattle.depend_graph.proofs.Marked.{marked_next}
 use Rattle.depend_graph.proofs.marking.mark_all.Goals as goal
 

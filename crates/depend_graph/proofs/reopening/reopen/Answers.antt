@@ -1,9 +1,8 @@
 use Rattle.std.proofs.Common.{Option, refl, subst, ◌∙◌}
+use Rattle.depend_edges.specs.declared.links.EdgeAt.{EdgeAt}
 use Rattle.depend_graph.specs.Passing.{IsReopening}
-use Rattle.depend_graph.specs.declared.links.EdgeAt.{EdgeAt}
-use Rattle.depend_graph.proofs.EdgeLists.{edge_lists-still}
 use Rattle.depend_graph.proofs.Reopened.{raised_fits, reopen_falls, reopened_counted, reopened_depends, standing, start_reopening, step_reopened}
-use Rattle.depend_graph.proofs.Still.{there_still}
+use Rattle.depend_graph.proofs.Still.{edge_lists-still, there_still}
 use Rattle.depend_graph.proofs.reopening.reopen.Goals as goal
 
 pub loop-next-init : goal.loop-next-init

@@ -1,6 +1,6 @@
 use Rattle.std.proofs.lemmas.Fn.{filter_same}
 use Rattle.std.proofs.Common.{rules}
-use Rattle.depend_graph.specs.Listed.{is_there}
+use Rattle.depend_edges.specs.Listed.{is_there}
 use Rattle.depend_graph.proofs.room.leave_out.Goals as goal
 
 pub returns-clause-items : goal.returns-clause-items

@@ -1,8 +1,10 @@
 use Rattle.std.proofs.Common.{◌≡◌, ℕ, List, Some, length, sym, ap, subst, ◌∙◌, arith}
 use Rattle.std.specs.List.{slice_get}
+use Rattle.depend_edges.specs.Listed.{IsListed, ListedLists}
+use Rattle.depend_edges.proofs.Bared.{length_bare}
 use Rattle.depend_graph.specs.Inside.{KeepsDepends, KeepsSums, there_of, watches}
-use Rattle.depend_graph.specs.Listed.{IsListed, KeepsCounts, ListedLists}
-use Rattle.depend_graph.proofs.Bared.{counts_bare, depends_bare, length_bare, sums_bare, there_bare}
+use Rattle.depend_graph.specs.Watches.{KeepsCounts}
+use Rattle.depend_graph.proofs.Bared.{counts_bare, depends_bare, sums_bare, there_bare}
 use Rattle.depend_graph.proofs.Closed.{closed_counts, closed_depends, closed_sums, there_again, there_counts}
 use Rattle.depend_graph.proofs.room.make_room.Goals as goal
 

@@ -2,10 +2,11 @@ use Rattle.std.proofs.Common.{◌≡◌, ◌∙◌, length, nat_eq, refl, sym, s
 use Rattle.std.specs.List.{slice_get}
 use Rattle.std.proofs.lemmas.Option.{same_Some, slice_get_read, slice_get_within}
 use Rattle.indexmap.specs.IndexMap.{get}
-use Rattle.depend_graph.specs.Listed.{ListedLists}
+use Rattle.depend_edges.specs.Counts.{becomes_due}
+use Rattle.depend_edges.specs.Listed.{ListedLists}
+use Rattle.depend_edges.specs.declared.links.Edge.{Edge}
 use Rattle.depend_graph.specs.Meeting.{met_lists}
-use Rattle.depend_graph.specs.Trial.{IsHit, IsMetWhere, becomes_due, count_or, key_of}
-use Rattle.depend_graph.specs.declared.links.Edge.{Edge}
+use Rattle.depend_graph.specs.Trial.{IsHit, IsMetWhere, count_or, key_of}
 use Rattle.depend_graph.proofs.trying.try_edge.Goals as goal
 
 pub returns-clause-hit : goal.returns-clause-hit

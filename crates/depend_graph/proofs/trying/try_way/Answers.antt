@@ -1,12 +1,12 @@
 use Rattle.std.proofs.Common.{◌<◌, ℕ, Option, Some, nat_eq, sym, ◌∙◌, subst, arith}
 use Rattle.indexmap.specs.IndexMap.{get}
+use Rattle.depend_edges.specs.Ways.{IsEdgeOf, edge_lists}
+use Rattle.depend_edges.specs.declared.links.EdgeAt.{EdgeAt}
+use Rattle.depend_edges.proofs.EdgeLists.{edge_found}
+use Rattle.depend_edges.proofs.Standing.{edge_at}
 use Rattle.depend_graph.specs.Meeting.{met_lists}
 use Rattle.depend_graph.specs.Trial.{IsFollowing}
-use Rattle.depend_graph.specs.Ways.{IsEdgeOf, edge_lists}
-use Rattle.depend_graph.specs.declared.links.EdgeAt.{EdgeAt}
-use Rattle.depend_graph.proofs.EdgeLists.{edge_found}
 use Rattle.depend_graph.proofs.Following.{end_following, start_following, step_following}
-use Rattle.depend_graph.proofs.OnWay.{edge_at}
 use Rattle.depend_graph.proofs.Steps.{steps_left}
 use Rattle.depend_graph.proofs.Walked.{way_falls}
 use Rattle.depend_graph.proofs.trying.try_way.Goals as goal

@@ -1,11 +1,11 @@
 use Rattle.std.proofs.Common.{◌≡◌, ℕ, false, nat_eq, List, Some}
 use Rattle.indexmap.specs.IndexMap.{get}
+use Rattle.depend_edges.specs.Ways.{IsEdgeOf, edge_lists}
+use Rattle.depend_edges.specs.declared.links.EdgeAt.{EdgeAt}
 use Rattle.depend_graph.specs.Graph.{GraphLists, is_flagged}
 use Rattle.depend_graph.specs.Meeting.{met_lists}
 use Rattle.depend_graph.specs.Trial.{IsFollowing}
 use Rattle.depend_graph.specs.Tries.{Tries}
-use Rattle.depend_graph.specs.Ways.{IsEdgeOf, edge_lists}
-use Rattle.depend_graph.specs.declared.links.EdgeAt.{EdgeAt}
 use Rattle.depend_graph.proofs.Steps.{steps_left}
 use Rattle.depend_graph.proofs.trying.try_way.Given as goal
 

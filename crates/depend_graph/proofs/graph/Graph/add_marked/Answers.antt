@@ -1,20 +1,23 @@
 use Rattle.std.proofs.Common.{rules, ◌≡◌, ◌+◌, ◌∷◌, [], ◌++◌, ℕ, List, cond, eqb, false, length, map, refl, sym, ap, subst, ◌∙◌, arith, length-append}
 use Rattle.std.specs.List.{count_by, slice_get}
 use Rattle.farm_types.specs.declared.depend.Group.{Group}
+use Rattle.depend_edges.specs.Aims.{aims_from}
+use Rattle.depend_edges.specs.Listed.{ListedLists, aim_of, is_unmet}
+use Rattle.depend_edges.specs.Ways.{KeepsWaysOf, edge_lists, is_ahead_of}
+use Rattle.depend_edges.specs.declared.links.Edge.{Edge}
+use Rattle.depend_edges.specs.declared.listed.Count.{Count}
+use Rattle.depend_edges.proofs.Bared.{length_bare}
+use Rattle.depend_edges.proofs.EdgeLists.{edge_lists_long}
+use Rattle.depend_edges.proofs.Targets.{targets_small}
+use Rattle.depend_edges.proofs.Wanted.{all_places, begin_ahead}
 use Rattle.depend_graph.specs.Added.{count_for, held_in}
-use Rattle.depend_graph.specs.Aims.{aims_from}
 use Rattle.depend_graph.specs.Graph.{CanAdd, GraphLists, Watch}
 use Rattle.depend_graph.specs.Inside.{KeepsDepends, KeepsSums, graph_of, there_of, watches}
-use Rattle.depend_graph.specs.Listed.{ListedLists, aim_of, is_unmet}
 use Rattle.depend_graph.specs.Marked.{marked_counts, marked_watch, with_marked}
 use Rattle.depend_graph.specs.Spare.{SpareLists, spare_of}
-use Rattle.depend_graph.specs.Ways.{KeepsWaysOf, edge_lists, is_ahead_of}
-use Rattle.depend_graph.specs.declared.links.Edge.{Edge}
-use Rattle.depend_graph.specs.declared.listed.Count.{Count}
-use Rattle.depend_graph.proofs.AddedDepend.{added, added_watch, counts_long, edge_lists_long, edge_lists_push, push_counts, push_depends, push_sums, targets_small, there_long, there_push}
-use Rattle.depend_graph.proofs.Bared.{counts_bare, depends_bare, length_bare, sums_bare, there_bare}
+use Rattle.depend_graph.proofs.AddedDepend.{added, added_watch, counts_long, edge_lists_push, push_counts, push_depends, push_sums, there_long, there_push}
+use Rattle.depend_graph.proofs.Bared.{counts_bare, depends_bare, sums_bare, there_bare}
 use Rattle.depend_graph.proofs.Thinned.{there_left}
-use Rattle.depend_graph.proofs.Wanted.{all_places, begin_ahead}
 use Rattle.depend_graph.proofs.graph.Graph.add_marked.Goals as goal
 
 groups_reserved : (s : SpareLists) (gs : List Group) → s ≡ spare_of gs → s.groups ≡ length gs
@@ -79,7 +82,7 @@ link-requires-clause-listed c =
     let counts_are : c.mark_all.new.counts.items ≡ marked_counts (map (count_for done) gs) ms = c.mark_all.ensures ∙ ap (λ (ns : List Count). marked_counts ns ms) (c.count_all.ensures ∙ λ i. map (count_for (c.as_slice-2.ensures.value i)) (c.as_slice.ensures i)) in
     let unmet_is : c.unmet_among-unmet.result ≡ count_by is_unmet (marked_counts (map (count_for done) gs) ms) = c.unmet_among-unmet.ensures ∙ ap (count_by is_unmet) (c.as_slice-5.ensures.value ∙ counts_are) in
     let depends_are : c.push_reserved.new.self.items ≡ ds ++ one ∷ [] =
-    c.push_reserved.ensures.items ∙ λ i. ds ++ record { depend = c.args.depend; groups = gs; counts = counts_are i; edges = edges; unmet = unmet_is i; gone = false } ∷ [] in
+    c.push_reserved.ensures.items ∙ (ap (λ (x : ListedLists). ds ++ x ∷ []) c.new.ensures ∙ λ i. ds ++ record { depend = c.args.depend; groups = gs; counts = counts_are i; edges = edges; unmet = unmet_is i; gone = false } ∷ []) in
     (subst KeepsDepends (sym depends_are) (push_depends done c.args.depend gs ms edges aims c.spare.invariant ds a.tally.unmet.items a.tally.left c.make_room.ensures.depends sums done can_there c.make_room.ensures.room)).listed
 
 pub link-requires-clause-ways : goal.link-requires-clause-ways
@@ -95,7 +98,7 @@ link-requires-clause-ways c =
     let counts_are : c.mark_all.new.counts.items ≡ marked_counts (map (count_for done) gs) ms = c.mark_all.ensures ∙ ap (λ (ns : List Count). marked_counts ns ms) (c.count_all.ensures ∙ λ i. map (count_for (c.as_slice-2.ensures.value i)) (c.as_slice.ensures i)) in
     let unmet_is : c.unmet_among-unmet.result ≡ count_by is_unmet (marked_counts (map (count_for done) gs) ms) = c.unmet_among-unmet.ensures ∙ ap (count_by is_unmet) (c.as_slice-5.ensures.value ∙ counts_are) in
     let depends_are : c.push_reserved.new.self.items ≡ ds ++ one ∷ [] =
-    c.push_reserved.ensures.items ∙ λ i. ds ++ record { depend = c.args.depend; groups = gs; counts = counts_are i; edges = edges; unmet = unmet_is i; gone = false } ∷ [] in
+    c.push_reserved.ensures.items ∙ (ap (λ (x : ListedLists). ds ++ x ∷ []) c.new.ensures ∙ λ i. ds ++ record { depend = c.args.depend; groups = gs; counts = counts_are i; edges = edges; unmet = unmet_is i; gone = false } ∷ []) in
     let count : length ds ≡ c.len-place.result = search (rules, arith) in
     subst (λ (xs : List ListedLists). KeepsWaysOf (is_ahead_of c.len-place.result 0) c.make_room.new.first.items (edge_lists xs)) (sym depends_are)
     (subst (λ (ls : List (List Edge)). KeepsWaysOf (is_ahead_of c.len-place.result 0) c.make_room.new.first.items ls) (sym (edge_lists_push ds one))
@@ -125,7 +128,7 @@ invariant_of-self c =
     let counts_are : c.mark_all.new.counts.items ≡ marked_counts (map (count_for done) gs) ms = c.mark_all.ensures ∙ ap (λ (ns : List Count). marked_counts ns ms) (c.count_all.ensures ∙ λ i. map (count_for (c.as_slice-2.ensures.value i)) (c.as_slice.ensures i)) in
     let unmet_is : c.unmet_among-unmet.result ≡ count_by is_unmet (marked_counts (map (count_for done) gs) ms) = c.unmet_among-unmet.ensures ∙ ap (count_by is_unmet) (c.as_slice-5.ensures.value ∙ counts_are) in
     let depends_are : pushed ≡ ds ++ one ∷ [] =
-    c.push_reserved.ensures.items ∙ λ i. ds ++ record { depend = c.args.depend; groups = gs; counts = counts_are i; edges = edges; unmet = unmet_is i; gone = false } ∷ [] in
+    c.push_reserved.ensures.items ∙ (ap (λ (x : ListedLists). ds ++ x ∷ []) c.new.ensures ∙ λ i. ds ++ record { depend = c.args.depend; groups = gs; counts = counts_are i; edges = edges; unmet = unmet_is i; gone = false } ∷ []) in
     let held_are : c.hold_all.new.unmet.items ≡ held_in a.tally.unmet.items gs (marked_counts (map (count_for done) gs) ms) = c.hold_all.ensures ∙ λ i. held_in a.tally.unmet.items (c.as_slice-3.ensures i) ((c.as_slice-4.ensures.value ∙ counts_are) i) in
     let left_is : c.raised_left-self-inside.result ≡ cond (eqb (count_by is_unmet (marked_counts (map (count_for done) gs) ms)) 0) a.tally.left (a.tally.left + length gs) =
     c.raised_left-self-inside.ensures ∙ λ i. cond (eqb (unmet_is i) 0) a.tally.left (a.tally.left + c.len.ensures i) in
@@ -165,7 +168,7 @@ returns c =
     let counts_are : c.mark_all.new.counts.items ≡ marked_counts (map (count_for done) gs) ms = c.mark_all.ensures ∙ ap (λ (ns : List Count). marked_counts ns ms) (c.count_all.ensures ∙ λ i. map (count_for (c.as_slice-2.ensures.value i)) (c.as_slice.ensures i)) in
     let unmet_is : c.unmet_among-unmet.result ≡ count_by is_unmet (marked_counts (map (count_for done) gs) ms) = c.unmet_among-unmet.ensures ∙ ap (count_by is_unmet) (c.as_slice-5.ensures.value ∙ counts_are) in
     let depends_are : pushed ≡ ds ++ one ∷ [] =
-    c.push_reserved.ensures.items ∙ λ i. ds ++ record { depend = c.args.depend; groups = gs; counts = counts_are i; edges = edges; unmet = unmet_is i; gone = false } ∷ [] in
+    c.push_reserved.ensures.items ∙ (ap (λ (x : ListedLists). ds ++ x ∷ []) c.new.ensures ∙ λ i. ds ++ record { depend = c.args.depend; groups = gs; counts = counts_are i; edges = edges; unmet = unmet_is i; gone = false } ∷ []) in
     let watched_are : watches (there_of c.link.new.depends.items) ≡ watches (there_of a.tally.depends.items) ++ marked_watch done c.args.depend gs ms ∷ [] =
     there_bare pushed c.link.new.depends.items c.link.ensures.bare
     ∙ (ap (λ (xs : List ListedLists). watches (there_of xs)) depends_are

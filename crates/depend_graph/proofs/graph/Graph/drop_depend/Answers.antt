@@ -2,9 +2,9 @@ use Rattle.std.proofs.Common.{◌≡◌, List, eqb, map, sym, ap, subst, ◌∙�
 use Rattle.std.specs.List.{list_any, slice_get}
 use Rattle.std.proofs.lemmas.Bool.{eqb-true}
 use Rattle.farm_types.proofs.Lists.{and_both, slice_get_below}
+use Rattle.depend_edges.specs.Listed.{ListedLists, has_number, is_there}
 use Rattle.depend_graph.specs.Graph.{GraphLists, HasOpened, Watch, has_depend, met_where, without_depend}
 use Rattle.depend_graph.specs.Inside.{there_of, watches}
-use Rattle.depend_graph.specs.Listed.{ListedLists, has_number, is_there}
 use Rattle.depend_graph.proofs.Thinned.{mapped_there, opened_there}
 use Rattle.depend_graph.proofs.Unchanged.{numbers_any}
 use Rattle.depend_graph.proofs.graph.Graph.drop_depend.Goals as goal

@@ -1,8 +1,8 @@
 use Rattle.std.proofs.Common.{Bool, List, None, Option, false, length, ap, ◌∙◌}
 use Rattle.std.proofs.lemmas.List.{length-replicate}
 use Rattle.farm_types.specs.declared.limits.TheConstants.{SLOT_LIMIT}
+use Rattle.depend_edges.specs.declared.links.EdgeAt.{EdgeAt}
 use Rattle.depend_graph.specs.Inside.{there_of, watches}
-use Rattle.depend_graph.specs.declared.links.EdgeAt.{EdgeAt}
 use Rattle.depend_graph.proofs.Made.{made_counts, made_ways}
 use Rattle.depend_graph.proofs.graph.Graph.make.Goals as goal
 

@@ -1,9 +1,9 @@
 use Rattle.std.proofs.Common.{◌≡◌, false, List, [], sym, subst}
 use Rattle.std.specs.List.{All}
 use Rattle.std.proofs.lemmas.Result.{IfOk-weaker}
+use Rattle.depend_edges.specs.Listed.{ListedLists}
 use Rattle.depend_graph.specs.Graph.{GraphLists, HasMet, is_flagged, with_all_done}
 use Rattle.depend_graph.specs.Inside.{watches}
-use Rattle.depend_graph.specs.Listed.{ListedLists}
 use Rattle.depend_graph.specs.Trial.{IsTried, nothing_laid, nothing_met}
 use Rattle.depend_graph.proofs.Following.{start_tried}
 use Rattle.depend_graph.proofs.Thinned.{there_meets}

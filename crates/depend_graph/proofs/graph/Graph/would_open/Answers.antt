@@ -2,9 +2,9 @@ use Rattle.std.proofs.Common.{◌≡◌, ℕ, ◌-◌, false, List, [], sym, ap,
 use Rattle.std.specs.List.{count_by, All}
 use Rattle.std.proofs.lemmas.Result.{IfOk-weaker}
 use Rattle.farm_types.specs.Sums.{total_at}
+use Rattle.depend_edges.specs.Listed.{ListedLists}
 use Rattle.depend_graph.specs.Graph.{GraphLists, groups_left, is_flagged, unmet_of, with_all_done}
 use Rattle.depend_graph.specs.Inside.{watches}
-use Rattle.depend_graph.specs.Listed.{ListedLists}
 use Rattle.depend_graph.specs.Trial.{IsTried, is_at, nothing_laid, nothing_met}
 use Rattle.depend_graph.proofs.Following.{start_tried}
 use Rattle.depend_graph.proofs.NothingOpens.{none_done, none_unmet}

@@ -5,8 +5,8 @@ use Rattle.std.proofs.lemmas.Option.{slice_get_read}
 use Rattle.std.proofs.lemmas.Result.{IfOk-weaker}
 use Rattle.farm_types.specs.Sums.{total_at}
 use Rattle.farm_types.proofs.Lists.{and_both}
+use Rattle.depend_edges.specs.Listed.{ListedLists, has_number, is_there}
 use Rattle.depend_graph.specs.Graph.{GraphLists, has_depend, unmet_of, without_depend}
-use Rattle.depend_graph.specs.Listed.{ListedLists, has_number, is_there}
 use Rattle.depend_graph.specs.Trial.{is_at, waiters_left}
 use Rattle.depend_graph.proofs.Thinned.{there_met, there_unmet}
 use Rattle.depend_graph.proofs.Unchanged.{numbers_any}

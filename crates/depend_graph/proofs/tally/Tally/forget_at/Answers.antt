@@ -4,16 +4,17 @@ use Rattle.std.specs.List.{filter, slice_get}
 use Rattle.farm_types.specs.declared.limits.TheConstants.{MOST_DEPENDS}
 use Rattle.farm_types.specs.Farm.{changed_at}
 use Rattle.farm_types.proofs.Lists.{slice_get_below}
+use Rattle.depend_edges.specs.Bare.{Bare}
+use Rattle.depend_edges.specs.Listed.{ListedLists, emptied, has_number}
+use Rattle.depend_edges.specs.Ways.{KeepsWays, KeepsWaysOf, edge_lists, is_outside}
+use Rattle.depend_edges.proofs.Standing.{long_there, there_same}
+use Rattle.depend_edges.proofs.Wanted.{emptied_ways}
 use Rattle.depend_graph.specs.Added.{released_in}
-use Rattle.depend_graph.specs.Bare.{Bare}
 use Rattle.depend_graph.specs.Graph.{is_not_named}
 use Rattle.depend_graph.specs.Inside.{KeepsDepends, KeepsSums, there_of, watches}
-use Rattle.depend_graph.specs.Listed.{KeepsCounts, ListedLists, emptied, has_number}
-use Rattle.depend_graph.specs.Ways.{KeepsWays, KeepsWaysOf, edge_lists, is_outside}
+use Rattle.depend_graph.specs.Watches.{KeepsCounts}
 use Rattle.depend_graph.proofs.Bared.{counts_bare, depends_bare, sums_bare, there_bare}
 use Rattle.depend_graph.proofs.Forgotten.{forgotten_counts, forgotten_depends, forgotten_sums, forgotten_watches}
-use Rattle.depend_graph.proofs.Standing.{long_there, there_same}
-use Rattle.depend_graph.proofs.Wanted.{emptied_ways}
 use Rattle.depend_graph.proofs.tally.Tally.forget_at.Goals as goal
 
 pub release_at-requires-clause-counted : goal.release_at-requires-clause-counted

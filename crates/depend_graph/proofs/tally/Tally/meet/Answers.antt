@@ -1,8 +1,8 @@
 use Rattle.std.proofs.Common.{◌<◌, List, length, sym, ◌∙◌, ap, subst}
 use Rattle.std.specs.List.{slice_get}
 use Rattle.farm_types.specs.declared.limits.TheConstants.{MOST_DEPENDS}
+use Rattle.depend_edges.specs.Listed.{ListedLists}
 use Rattle.depend_graph.specs.Graph.{OpenedLists}
-use Rattle.depend_graph.specs.Listed.{ListedLists}
 use Rattle.depend_graph.proofs.tally.Tally.meet.Goals as goal
 
 pub free_in-requires-clause-slots : goal.free_in-requires-clause-slots

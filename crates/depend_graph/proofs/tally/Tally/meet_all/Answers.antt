@@ -1,14 +1,13 @@
 use Rattle.std.proofs.Common.{◌≡◌, List, length, refl, sym, ap, subst, ◌∙◌, arith}
 use Rattle.std.specs.List.{slice_get}
 use Rattle.farm_types.proofs.Lists.{slice_get_below}
+use Rattle.depend_edges.specs.Listed.{ListedLists}
 use Rattle.depend_graph.specs.Flow.{flow_in}
 use Rattle.depend_graph.specs.Graph.{OpenedLists}
-use Rattle.depend_graph.specs.Listed.{ListedLists}
 use Rattle.depend_graph.specs.Passing.{IsDropping}
 use Rattle.depend_graph.proofs.Dropped.{dropped_all, group_place, start_dropping, step_dropped}
-use Rattle.depend_graph.proofs.EdgeLists.{edge_lists-still}
 use Rattle.depend_graph.proofs.Finished.{opened_all}
-use Rattle.depend_graph.proofs.Still.{there_still}
+use Rattle.depend_graph.proofs.Still.{edge_lists-still, there_still}
 use Rattle.depend_graph.proofs.Tallied.{tally_kept}
 use Rattle.depend_graph.proofs.Walked.{room_at}
 use Rattle.depend_graph.proofs.tally.Tally.meet_all.Goals as goal

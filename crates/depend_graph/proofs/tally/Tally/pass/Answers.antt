@@ -3,9 +3,11 @@ use Rattle.std.specs.List.{slice_get}
 use Rattle.std.proofs.lemmas.Option.{same_Some}
 use Rattle.farm_types.proofs.Changed.{changed_at_same}
 use Rattle.farm_types.specs.declared.limits.TheConstants.{MOST_DEPENDS, MOST_GROUPS}
-use Rattle.depend_graph.specs.Flow.{Flow, IsGroupAt, due_flow, fewer, flow_in, flow_of, is_last_of, lowered, passed_flow}
-use Rattle.depend_graph.specs.Listed.{ListedLists}
-use Rattle.depend_graph.specs.declared.links.Edge.{Edge}
+use Rattle.depend_edges.specs.Counts.{fewer, lowered}
+use Rattle.depend_edges.specs.Listed.{ListedLists}
+use Rattle.depend_edges.specs.Places.{IsGroupAt}
+use Rattle.depend_edges.specs.declared.links.Edge.{Edge}
+use Rattle.depend_graph.specs.Flow.{Flow, due_flow, flow_in, flow_of, is_last_of, passed_flow}
 use Rattle.depend_graph.proofs.Lowered.{lowered_each, lowered_same, lowered_there}
 use Rattle.depend_graph.proofs.tally.Tally.pass.Goals as goal
 

@@ -1,0 +1,12 @@
+pub mod Bared
+pub mod Before
+pub mod Counts
+pub mod EdgeLists
+pub mod Edited
+pub mod LinkSteps
+pub mod Linked
+pub mod Moved
+pub mod Standing
+pub mod Targets
+pub mod Unlinked
+pub mod Wanted

@@ -1,0 +1,9 @@
+pub mod Aims
+pub mod Bare
+pub mod Counts
+pub mod Groups
+pub mod Linking
+pub mod Listed
+pub mod ListedInside
+pub mod Places
+pub mod Ways
