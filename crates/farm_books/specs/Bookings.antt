@@ -24,6 +24,13 @@ row_of_booking slot host moment version frame layer row sub =
       frame = Some (record frame { state = frame_state.Running });
       proc =
           Some (record {
-              slot = slot; version = version + 1; host = host; boot = row.boot; cores = layer.cores; memory = layer.memory; sub = sub; since = moment;
-            });
+            slot = slot;
+            version = version + 1;
+            host = host;
+            boot = row.boot;
+            cores = layer.cores;
+            memory = layer.memory;
+            sub = sub;
+            since = moment;
+          });
     }

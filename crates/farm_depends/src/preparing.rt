@@ -83,8 +83,17 @@ fn follow_of(
     count: u32,
 ) -> Result<Follow, AllocError>
     ensures { IfOk result (λ follow. follow
-        ≡ record { depends = new ∷ []; spares = []; dropped = None; done = []; reopened = None; opened = [];
-            blocked = blocked; raises = true; count = count }) }
+        ≡ record {
+          depends = new ∷ [];
+          spares = [];
+          dropped = None;
+          done = [];
+          reopened = None;
+          opened = [];
+          blocked = blocked;
+          raises = true;
+          count = count;
+        }) }
 {
     let mut depends = Items::new(alloc);
     depends.push(new)?;
