@@ -1,5 +1,5 @@
 -- The row of a frame that is booked may be installed in its slot.
-use Rattle.std.proofs.Common.{◌≡◌, ◌∙◌, ap, Bool, true, false, ◌&&◌, ◌+◌, ◌<◌, ◌≤◌, ℕ, leb, List, Option, Some, None, length, refl, subst, sym, arith, option_map}
+use Rattle.std.proofs.Common.{◌≡◌, ◌∙◌, ap, Bool, true, false, ◌+◌, ◌<◌, ◌≤◌, ℕ, leb, List, Option, Some, None, length, refl, subst, sym, arith, option_map}
 use Rattle.std.specs.Prelude.{option_and_then, if◌then◌else◌}
 use Rattle.std.specs.List.{slice_get, slice_set}
 use Rattle.std.proofs.lemmas.Bool.{false≢true, leb-true}
@@ -13,7 +13,7 @@ use Rattle.farm_types.specs.declared.rows.SubRow.{SubRow}
 use Rattle.farm_types.specs.declared.slot_row.Frame.{Frame}
 use Rattle.farm_types.specs.declared.slot_row.SlotRow.{SlotRow}
 use Rattle.farm_types.specs.declared.states.FrameState.TheVariants.{Running}
-use Rattle.farm_types.specs.Booking.{may_book, may_place, may_record, tags_match, within_burst}
+use Rattle.farm_types.specs.Booking.{may_place, may_record, within_burst}
 use Rattle.farm_types.specs.Depends.{groups_of}
 use Rattle.farm_types.specs.Farm.{Farm, for_some, job_at, layer_at, sub_at, sub_of}
 use Rattle.farm_types.specs.Run.{live_at}
@@ -110,6 +110,10 @@ module _ (f : Farm) (slot host moment : ℕ) (row : SlotRow) where
   parts : booked_at f slot host moment ≡ Some row → Parts
   parts e = parts_by (may_record f slot host) (new_proc f slot host moment) (slice_get f.slots slot) refl refl refl e
 
+  -- it may be recorded
+  pub booked_row_allowed : booked_at f slot host moment ≡ Some row → may_record f slot host ≡ true
+  booked_row_allowed e = (parts e).allowed
+
   -- where the slot has no attempt, the row may be installed
   pub booked_row_installs : booked_at f slot host moment ≡ Some row → live_at f slot ≡ None → length f.hosts ≤ MOST_HOSTS → CanInstall f.subs f.slots slot row
   booked_row_installs e free few =
@@ -123,10 +127,6 @@ module _ (f : Farm) (slot host moment : ℕ) (row : SlotRow) where
       ap (λ (r : SlotRow). record f { slots = slice_set f.slots slot r }) (sym ps.row_is)
       ∙ (ap (λ (ss : List SlotRow). record f { slots = ss }) (sym (changed_at_is f.slots slot (booked_row ps.proc) ps.before ps.at))
       ∙ ap (λ (o : Option ProcRow). with_proc f slot o) (sym ps.made))
-
--- a frame whose booking may be recorded, and whose tags match, may be booked
-pub may_be_booked : (f : Farm) (slot host : ℕ) → may_record f slot host ≡ true → tags_match f slot host ≡ true → may_book f slot host ≡ true
-may_be_booked f slot host allowed tagged = ap (λ (b : Bool). b && tags_match f slot host) allowed ∙ tagged
 
 -- the moment that the farm is at decides nothing of a booking
 pub booked_at_moment : (f : Farm) (slot host moment since : ℕ) → booked_at (at_moment f moment) slot host since ≡ booked_at f slot host since

@@ -1,40 +1,47 @@
 //! When a frame may be booked on a host.
 
-ghost use Rattle.std.specs.Prelude.{ℕ, ◌≡◌, ◌<◌, ◌+◌, Some, is_some, nat_le, IfSome};
+ghost use Rattle.std.specs.Prelude.{ℕ, ◌≡◌, ◌<◌, ◌+◌, Some, is_ok, nat_le, true, IfOk};
+ghost use Rattle.std.specs.Result.{result_err};
 ghost use Rattle.farm_types.specs.Farm.{sub_of};
 ghost use Rattle.farm_types.specs.Depends.{is_open};
 ghost use Rattle.farm_types.specs.declared.limits.TheConstants.{LAST_VERSION};
-ghost use Rattle.farm_types.specs.Booking.{is_ready, in_facility, has_capacity, within_burst, may_place, may_record, may_book, tags_match};
-ghost use Rattle.farm_books.specs.Bookings.{booked_at, row_of_booking};
+ghost use Rattle.farm_types.specs.Booking.{in_facility, has_capacity, is_waiting, within_burst, may_place, may_record, may_book, tags_match};
+ghost use Rattle.farm_types.specs.WhyNot.{why_not, why_not_place, why_not_record};
+ghost use Rattle.farm_books.specs.Bookings.{IsAsked, IsBooking, booked_at, row_of_booking};
 ghost use Rattle.farm_books.specs.Books.{IsWhole};
 ghost use Rattle.farm_books.specs.Reads.{rows_share_tag, takes_job, takes_layer};
 
-use crate::begin::Booking;
+use crate::begin::{Booking, BookingParts};
 use crate::books::Books;
 use alloc_tags::matches;
 use farm_types::{
-    AllocNo, Cores, Frame, HostNo, HostRow, JobNo, JobRow, LAST_VERSION, LayerRow, Slot, SubNo,
-    Text, Version,
+    AllocNo, Cores, Frame, HostNo, HostRow, JobNo, JobRow, LAST_VERSION, LayerRow, NotBooked, Slot,
+    SubNo, Text, Version,
 };
 
 impl Books {
-    /// Whether a booking of the slot's frame on the host may be recorded.
-    pub fn may_record(&self, slot: Slot, host: HostNo) -> bool
+    /// The booking of the slot's frame on the host that is asked for at the moment (seconds), or the first reason why the frame may not be booked there.
+    pub fn booking(&self, slot: Slot, host: HostNo, moment: u64) -> Result<Booking, NotBooked>
         requires { IsWhole self.now }
-        ensures { result ≡ may_record self.now.farm slot host }
+        ensures may { is_ok result ≡ may_book self.now.farm slot host }
+        ensures why { result_err result ≡ why_not self.now.farm slot host }
+        ensures asked { IfOk result (IsAsked slot host moment) }
+        ensures row { IfOk result (IsBooking self.now.farm) }
     {
-        self.booking(slot, host).is_some()
-    }
-
-    /// Whether the slot's frame may be booked on the host.
-    pub fn may_book(&self, slot: Slot, host: HostNo) -> bool
-        requires { IsWhole self.now }
-        ensures { result ≡ may_book self.now.farm slot host }
-    {
-        match self.booking(slot, host) {
-            None => false,
-            Some(booking) => self.tags_match(booking.layer, booking.host),
+        let parts = match self.parts(slot, host) {
+            Ok(parts) => parts,
+            Err(why) => return Err(why),
+        };
+        if !self.tags_match(parts.layer, parts.host) {
+            return Err(NotBooked::NoSharedTag);
         }
+        let row = parts.row(slot, host, self.later_of(moment));
+        Ok(Booking {
+            slot,
+            host,
+            moment,
+            row,
+        })
     }
 
     /// Whether frames of the job may be booked on the host, as far as host and job decide it: the host is up and open, and the job isn't paused and of
@@ -68,38 +75,40 @@ impl Books {
         }
     }
 
-    // What a booking of the slot's frame on the host is made of, where it may be recorded. A frame that doesn't wait is seen before
-    // the others are looked up.
-    pub(crate) fn booking(&self, slot: Slot, host: HostNo) -> Option<Booking<'_>>
+    // What a booking of the slot's frame on the host is made of, or the first reason why it may not be recorded. A frame that doesn't wait is seen
+    // before the others are looked up.
+    pub(crate) fn parts(&self, slot: Slot, host: HostNo) -> Result<BookingParts<'_>, NotBooked>
         requires { IsWhole self.now }
-        ensures allowed { is_some result ≡ may_record self.now.farm slot host }
-        ensures version { IfSome result (λ b. b.version < LAST_VERSION) }
-        ensures tags { IfSome result (λ b. tags_match self.now.farm slot host ≡ rows_share_tag self.now.farm b.layer.now b.host.now) }
-        ensures makes { IfSome result (λ b. (moment : ℕ) → booked_at self.now.farm slot host moment
+        ensures allowed { is_ok result ≡ may_record self.now.farm slot host }
+        ensures why { result_err result ≡ why_not_record self.now.farm slot host }
+        ensures version { IfOk result (λ b. b.version < LAST_VERSION) }
+        ensures tags { IfOk result (λ b. tags_match self.now.farm slot host ≡ rows_share_tag self.now.farm b.layer.now b.host.now) }
+        ensures makes { IfOk result (λ b. (moment : ℕ) → booked_at self.now.farm slot host moment
             ≡ Some (row_of_booking slot host moment b.version b.frame b.layer.now b.host.now b.sub)) }
     {
         let Some(row) = self.slot(slot) else {
-            return None;
+            return Err(NotBooked::NoFrame);
         };
         let Some(frame) = &row.frame else {
-            return None;
+            return Err(NotBooked::NoFrame);
         };
         if !frame.state.is_waiting() {
-            return None;
+            return Err(NotBooked::NotWaiting);
         }
         let Some(job) = self.job(frame.job) else {
-            return None;
+            return Err(NotBooked::NoJob);
         };
         let Some(layer) = self.layer(frame.job, frame.layer) else {
-            return None;
+            return Err(NotBooked::NoLayer);
         };
         let Some(host_row) = self.host(host) else {
-            return None;
+            return Err(NotBooked::NoHost);
         };
-        let Some(sub) = self.place(slot, host, row.version, frame, job, layer, host_row) else {
-            return None;
+        let sub = match self.place(slot, host, row.version, frame, job, layer, host_row) {
+            Ok(sub) => sub,
+            Err(why) => return Err(why),
         };
-        Some(Booking {
+        Ok(BookingParts {
             version: row.version,
             frame: *frame,
             layer,
@@ -108,7 +117,7 @@ impl Books {
         })
     }
 
-    // The subscription on which the frame of that job and layer is booked on the host, where it may be.
+    // The subscription on which the frame of that job and layer, which waits, is booked on the host, or the first reason why it may not be.
     fn place(
         &self,
         slot: Slot,
@@ -118,28 +127,42 @@ impl Books {
         job: &JobRow,
         layer: &LayerRow,
         host_row: &HostRow,
-    ) -> Option<SubNo>
-        requires { IsWhole self.now }
-        ensures allowed { is_some result ≡ may_place self.now.farm slot host version frame.now job.now layer.now host_row.now }
-        ensures version { IfSome result (λ sub. version < LAST_VERSION) }
-        ensures number { IfSome result (λ sub. sub ≡ sub_of job.now.show host_row.now.alloc) }
+    ) -> Result<SubNo, NotBooked>
+        requires whole { IsWhole self.now }
+        requires waits { is_waiting frame.now.state ≡ true }
+        ensures allowed { is_ok result ≡ may_place self.now.farm slot host version frame.now job.now layer.now host_row.now }
+        ensures why { result_err result ≡ why_not_place self.now.farm slot host version job.now layer.now host_row.now }
+        ensures version { IfOk result (λ sub. version < LAST_VERSION) }
+        ensures number { IfOk result (λ sub. sub ≡ sub_of job.now.show host_row.now.alloc) }
     {
-        let fits = is_ready(version, frame, job)
-            && self.is_open(slot)
-            && self.in_facility(host_row.alloc, &job.facility)
-            && host_row.takes_frames()
-            && self.has_capacity(host, host_row, layer);
-        if !fits {
-            return None;
+        if version.0 >= LAST_VERSION {
+            return Err(NotBooked::VersionSpent);
+        }
+        if !job.state.is_pending() {
+            return Err(NotBooked::JobFinished);
+        }
+        if job.paused {
+            return Err(NotBooked::JobPaused);
+        }
+        if !self.is_open(slot) {
+            return Err(NotBooked::NotOpen);
+        }
+        if !self.in_facility(host_row.alloc, &job.facility) {
+            return Err(NotBooked::OtherFacility);
+        }
+        if !host_row.takes_frames() {
+            return Err(NotBooked::HostClosed);
+        }
+        if !self.has_capacity(host, host_row, layer) {
+            return Err(NotBooked::NoCapacity);
         }
         let Some(sub) = self.sub_of(job.show, host_row.alloc) else {
-            return None;
+            return Err(NotBooked::PastBurst);
         };
-        if is_within(self.booked(sub.sub), layer, sub.burst) {
-            Some(sub.sub)
-        } else {
-            None
+        if !is_within(self.booked(sub.sub), layer, sub.burst) {
+            return Err(NotBooked::PastBurst);
         }
+        Ok(sub.sub)
     }
 
     /// Whether the frame in the slot waits for no other.
@@ -189,13 +212,6 @@ impl Books {
             Some(allocation) => matches(&host_row.tags, allocation.tag.as_str(), &layer.tags),
         }
     }
-}
-
-// Whether the frame waits below the last version, and its job is pending and not paused.
-fn is_ready(version: Version, frame: &Frame, job: &JobRow) -> bool
-    ensures { result ≡ is_ready version frame.now job.now }
-{
-    frame.state.is_waiting() && version.0 < LAST_VERSION && job.state.is_pending() && !job.paused
 }
 
 // Whether so many booked cores with the layer's are within the burst.

@@ -17,5 +17,6 @@ mod rows;
 mod shows;
 mod used;
 
+pub use begin::Booking;
 pub use books::Books;
 pub use look::is_attempt;

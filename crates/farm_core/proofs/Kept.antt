@@ -1,15 +1,13 @@
 -- The books as they begin, and after a booking.
-use Rattle.std.proofs.Common.{◌≡◌, ◌<◌, ◌^◌, ℕ, zero, suc, Bool, true, false, Option, None, Some, replicate, refl, sym, subst}
+use Rattle.std.proofs.Common.{◌≡◌, ℕ, zero, suc, false, Option, None, Some, replicate, refl, sym, subst}
 use Rattle.std.proofs.lemmas.Option.{none-some}
-use Rattle.std.specs.Prelude.{if◌then◌else◌}
 use Rattle.farm_types.specs.declared.entry.Act.TheVariants.{Book}
 use Rattle.farm_types.specs.declared.entry.Entry.{Entry}
-use Rattle.farm_types.specs.Booking.{may_book, may_record, tags_match}
 use Rattle.farm_types.specs.Farm.{Farm}
+use Rattle.farm_types.specs.Run.{IsLegalStep}
 use Rattle.farm_types.specs.Step.{acted, after, at_moment, moment_of, new_proc, with_proc}
 use Rattle.farm_types.specs.declared.attempt.ProcRow.{ProcRow}
 use Rattle.farm_types.specs.declared.limits.TheConstants.{SLOT_LIMIT}
-use Rattle.farm_types.proofs.Lists.{and_both}
 use Rattle.depend_law.proofs.KeptFirst.{first_empty}
 use Rattle.depend_law.proofs.KeptRuns.{kept_step}
 use Rattle.farm_rows.specs.Changes.{beside}
@@ -43,7 +41,7 @@ proc_own : (f : Farm) (slot : ℕ) (o : Option ProcRow) → beside (with_proc f 
 proc_own f slot None = refl
 proc_own f slot (Some p) = refl
 
-module _ (v : FarmBooks) (whole : IsWhole v) (book : IsBook (depends_of v)) (slot host moment : ℕ) (within : moment < 2 ^ 64) where
+module _ (v : FarmBooks) (whole : IsWhole v) (book : IsBook (depends_of v)) (slot host moment : ℕ) (legal : IsLegalStep v.farm (record { moment = moment; act = Book slot host })) where
   abbrev booking : Entry
   booking = record { moment = moment; act = Book slot host }
 
@@ -53,22 +51,10 @@ module _ (v : FarmBooks) (whole : IsWhole v) (book : IsBook (depends_of v)) (slo
   own : beside booked v.farm.depends v.farm.met v.farm.next_depend ≡ booked
   own = proc_own (at_moment v.farm (moment_of v.farm moment)) slot (new_proc (at_moment v.farm (moment_of v.farm moment)) slot host (moment_of v.farm moment))
 
-  whole_booked : may_book v.farm slot host ≡ true → IsWhole (with_farm v booked)
-  whole_booked may =
-      let allowed = (and_both (may_record v.farm slot host) (tags_match v.farm slot host) may).0 in
-      let kept = kept_step v.farm booking (record { formed = record { moment_within = within; act_formed = tt }; accepted = refl; condition = allowed }) whole.kept in
+  -- after a booking
+  pub whole_booked : (new : FarmBooks) → new ≡ with_farm v (after v.farm booking) → IsWhole new
+  whole_booked new is =
+      let kept = kept_step v.farm booking legal whole.kept in
       let same = same_depends v whole booked own in
-      let fits = fits_beside v whole booked nothing_follows same (nothing_fits v.farm booked (quiet_carries v.farm booking tt refl allowed whole.kept.rows.sound)) in
-      whole_then v whole booked own kept (fits_then v.farm booked (depends_of v) nothing_follows (whole_beside v whole) book fits kept.rows.jobs.slot_count)
-
-  booked_by : (may : Bool) → may_book v.farm slot host ≡ may → IsWhole (if may then with_farm v (after v.farm booking) else v)
-  booked_by true is = whole_booked is
-  booked_by false is = whole
-
-  -- after a booking, if it may be
-  pub whole_if_booked : (new : FarmBooks) → new ≡ (if may_book v.farm slot host then with_farm v (after v.farm booking) else v) → IsWhole new
-  whole_if_booked new is = subst IsWhole (sym is) (booked_by (may_book v.farm slot host) refl)
-
-pub farm_if : (v : FarmBooks) (f : Farm) (may : Bool) → (if may then with_farm v f else v).farm ≡ (if may then f else v.farm)
-farm_if v f true = refl
-farm_if v f false = refl
+      let fits = fits_beside v whole booked nothing_follows same (nothing_fits v.farm booked (quiet_carries v.farm booking tt refl legal.condition whole.kept.rows.sound)) in
+      subst IsWhole (sym is) (whole_then v whole booked own kept (fits_then v.farm booked (depends_of v) nothing_follows (whole_beside v whole) book fits kept.rows.jobs.slot_count))

@@ -4,6 +4,7 @@ pub mod BookedRows
 pub mod HeadAfter
 pub mod Kept
 pub mod MarksTold
+pub mod NamedRows
 pub mod Numbers
 pub mod Prepared
 pub mod PushedAll

@@ -1,5 +1,6 @@
 pub mod AllRows
 pub mod Answers
+pub mod Bookings
 pub mod Change
 pub mod Reads
 pub mod Restore

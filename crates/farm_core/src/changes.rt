@@ -1,11 +1,8 @@
 //! The rows of the store that change.
 
-ghost use Rattle.std.specs.Prelude.{◌≡◌, ◌+◌, ◌-◌, ◌<◌, ◌^◌, ◌++◌, true, length, IfOk, OnOk, if◌then◌else◌};
-ghost use Rattle.farm_types.specs.declared.entry.Act.TheVariants as act;
-ghost use Rattle.farm_types.specs.Booking.{may_book, may_record};
-ghost use Rattle.farm_types.specs.Step.{after, moment_of};
+ghost use Rattle.std.specs.Prelude.{◌≡◌, ◌+◌, ◌-◌, ◌<◌, ◌^◌, ◌++◌, length, IfOk, OnOk, if◌then◌else◌};
 ghost use Rattle.farm_rows.specs.declared.row_key.RowKey.{RowKey};
-ghost use Rattle.farm_rows.specs.Changes.{NamesExactly, row_after, row_at};
+ghost use Rattle.farm_rows.specs.Changes.{row_after, row_at};
 ghost use Rattle.farm_rows.specs.Rows.{head_row};
 ghost use Rattle.farm_books.specs.Books.{IsWhole};
 ghost use Rattle.farm_core.specs.Change.{IsReady, Makes, Plans, after_change};
@@ -17,7 +14,7 @@ use farm_books::Books;
 use farm_depends::follow_rows;
 use farm_finish::finish_rows;
 use farm_rows::{FarmRow, HeadRow, RowChange, exactly};
-use farm_types::{Entry, HostNo, Items, Slot};
+use farm_types::Entry;
 use std::alloc::{AllocError, Global};
 
 impl Farm {
@@ -36,21 +33,6 @@ impl Farm {
         let exact = exactly(alloc, self, rows)?;
         change.rows = exact;
         Ok(change)
-    }
-
-    /// Exactly the rows in which this farm and the one with the booking differ, each as it will be. The only error is that memory ran out.
-    pub fn booking_changes(
-        &self,
-        alloc: Global,
-        slot: Slot,
-        host: HostNo,
-        moment: u64,
-    ) -> Result<Items<RowChange>, AllocError>
-        requires { may_book self.now slot host ≡ true }
-        ensures { IfOk result (λ rows. NamesExactly self.now (after self.now (record { moment = moment; act = act.Book slot host })) rows) }
-    {
-        let rows = rows_of_booking(alloc, &self.books, slot, host, moment)?;
-        exactly(alloc, self, rows)
     }
 }
 
@@ -120,40 +102,4 @@ fn next_job_after(books: &Books, change: &Change) -> u64
         return next + 1;
     }
     next
-}
-
-// The rows that the booking makes: the slot's, and the farm's own.
-fn rows_of_booking(
-    alloc: Global,
-    books: &Books,
-    slot: Slot,
-    host: HostNo,
-    moment: u64,
-) -> Result<Vec<RowChange>, AllocError>
-    requires whole { IsWhole books.now }
-    requires allowed { may_record books.now.farm slot host ≡ true }
-    ensures { IfOk result (λ rows. (k : RowKey) → row_at (after books.now.farm (record { moment = moment; act = act.Book slot host })) k
-        ≡ row_after rows.items k (row_at books.now.farm k)) }
-{
-    let now = books.later_of(moment);
-    let Some(booked) = books.booked_at(slot, host, now) else {
-        unreachable!()
-    };
-    let mut rows = Vec::new(alloc);
-    rows.push(RowChange::of_slot(slot, &booked))?;
-    rows.push(RowChange::Put(FarmRow::Head(head_at(books, now))))?;
-    Ok(rows)
-}
-
-// The farm's own row at another moment.
-fn head_at(books: &Books, moment: u64) -> HeadRow
-    ensures { result ≡ record (head_row books.now.farm) { moment = moment } }
-{
-    HeadRow {
-        format: 1,
-        moment,
-        jobs: books.jobs().next_number(),
-        finishes: books.jobs().next_finish(),
-        depends: books.depends().next_number(),
-    }
 }

@@ -1,10 +1,8 @@
 //! Entries: prepared, reserved, applied.
 
-ghost use Rattle.std.specs.Prelude.{◌≡◌, ◌≤◌, length, OnOk, OnErr, if◌then◌else◌};
-ghost use Rattle.farm_types.specs.declared.entry.Act.TheVariants as act;
-ghost use Rattle.farm_types.specs.Booking.{may_book};
+ghost use Rattle.std.specs.Prelude.{◌≡◌, ◌≤◌, length, OnOk, OnErr};
 ghost use Rattle.farm_types.specs.Formed.{IsFormed};
-ghost use Rattle.farm_types.specs.Step.{HasCondition, after};
+ghost use Rattle.farm_types.specs.Step.{HasCondition};
 ghost use Rattle.farm_core.specs.Change.{IsReady, IsReserved, Prepares, after_change, reserved_of};
 
 use crate::change::Change;
@@ -13,13 +11,12 @@ use crate::following::with_follow;
 use farm_changes::{apply, prepare, reserve};
 use farm_depends::{apply_follow, reserve_follow};
 use farm_finish::apply_finish;
-use farm_types::{Answer, Entry, FarmFault, HostNo, Slot};
+use farm_types::{Answer, Entry, FarmFault};
 use std::alloc::{AllocError, Global};
 
 impl Farm {
     /// Prepares what the entry does, with the rows of the store that change, and changes nothing. The entry is within its forms and limits, and an
-    /// entry to book is
-    /// one whose booking may be recorded.
+    /// entry to book is one whose booking may be recorded.
     pub fn prepare(&self, alloc: Global, entry: &Entry) -> Result<Change, FarmFault>
         requires condition { HasCondition self.now entry.now.act }
         requires formed { IsFormed entry.now }
@@ -61,15 +58,5 @@ impl Farm {
         apply_follow(&mut self.books, follow);
         apply_finish(&mut self.books, finish);
         answer
-    }
-
-    /// Books the slot's frame on the host, at the later of the farm's moment and this one (seconds), where it may be booked, and says whether
-    /// it was. It takes no memory.
-    pub fn book_if(&mut self, slot: Slot, host: HostNo, moment: u64) -> bool
-        ensures said { result ≡ may_book self.old slot host }
-        ensures farm { self.new ≡ (if may_book self.old slot host then after self.old (record { moment = moment; act = act.Book slot host }) else self.old) }
-    {
-        self.books.kept();
-        self.books.book_if(slot, host, moment)
     }
 }

@@ -26,3 +26,4 @@ pub mod Step
 pub mod Subs
 pub mod Sums
 pub mod Verdict
+pub mod WhyNot

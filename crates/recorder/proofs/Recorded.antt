@@ -1,15 +1,13 @@
 -- What a change and an entry that were recorded, or weren't, leave.
-use Rattle.std.proofs.Common.{◌≡◌, ◌<◌, ◌^◌, ℕ, Bool, refl, sym, ap, subst, ◌∙◌, List, true, false, Result, Ok, Err, OnOk, IsErrAnd}
+use Rattle.std.proofs.Common.{◌≡◌, ℕ, Bool, refl, sym, ap, subst, ◌∙◌, List, true, false, Result, Ok, Err, OnOk, IsErrAnd}
 use Rattle.std.specs.Prelude.{if◌then◌else◌}
 use Rattle.std.proofs.lemmas.Result.{err_from_is_err_and}
 use Rattle.farm_types.specs.declared.answer.Answer.{Answer}
 use Rattle.farm_types.specs.declared.entry.Entry.{Entry}
-use Rattle.farm_types.specs.Booking.{may_book, may_record, tags_match}
+use Rattle.farm_types.specs.Booking.{may_book}
 use Rattle.farm_types.specs.Farm.{Farm}
 use Rattle.farm_types.specs.Formed.{IsFormed}
-use Rattle.farm_types.specs.Run.{IsLegalStep}
 use Rattle.farm_types.specs.Step.{HasCondition, after}
-use Rattle.farm_types.proofs.Lists.{and_both}
 use Rattle.farm_rows.specs.declared.row_change.RowChange.{RowChange}
 use Rattle.farm_rows.specs.Changes.{NamesExactly}
 use Rattle.farm_rows.specs.Rows.{rows_of}
@@ -21,6 +19,8 @@ use Rattle.farm_keeper.proofs.KeepingLaws.{Continues-as, Continues-same}
 use Rattle.farm_keeper.specs.Rows.{Rows}
 use Rattle.farm_types.specs.declared.fault.FarmFault.{FarmFault}
 use Rattle.farm_types.specs.declared.fault.FarmFault.TheVariants as farm_fault
+use Rattle.farm_books.specs.declared.begin.Booking.{Booking}
+use Rattle.farm_books.specs.Bookings.{IsAsked}
 use Rattle.farm_core.specs.declared.change.Change.{Change}
 use Rattle.farm_core.specs.Change.{IsReserved, Makes, Prepares, after_change, reserved_of}
 use Rattle.recorder.specs.declared.refusal.CommitRefusal.{CommitRefusal}
@@ -184,14 +184,6 @@ commits_made f new e change makes (Err refusal.NoMemory) is = is
 
 -- ---- a booking
 
-pub booking_legal : (f : Farm) (slot host moment : ℕ) → moment < 2 ^ 64 → may_book f slot host ≡ true → IsLegalStep f (booking slot host moment)
-booking_legal f slot host moment within may =
-    record {
-      formed = record { moment_within = within; act_formed = tt };
-      accepted = refl;
-      condition = (and_both (may_record f slot host) (tags_match f slot host) may).0;
-    }
-
 pub books_none : (f : Farm) (slot host moment : ℕ) → may_book f slot host ≡ false → Books f slot host moment (Ok false) f
 books_none f slot host moment free = (sym free, ap (λ (b : Bool). if b then after f (booking slot host moment) else f) (sym free))
 
@@ -205,7 +197,14 @@ books_at_fault f slot host moment may why r err =
     let p = err_from_is_err_and r err in
     subst (λ (q : Result Bool RecordFault). Books f slot host moment q f) (sym p.1) (unbooked f slot host moment may p.0)
 
-pub booked_then : (holds left : Rows → Type 0) (f new : Farm) (slot host moment : ℕ) → may_book f slot host ≡ true
-    → new ≡ (if may_book f slot host then after f (booking slot host moment) else f) → HasRecorded holds left (after f (booking slot host moment)) → HasRecorded holds left new
-booked_then holds left f new slot host moment may is has =
-    subst (HasRecorded holds left) (sym (is ∙ ap (λ (b : Bool). if b then after f (booking slot host moment) else f) may)) has
+pub books_there : (f new : Farm) (slot host moment : ℕ) → may_book f slot host ≡ true → new ≡ after f (booking slot host moment) → Books f slot host moment (Ok true) new
+books_there f new slot host moment may is = (sym may, is ∙ sym (ap (λ (b : Bool). if b then after f (booking slot host moment) else f) may))
+
+-- what holds of the booking that was decided holds of the one that was asked for
+pub as_asked : (P : (slot host moment : ℕ) → Type 0) (slot host moment : ℕ) (b : Booking) → IsAsked slot host moment b → P b.slot b.host b.moment → P slot host moment
+as_asked P slot host moment b asked p =
+    subst (λ (n : ℕ). P slot host n) asked.moment_is (subst (λ (n : ℕ). P slot n b.moment) asked.host_is (subst (λ (n : ℕ). P n b.host b.moment) asked.slot_is p))
+
+-- it may be, as the one that was asked for
+pub may_asked : (f : Farm) (slot host moment : ℕ) (b : Booking) → IsAsked slot host moment b → may_book f slot host ≡ true → may_book f b.slot b.host ≡ true
+may_asked f slot host moment b asked may = ap (λ (n : ℕ). may_book f n b.host) asked.slot_is ∙ (ap (may_book f slot) asked.host_is ∙ may)

@@ -9,16 +9,18 @@ ghost use Rattle.farm_types.specs.Run.{IsLegalStep};
 ghost use Rattle.farm_types.specs.Step.{after};
 ghost use Rattle.farm_rows.specs.Changes.{NamesExactly};
 ghost use Rattle.farm_keeper.specs.Keeping.{Continues, HoldsWith, Keeps, LeavesTaken, MayLeave};
+ghost use Rattle.farm_books.specs.Bookings.{entry_of};
+ghost use Rattle.farm_core.specs.Bookings.{IsBookingOf};
 ghost use Rattle.farm_core.specs.Change.{after_change, reserved_of};
 ghost use Rattle.store_law.specs.Stored.{batch_of as stored_batch};
 ghost use Rattle.recorder.specs.Faults.{is_store_fault};
-ghost use Rattle.recorder.specs.Recording.{booking, Books, HasRecorded, IsOfEntry, IsUnstoredBooking, HasSameRows, Records, StaysRecorded};
+ghost use Rattle.recorder.specs.Recording.{Books, HasRecorded, IsOfEntry, IsUnstoredBooking, HasSameRows, Records, StaysRecorded};
 ghost use Rattle.recorder.specs.Telling.{TellsBatch, TellsOf, due_booking};
 
 use crate::batch::batch_of;
 use crate::refusal::RecordFault;
 use depend_law::legal_runs_keep_farms;
-use farm_core::{Change, Farm};
+use farm_core::{Booking, Change, Farm};
 use farm_keeper::Keeper;
 use farm_rows::RowChange;
 use farm_types::{Entry, HostNo, Slot};
@@ -78,7 +80,7 @@ fn make_ready<K: Keeper>(
     keep(alloc, keeper, change.batch())
 }
 
-/// Books the slot's frame on the host, where it may be, in the keeper and in the farm, or in neither.
+/// Books the slot's frame on the host, where it may be, in the keeper and in the farm, or in neither. That it may be is decided once.
 pub(crate) fn book_in<K: Keeper>(
     alloc: Global,
     farm: &mut Farm,
@@ -93,50 +95,31 @@ pub(crate) fn book_in<K: Keeper>(
     ensures keeper { Continues K.tells K.faults keeper.old keeper.new (is_store_fault result) }
     ensures told { TellsOf K.commits farm.old (due_booking farm.old slot host moment) result keeper.old keeper.new }
 {
-    if farm.books().may_book(slot, host) {
-        return book_there(alloc, farm, keeper, slot, host, moment);
+    match farm.booking(slot, host, moment) {
+        Ok(booking) => record_booking(alloc, farm, keeper, &booking),
+        Err(_why) => Ok(false),
     }
-    Ok(false)
 }
 
-// Books a frame that may be booked.
-fn book_there<K: Keeper>(
+// Tells the keeper the rows of a booking that was decided, and puts it in.
+fn record_booking<K: Keeper>(
     alloc: Global,
     farm: &mut Farm,
     keeper: &mut K,
-    slot: Slot,
-    host: HostNo,
-    moment: u64,
+    booking: &Booking,
 ) -> Result<bool, RecordFault>
-    requires { may_book farm.old slot host ≡ true }
-    ensures farm { Books farm.old slot host moment result farm.new }
+    requires booking { IsBookingOf farm.old booking.now }
+    requires may { may_book farm.old booking.now.booked.slot booking.now.booked.host ≡ true }
+    ensures farm { Books farm.old booking.now.booked.slot booking.now.booked.host booking.now.booked.moment result farm.new }
     ensures kept { HasRecorded (K.holds keeper.old) (K.left keeper.old) farm.old → HasRecorded (K.holds keeper.new) (K.left keeper.new) farm.new }
-    ensures same { HasSameRows farm.old (after farm.old (booking slot host moment)) → keeper.new ≡ keeper.old }
+    ensures same { HasSameRows farm.old (after farm.old (entry_of booking.now.booked)) → keeper.new ≡ keeper.old }
     ensures keeper { Continues K.tells K.faults keeper.old keeper.new (is_store_fault result) }
-    ensures told { TellsOf K.commits farm.old (booking slot host moment ∷ []) result keeper.old keeper.new }
-{
-    keep_booking(alloc, farm, keeper, slot, host, moment)?;
-    Ok(farm.book_if(slot, host, moment))
-}
-
-// Tells the keeper of a booking that may be.
-fn keep_booking<K: Keeper>(
-    alloc: Global,
-    farm: &Farm,
-    keeper: &mut K,
-    slot: Slot,
-    host: HostNo,
-    moment: u64,
-) -> Result<(), RecordFault>
-    requires { may_book farm.now slot host ≡ true }
-    ensures kept { StaysRecorded (K.holds keeper.old) (K.left keeper.old) (K.holds keeper.new) (K.left keeper.new) farm.now (booking slot host moment) result }
-    ensures same { HasSameRows farm.now (after farm.now (booking slot host moment)) → keeper.new ≡ keeper.old }
-    ensures keeper { Continues K.tells K.faults keeper.old keeper.new (is_store_fault result) }
-    ensures told { TellsOf K.commits farm.now (booking slot host moment ∷ []) result keeper.old keeper.new }
+    ensures told { TellsOf K.commits farm.old (entry_of booking.now.booked ∷ []) result keeper.old keeper.new }
 {
     farm.kept();
-    let rows = farm.booking_changes(alloc, slot, host, moment)?;
-    keep(alloc, keeper, rows.as_slice())
+    keep(alloc, keeper, booking.batch())?;
+    farm.book(booking);
+    Ok(true)
 }
 
 // Tells the keeper the changes, where there are any.

@@ -1,5 +1,4 @@
-use Rattle.std.proofs.Common.{◌≡◌, ◌∙◌, List, ap, sym}
-use Rattle.farm_rows.specs.declared.row_change.RowChange.{RowChange}
+use Rattle.std.proofs.Common.{◌∙◌, ap}
 use Rattle.farm_core.specs.declared.change.Change as changes
 use Rattle.recorder.proofs.Recorded.{names_then, on_ok, ran_out, unchanged}
 use Rattle.recorder.proofs.Told.{not_told}
