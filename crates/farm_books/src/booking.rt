@@ -6,7 +6,7 @@ ghost use Rattle.farm_types.specs.Farm.{sub_of};
 ghost use Rattle.farm_types.specs.Depends.{is_open};
 ghost use Rattle.farm_types.specs.declared.limits.TheConstants.{LAST_VERSION};
 ghost use Rattle.farm_types.specs.Booking.{in_facility, has_capacity, is_waiting, within_burst, may_place, may_record, may_book, tags_match};
-ghost use Rattle.farm_types.specs.WhyNot.{why_not, why_not_place, why_not_record};
+ghost use Rattle.booking_reasons.specs.WhyNot.{why_not, why_not_place, why_not_record};
 ghost use Rattle.farm_books.specs.Bookings.{IsAsked, IsBooking, booked_at, row_of_booking};
 ghost use Rattle.farm_books.specs.Books.{IsWhole};
 ghost use Rattle.farm_books.specs.Reads.{rows_share_tag, takes_job, takes_layer};
@@ -14,9 +14,10 @@ ghost use Rattle.farm_books.specs.Reads.{rows_share_tag, takes_job, takes_layer}
 use crate::begin::{Booking, BookingParts};
 use crate::books::Books;
 use alloc_tags::matches;
+use booking_reasons::NotBooked;
 use farm_types::{
-    AllocNo, Cores, Frame, HostNo, HostRow, JobNo, JobRow, LAST_VERSION, LayerRow, NotBooked, Slot,
-    SubNo, Text, Version,
+    AllocNo, Cores, Frame, HostNo, HostRow, JobNo, JobRow, LAST_VERSION, LayerRow, Slot, SubNo,
+    Text, Version,
 };
 
 impl Books {

@@ -4,16 +4,17 @@ ghost use Rattle.std.specs.Prelude.{◌≡◌, ◌&&◌, ◌==◌, is_ok, IfOk};
 ghost use Rattle.std.specs.Result.{result_err};
 ghost use Rattle.farm_types.specs.Booking.{may_book};
 ghost use Rattle.farm_types.specs.Step.{after};
-ghost use Rattle.farm_types.specs.WhyNot.{why_not};
+ghost use Rattle.booking_reasons.specs.WhyNot.{why_not};
 ghost use Rattle.farm_rows.specs.Changes.{NamesExactly};
 ghost use Rattle.farm_rows.specs.Rows.{head_row};
 ghost use Rattle.farm_books.specs.Bookings.{IsAsked, IsBooking, entry_of};
 ghost use Rattle.farm_core.specs.Bookings.{IsBookingOf, rows_in};
 
 use crate::farm::Farm;
+use booking_reasons::NotBooked;
 use farm_books::Books;
 use farm_rows::{FarmRow, HeadRow, RowChange};
-use farm_types::{HostNo, NotBooked, Slot};
+use farm_types::{HostNo, Slot};
 
 /// A booking that was decided: the slot's row that it leaves, and the rows of the store that change. It takes no memory.
 #[derive(Debug, Drop)]

@@ -7,7 +7,6 @@ pub mod NextKey
 pub mod NumberTexts
 pub mod Passes
 pub mod Ranges
-pub mod Reasons
 pub mod Searched
 pub mod Stays
 pub mod Utf8

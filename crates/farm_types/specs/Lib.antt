@@ -26,4 +26,3 @@ pub mod Step
 pub mod Subs
 pub mod Sums
 pub mod Verdict
-pub mod WhyNot

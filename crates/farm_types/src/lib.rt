@@ -12,7 +12,6 @@ mod items;
 mod job;
 mod limits;
 mod names;
-mod not_booked;
 mod numbers;
 mod refusal;
 mod rows;
@@ -42,7 +41,6 @@ pub use limits::{
     SILENT_SECONDS, SLOT_LIMIT, SUB_NUMBERS,
 };
 pub use names::{is_name, is_tag};
-pub use not_booked::{NotBooked, reasons_are_exact};
 pub use numbers::{AllocNo, Cores, DependNo, HostNo, JobNo, Kb, ShowNo, Slot, SubNo, Version};
 pub use refusal::{Counted, Refusal};
 pub use rows::{AllocRow, HostRow, JobRow, LayerRow, ShowRow, SubRow};

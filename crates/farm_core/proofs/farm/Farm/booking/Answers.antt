@@ -3,7 +3,7 @@ use Rattle.farm_types.specs.Booking.{may_book}
 use Rattle.farm_types.specs.Farm.{Farm}
 use Rattle.farm_types.specs.Run.{IsLegalStep}
 use Rattle.farm_types.specs.Step.{moment_of}
-use Rattle.farm_types.specs.WhyNot.{why_not}
+use Rattle.booking_reasons.specs.WhyNot.{why_not}
 use Rattle.farm_books.specs.Bookings.{entry_of}
 use Rattle.farm_books.proofs.BookedRow.{booked_row_allowed}
 use Rattle.farm_core.specs.Bookings.{IsBookingOf}

@@ -3,7 +3,7 @@
 ghost use Rattle.std.specs.Prelude.{ℕ, ◌≡◌, is_none};
 ghost use Rattle.farm_types.specs.Booking.{may_book};
 ghost use Rattle.farm_types.specs.Farm.{Farm};
-ghost use Rattle.farm_types.specs.WhyNot.{why_not};
+ghost use Rattle.booking_reasons.specs.WhyNot.{why_not};
 
 use std::fmt;
 

@@ -2,8 +2,8 @@
 use Rattle.std.proofs.Common.{◌≡◌, ◌∙◌, ℕ, Bool, true, false, not, ◌&&◌, Option, None, Some, refl, sym, ap}
 use Rattle.std.specs.Prelude.{is_none, nat_lt, slice_get}
 use Rattle.farm_types.specs.declared.limits.TheConstants.{LAST_VERSION}
-use Rattle.farm_types.specs.declared.not_booked.NotBooked.{NotBooked}
-use Rattle.farm_types.specs.declared.not_booked.NotBooked.TheVariants as reason
+use Rattle.booking_reasons.specs.declared.not_booked.NotBooked.{NotBooked}
+use Rattle.booking_reasons.specs.declared.not_booked.NotBooked.TheVariants as reason
 use Rattle.farm_types.specs.declared.rows.HostRow.{HostRow}
 use Rattle.farm_types.specs.declared.rows.JobRow.{JobRow}
 use Rattle.farm_types.specs.declared.rows.LayerRow.{LayerRow}
@@ -12,7 +12,7 @@ use Rattle.farm_types.specs.Booking.{has_capacity, in_facility, is_pending, is_w
 use Rattle.farm_types.specs.DependActs.{or_else}
 use Rattle.farm_types.specs.Depends.{is_open}
 use Rattle.farm_types.specs.Farm.{Farm, for_some, job_at, layer_at, sub_of}
-use Rattle.farm_types.specs.WhyNot.{if_there, unless, why_not, why_not_place, why_not_record}
+use Rattle.booking_reasons.specs.WhyNot.{if_there, unless, why_not, why_not_place, why_not_record}
 
 -- ---- what there is
 

@@ -1,8 +1,8 @@
 -- Why a frame may not be booked on a host: the first part of the rules that fails.
 use Rattle.std.specs.Prelude.{ℕ, Bool, true, false, not, Option, None, Some, nat_lt, slice_get}
 use Rattle.farm_types.specs.declared.limits.TheConstants.{LAST_VERSION}
-use Rattle.farm_types.specs.declared.not_booked.NotBooked.{NotBooked}
-use Rattle.farm_types.specs.declared.not_booked.NotBooked.TheVariants as reason
+use Rattle.booking_reasons.specs.declared.not_booked.NotBooked.{NotBooked}
+use Rattle.booking_reasons.specs.declared.not_booked.NotBooked.TheVariants as reason
 use Rattle.farm_types.specs.declared.rows.HostRow.{HostRow}
 use Rattle.farm_types.specs.declared.rows.JobRow.{JobRow}
 use Rattle.farm_types.specs.declared.rows.LayerRow.{LayerRow}
