@@ -64,8 +64,8 @@ impl Work for Committing<'_> {
     }
 }
 
-// Makes a file that keeps one row, where it can be made: what is wrong with it for another one meanwhile.
-fn make_kept(rt: &HostRuntime, path: &str) -> Result<Option<FileFault>, Fail> {
+// Makes a file that keeps one row, where it can be made: whether the row was taken, and what is wrong with the file for another one meanwhile.
+fn make_kept(rt: &HostRuntime, path: &str) -> Result<(bool, Option<FileFault>), Fail> {
     let mut committing = Committing {
         rt,
         path,
@@ -74,8 +74,7 @@ fn make_kept(rt: &HostRuntime, path: &str) -> Result<Option<FileFault>, Fail> {
         fault: None,
     };
     work_over_file(rt, path, &mut committing)?;
-    assert!(rt; committing.is_taken);
-    Ok(committing.fault)
+    Ok((committing.is_taken, committing.fault))
 }
 
 // Counts the rows.
@@ -104,7 +103,9 @@ fn count_rows(rt: &HostRuntime, path: &str) -> Result<Option<usize>, Fail> {
 fn a_file_is_made_and_held_and_keeps_its_rows(rt: HostRuntime) -> Result<(), Fail> {
     let folder = new_folder(&rt)?;
     let path = folder.join(rt.alloc(), "farm.db")?;
-    assert_eq!(rt; make_kept(&rt, path.as_str())?, Some(FileFault::Held));
+    let (is_taken, fault) = make_kept(&rt, path.as_str())?;
+    assert!(rt; is_taken);
+    assert_eq!(rt; fault, Some(FileFault::Held));
     assert_eq!(rt; count_rows(&rt, path.as_str())?, Some(1));
     fs::remove_dir_all(&rt, folder.as_path())?;
     Ok(())
