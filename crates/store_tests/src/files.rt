@@ -20,6 +20,7 @@ fn new_folder<R: Runtime + AllocGlobal>(rt: &R) -> Result<PathBuf, Fail> {
 }
 
 // No work.
+#[derive(Drop)]
 struct Nothing;
 
 impl Work for Nothing {
@@ -48,6 +49,7 @@ fn one_put(alloc: Global) -> Result<Batch, AllocError> {
 }
 
 // Commits a batch, and asks meanwhile what is wrong with the file for another one.
+#[derive(Drop)]
 struct Committing<'a> {
     rt: &'a HostRuntime,
     path: &'a str,
@@ -78,6 +80,7 @@ fn make_kept(rt: &HostRuntime, path: &str) -> Result<(bool, Option<FileFault>), 
 }
 
 // Counts the rows.
+#[derive(Drop)]
 struct Counting {
     count: Option<usize>,
 }
