@@ -4,8 +4,8 @@ use Rattle.serde_json.specs.Data.{Members}
 use Rattle.cue_json.specs.Fields.{Fault, ◌>>=◌, others_at}
 use Rattle.farm_lines.specs.ReplyLines.{code_at}
 use Rattle.farm_lines.specs.declared.reply.Reply.{Reply}
-use Rattle.client_codec.specs.declared.reply_reader.ReplyFault.{ReplyFault}
-use Rattle.client_codec.specs.declared.reply_reader.ReplyFault.TheVariants as reply_fault
+use Rattle.client_codec.specs.declared.replies.reader.ReplyFault.{ReplyFault}
+use Rattle.client_codec.specs.declared.replies.reader.ReplyFault.TheVariants as reply_fault
 
 -- the call's answer is the reply that the line is, or that it is none, unless memory ran out
 abbrev pub IsReply : Result Reply ReplyFault → Option Reply → Type 0

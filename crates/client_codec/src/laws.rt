@@ -11,13 +11,13 @@ ghost use Rattle.farm_lines.specs.Request.{request_of};
 ghost use Rattle.farm_lines.specs.RequestText.{request_text};
 
 /// A request within its forms and limits is read from its own text as the same request.
-#[tactic(auto, using(crate::proofs::AskedBack::request_back))]
+#[tactic(auto, using(crate::proofs::AskedLemmas::AskedBack::request_back))]
 pub fn requests_are_read_back()
     ensures { (asked : Request) → IsFormedRequest asked → request_of (request_text asked) ≡ Ok asked }
 {}
 
 /// A reply within its forms and limits is read from its own text as the same reply.
-#[tactic(auto, using(crate::proofs::RepliesBack::reply_back))]
+#[tactic(auto, using(crate::proofs::RepliedLemmas::RepliesBack::reply_back))]
 pub fn replies_are_read_back()
     ensures { (r : Reply) → IsFormedReply r → reply_of (reply_text r) ≡ Some r }
 {}

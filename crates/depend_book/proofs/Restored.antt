@@ -7,7 +7,7 @@ use Rattle.farm_types.specs.declared.limits.TheConstants.{LAST_DEPEND}
 use Rattle.farm_types.specs.Rising.{IsRising, depend_key}
 use Rattle.depend_graph.specs.Graph.{CanAdd as GraphCanAdd, watched}
 use Rattle.depend_graph.specs.Marked.{marked_watch}
-use Rattle.depend_graph.proofs.AddedDepend.{watches_marked}
+use Rattle.depend_graph.proofs.ComingLemmas.AddedDepend.{watches_marked}
 use Rattle.depend_book.specs.Book.{DependLists, IsBook, watch_number}
 use Rattle.depend_book.specs.Restored.{CanRestore, skipped, with_restored}
 use Rattle.depend_book.proofs.Added.{left_more, new_number, rising_more, rows_more}

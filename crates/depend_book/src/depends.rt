@@ -9,7 +9,7 @@ ghost use Rattle.depend_graph.specs.Graph.{without_depend};
 ghost use Rattle.depend_book.specs.Book.{IsBook, mark_of, marks_of, next_in, no_depends, row_in};
 
 use crate::row_list::RowList;
-use depend_graph::{Graph, Marks, Opened};
+use depend_graph::{Completion, Graph, Opened};
 use farm_types::{DependNo, DependRow, Group, Items, MetRow, Slot};
 use std::alloc::{AllocError, Global};
 use std::marker::Model;
@@ -104,22 +104,15 @@ impl Depends {
         self.graph.is_met_at_once(group)
     }
 
-    /// The frames that would open if these were done, by slot, in order. No slot stands twice among them, and none is done.
-    pub fn would_open(&self, alloc: Global, done: &[Slot]) -> Result<Items<Slot>, AllocError>
+    /// What would come of these frames, were they done: which frames would open, and what would be met. No slot stands twice among them, and none is done.
+    /// Nothing changes.
+    pub fn would_complete(&self, alloc: Global, done: &[Slot]) -> Result<Completion, AllocError>
         requires differ { IsDistinct nat_eq done.now }
         requires undone { All (λ slot. is_flagged self.now.graph.done slot ≡ false) done.now }
-        ensures { IfOk result (λ slots. slots ≡ opened_between self.now.graph.depends (with_all_done self.now.graph done.now).depends) }
+        ensures opened { IfOk result (λ c. c.opened ≡ opened_between self.now.graph.depends (with_all_done self.now.graph done.now).depends) }
+        ensures marks { IfOk result (λ c. HasMet self.now.graph.depends (with_all_done self.now.graph done.now).depends c.marks) }
     {
-        self.graph.would_open(alloc, done)
-    }
-
-    /// What would be met if these frames were done. Nothing changes.
-    pub fn would_meet(&self, alloc: Global, done: &[Slot]) -> Result<Marks, AllocError>
-        requires differ { IsDistinct nat_eq done.now }
-        requires undone { All (λ slot. is_flagged self.now.graph.done slot ≡ false) done.now }
-        ensures { IfOk result (λ marks. HasMet self.now.graph.depends (with_all_done self.now.graph done.now).depends marks) }
-    {
-        self.graph.would_meet(alloc, done)
+        self.graph.would_complete(alloc, done)
     }
 
     /// The marks that the depend's groups have once they are met, in order, whether they are met yet or not, and none where the depend isn't there.

@@ -7,7 +7,7 @@ use Rattle.depend_graph.specs.Graph.{OpenedLists}
 use Rattle.depend_graph.specs.Inside.{KeepsTally}
 use Rattle.depend_graph.specs.Kept.{KeepsFlow}
 use Rattle.depend_graph.specs.declared.tally.Tally.{Tally}
-use Rattle.depend_graph.proofs.Finished.{depends_kept}
+use Rattle.depend_graph.proofs.ProgressLemmas.Finished.{depends_kept}
 
 pub tally_kept : (old new : Tally) (opened : OpenedLists) → KeepsTally old → KeepsFlow old.depends.items (flow_in new opened) → vec_capacity new.depends ≡ vec_capacity old.depends → KeepsTally new
 tally_kept old new opened before kept room =

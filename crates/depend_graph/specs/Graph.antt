@@ -7,7 +7,7 @@ use Rattle.farm_types.specs.Depends.{are_done, waits_in}
 use Rattle.farm_types.specs.Farm.{for_some}
 use Rattle.farm_types.specs.declared.limits.TheConstants.{MOST_DEPENDS, MOST_GROUPS, SLOT_LIMIT}
 pub use Rattle.depend_edges.specs.Groups.{IsGroup, is_below}
-use Rattle.depend_graph.specs.declared.marks.Marks.{Marks}
+use Rattle.depend_graph.specs.declared.trials.marks.Marks.{Marks}
 
 -- a group, and whether it is met
 pub record Watched : Type 0 where
@@ -160,6 +160,9 @@ was_met (old ∷ olds) (new ∷ news) depend position =
 
 abbrev pub is_mark : ℕ → ℕ → MetRow → Bool
 is_mark depend position m = m.depend == depend && m.position == position
+
+abbrev pub no_marks : Marks
+no_marks = record { met = []; satisfied = [] }
 
 -- exactly the groups that became met, and exactly the depends that became satisfied
 pub record HasMet (olds news : List Watch) (marks : Marks) : Type 0 where

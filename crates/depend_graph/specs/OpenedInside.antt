@@ -3,7 +3,7 @@ use Rattle.std.specs.Prelude.{◌≤◌}
 use Rattle.std.specs.Vec.{vec_capacity}
 use Rattle.farm_types.specs.declared.limits.TheConstants.{MOST_DEPENDS, SLOT_LIMIT}
 use Rattle.depend_graph.specs.Graph.{OpenedLists}
-use Rattle.depend_graph.specs.declared.opened.Opened.TheInside.{Inside}
+use Rattle.depend_graph.specs.declared.progress.opened.Opened.TheInside.{Inside}
 
 abbrev pub opened_in : Inside → OpenedLists
 opened_in a = record { slots = a.slots.items; satisfied = a.satisfied.items }

@@ -2,7 +2,7 @@
 use Rattle.std.specs.Prelude.{◌<◌, ◌^◌, length, map}
 use Rattle.depend_edges.specs.Listed.{aim_of}
 use Rattle.depend_graph.specs.Spare.{SpareLists}
-use Rattle.depend_graph.specs.declared.spare.GraphSpare.TheInside.{Inside}
+use Rattle.depend_graph.specs.declared.coming.spare.GraphSpare.TheInside.{Inside}
 
 abbrev pub spare_in : Inside → SpareLists
 spare_in a = record { groups = length a.counts.items; aims = map aim_of a.edges.items }

@@ -15,6 +15,7 @@ use Rattle.depend_graph.specs.Inside.{KeepsDepends, KeepsSums, watches}
 use Rattle.depend_graph.specs.Kept.{still_of}
 use Rattle.depend_graph.specs.Passing.{IsPassing}
 use Rattle.depend_graph.specs.Watches.{AllCounted, mark_for}
+use Rattle.depend_graph.specs.declared.trials.marks.Marks.{Marks}
 
 -- ---- counts that are laid over others
 
@@ -75,6 +76,9 @@ pub record MetLists : Type 0 where
 
 abbrev pub nothing_met : MetLists
 nothing_met = record { left = nothing_laid; met = []; satisfied = [] }
+
+abbrev pub marks_told : MetLists → Marks
+marks_told m = record { met = m.met; satisfied = m.satisfied }
 
 -- a group of the depend at a place is met too
 pub record IsMet (place : ℕ) (d : ListedLists) (g : Group) (old new : MetLists) : Type 0 where

@@ -7,8 +7,8 @@ ghost use Rattle.depend_graph.specs.Graph.{groups_left, is_flagged, no_graph, un
 ghost use Rattle.depend_graph.specs.Inside.{KeepsTally};
 ghost use Rattle.farm_types.specs.declared.limits.TheConstants.{MOST_GROUPS, SLOT_LIMIT};
 
-use crate::opens::unmet_at;
 use crate::tally::Tally;
+use crate::trials::opens::unmet_at;
 use depend_edges::EdgeAt;
 use farm_types::{Group, MOST_DEPENDS, SLOT_LIMIT, Slot};
 use std::alloc::{AllocError, Global};

@@ -1,33 +1,17 @@
 //! Which groups of depends are met, and how many unmet ones each frame waits in.
 #![tactic(auto)]
 
-mod adding;
-mod changing;
-mod completing;
+mod coming;
 mod copying;
-mod counting;
-mod dropping;
-mod flow;
-mod forgetting;
+mod going;
 mod graph;
 mod group_marks;
-mod marking;
-mod marks;
-mod meeting;
-mod opened;
-mod opening;
-mod opens;
-mod over;
-mod releasing;
-mod reopening;
-mod reserving;
-mod room;
-mod spare;
+mod progress;
 mod tally;
-mod trial;
-mod trying;
+mod trials;
 
+pub use coming::spare::GraphSpare;
 pub use graph::Graph;
-pub use marks::Marks;
-pub use opened::Opened;
-pub use spare::GraphSpare;
+pub use progress::opened::Opened;
+pub use trials::completion::Completion;
+pub use trials::marks::Marks;

@@ -16,7 +16,7 @@ use Rattle.farm_types.specs.Kept.{KeepsRows}
 use Rattle.farm_types.specs.Step.{lists_of}
 use Rattle.farm_types.proofs.Lists.{and_both, for_some_true}
 use Rattle.farm_books.specs.Reads.{rows_share_tag, takes_job, takes_layer}
-use Rattle.job_book.specs.declared.frame_view.FrameView.{FrameView}
+use Rattle.job_book.specs.declared.reading.frame_view.FrameView.{FrameView}
 use Rattle.job_book.specs.Book.{frame_at}
 use Rattle.job_book.specs.Index.{IsFirstWaiting}
 use Rattle.dispatch_law.proofs.InShow.{job_found}

@@ -13,7 +13,7 @@ use Rattle.farm_types.specs.Farm.{Farm, for_some, layer_at}
 use Rattle.farm_types.specs.Kept.{KeepsRows}
 use Rattle.farm_types.specs.Ranges.{range_numbers}
 use Rattle.farm_types.specs.Step.{lists_of}
-use Rattle.job_book.specs.declared.frame_view.FrameView.{FrameView}
+use Rattle.job_book.specs.declared.reading.frame_view.FrameView.{FrameView}
 use Rattle.job_book.specs.Book.{frame_at, frame_view, has_frame}
 use Rattle.job_book.specs.Index.{IsFirstWaiting, waits_in}
 use Rattle.dispatch_law.specs.ByIndex.{ranks_at}

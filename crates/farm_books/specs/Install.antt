@@ -11,7 +11,7 @@ use Rattle.farm_types.specs.Step.{lists_of}
 use Rattle.farm_types.specs.Sums.{cores_in}
 use Rattle.farm_types.specs.declared.limits.TheConstants.{MOST_HOSTS}
 use Rattle.job_book.specs.Book.{KeepsFrame, placing_of}
-use Rattle.job_book.specs.declared.placing.Placing.{Placing}
+use Rattle.job_book.specs.declared.placement.placing.Placing.{Placing}
 use Rattle.sub_ledger.specs.Ledger.{IsWithin}
 
 -- ---- slots

@@ -11,8 +11,9 @@ use Rattle.farm_types.specs.Farm.{Farm}
 use Rattle.farm_types.specs.Jobs.{fresh_slot, is_free, place_frames, slot_with}
 use Rattle.job_book.specs.Book.{IsSameFrame, KeepsFrame}
 use Rattle.job_book.specs.Lowest.{lowest_free, places_from, slot_for}
-use Rattle.job_book.proofs.FreeSlots.{get_mid}
+use Rattle.job_book.proofs.PlacementLemmas.FreeSlots.{get_mid}
 use Rattle.farm_draft.specs.Rows.{AreInstallable, put_slots}
+use Rattle.farm_draft.specs.declared.slot_change.SlotChange.{SlotChange}
 use Rattle.farm_rows.specs.declared.farm_row.FarmRow.{FarmRow}
 use Rattle.farm_rows.specs.declared.farm_row.FarmRow.TheVariants as row
 use Rattle.farm_rows.specs.declared.row_key.RowKey.{RowKey}
@@ -114,13 +115,13 @@ module _ (r : SlotRow) where
       ap (λ (ns : List ℕ). cond (is_free s) (p ∷ ns) (lowest_free (p + 1) (slice_set ss i r) (suc n))) (lowest_free-set (p + 1) ss i n keeps)
       ∙ ap (cond (is_free s) (p ∷ lowest_free (p + 1) ss n)) (lowest_free-set (p + 1) ss i (suc n) keeps)
 
-pub frames_put-slots : (subs : List SubRow) (slots : List SlotRow) (es : List (ℕ × SlotRow)) (xs : List Frame) → AreInstallable subs slots es → frames_put 0 (put_slots slots es) xs ≡ frames_put 0 slots xs
+pub frames_put-slots : (subs : List SubRow) (slots : List SlotRow) (cs : List SlotChange) (xs : List Frame) → AreInstallable subs slots cs → frames_put 0 (put_slots slots cs) xs ≡ frames_put 0 slots xs
 frames_put-slots subs slots [] xs ready = refl
-frames_put-slots subs slots (e ∷ es) xs ready = frames_put-slots subs (slice_set slots e.0 e.1) es xs ready.1 ∙ frames_put-set e.1 0 slots e.0 xs ready.0.keeps
+frames_put-slots subs slots (c ∷ cs) xs ready = frames_put-slots subs (slice_set slots c.slot c.row) cs xs ready.1 ∙ frames_put-set c.row 0 slots c.slot xs ready.0.keeps
 
-pub lowest_free-slots : (subs : List SubRow) (slots : List SlotRow) (es : List (ℕ × SlotRow)) (n : ℕ) → AreInstallable subs slots es → lowest_free 0 (put_slots slots es) n ≡ lowest_free 0 slots n
+pub lowest_free-slots : (subs : List SubRow) (slots : List SlotRow) (cs : List SlotChange) (n : ℕ) → AreInstallable subs slots cs → lowest_free 0 (put_slots slots cs) n ≡ lowest_free 0 slots n
 lowest_free-slots subs slots [] n ready = refl
-lowest_free-slots subs slots (e ∷ es) n ready = lowest_free-slots subs (slice_set slots e.0 e.1) es n ready.1 ∙ lowest_free-set e.1 0 slots e.0 n ready.0.keeps
+lowest_free-slots subs slots (c ∷ cs) n ready = lowest_free-slots subs (slice_set slots c.slot c.row) cs n ready.1 ∙ lowest_free-set c.row 0 slots c.slot n ready.0.keeps
 
 -- ---- frames in the lowest free slots
 

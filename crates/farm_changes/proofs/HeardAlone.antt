@@ -7,7 +7,6 @@ use Rattle.std.proofs.lemmas.Option.{none-some, same_Some, slice_get_within}
 use Rattle.farm_types.specs.declared.attempt.DoneItem.{DoneItem}
 use Rattle.farm_types.specs.declared.entry.HeardAct.{HeardAct}
 use Rattle.farm_types.specs.declared.rows.HostRow.{HostRow}
-use Rattle.farm_types.specs.declared.slot_row.SlotRow.{SlotRow}
 use Rattle.farm_types.specs.declared.states.HostState.TheVariants as host_state
 use Rattle.farm_types.specs.Farm.{Farm, changed_at, changed_by}
 use Rattle.farm_types.specs.Hosts.{count_unheard, heard_row}
@@ -16,7 +15,8 @@ use Rattle.farm_types.proofs.ChangedLists.{changed_at_alike}
 use Rattle.farm_types.proofs.Passes.{option_map-from}
 use Rattle.host_book.specs.Life.{life_of, with_life}
 use Rattle.host_book.specs.declared.life.HostLife.{HostLife}
-use Rattle.farm_draft.specs.Rows.{AreInstallable, AreReady, installed, put_lives, put_slots, slot_of}
+use Rattle.farm_draft.specs.Rows.{AreInstallable, AreReady, Stood, installed, put_lives, put_slots, slot_of}
+use Rattle.farm_draft.specs.declared.slot_change.SlotChange.{SlotChange}
 use Rattle.farm_draft.specs.declared.rows.Rows.{Rows}
 use Rattle.farm_draft.proofs.Expired.{expire_none}
 use Rattle.farm_changes.specs.RowsOf.{heard_farm}
@@ -47,7 +47,7 @@ both_ok (Err e) P Q R from p q = tt
 lives_installed : (g : Farm) (rows : Rows) (lives : List (ℕ × HostLife)) → rows.hosts.items ≡ lives → rows.slots.items ≡ [] → installed g rows ≡ record g { hosts = put_lives g.hosts lives }
 lives_installed g rows lives hosts slots =
     ap (λ (es : List (ℕ × HostLife)). record g { hosts = put_lives g.hosts es; slots = put_slots g.slots rows.slots.items }) hosts
-    ∙ ap (λ (es : List (ℕ × SlotRow)). record g { hosts = put_lives g.hosts lives; slots = put_slots g.slots es }) slots
+    ∙ ap (λ (es : List SlotChange). record g { hosts = put_lives g.hosts lives; slots = put_slots g.slots es }) slots
 
 -- the life of a host that was heard
 abbrev pub heard_of : ℕ → ℕ → HostLife → HostLife
@@ -90,6 +90,7 @@ module _ (f : Farm) (moment host seq : ℕ) (rows : Rows) where
         let there : host < length f.hosts = slice_get_within f.hosts host row.0 row.1 in
         record {
           hosts_there = subst (λ (es : List (ℕ × HostLife)). All IsHere es) (sym hosts) (All-cons IsHere (host, life) [] there (All-nil IsHere));
-          slots_ready = subst (λ (es : List (ℕ × SlotRow)). AreInstallable f.subs f.slots es) (sym slots) tt;
-          slots_differ = subst (λ (es : List (ℕ × SlotRow)). IsDistinct nat_eq (map slot_of es)) (sym slots) none_distinct;
+          slots_ready = subst (λ (es : List SlotChange). AreInstallable f.subs f.slots es) (sym slots) tt;
+          slots_stood = subst (All (Stood f.slots)) (sym slots) (All-nil (Stood f.slots));
+          slots_differ = subst (λ (es : List SlotChange). IsDistinct nat_eq (map slot_of es)) (sym slots) none_distinct;
         }

@@ -1,8 +1,8 @@
 -- Changes that make what entries make: in general, and those of subscriptions, boots and bookings.
 use Rattle.std.proofs.Common.{◌≡◌, ℕ, ◌<◌, ◌≤◌, max, true, false, List, [], ◌∷◌, length, Option, Some, None, map, nat_eq, refl, sym, ap, subst, ◌∙◌, arith}
 use Rattle.std.specs.Prelude.{Result, Ok, Err, All}
-use Rattle.std.specs.List.{IsDistinct}
-use Rattle.std.proofs.lemmas.List.Elements.{All-nil}
+use Rattle.std.specs.List.{IsDistinct, slice_get}
+use Rattle.std.proofs.lemmas.List.Elements.{All-cons, All-nil}
 use Rattle.farm_types.specs.declared.answer.Answer.TheVariants as answer
 use Rattle.farm_types.specs.declared.boot.BootLine.{BootLine}
 use Rattle.farm_types.specs.declared.entry.Act.{Act}
@@ -22,10 +22,12 @@ use Rattle.host_book.specs.declared.boots.BootPlan.{BootPlan}
 use Rattle.host_book.specs.declared.life.HostLife.{HostLife}
 use Rattle.farm_books.proofs.BookedRow.{booked_at_moment, booked_row_installs, booked_row_leaves}
 use Rattle.farm_books.specs.Bookings.{booked_at}
-use Rattle.farm_draft.specs.Rows.{AreInstallable, AreReady, installed, put_lives, put_slots, slot_of}
+use Rattle.farm_draft.specs.Rows.{AreInstallable, AreReady, Stood, installed, put_lives, put_slots, slot_of}
+use Rattle.farm_draft.specs.declared.slot_change.SlotChange.{SlotChange}
 use Rattle.farm_draft.specs.declared.rows.Rows.{Rows}
 use Rattle.farm_changes.specs.Change.{AnswersAct, FitsMore, HasHeard, Makes, Prepares, after_change, boot_in, with_more, with_rows}
 use Rattle.farm_changes.specs.RowsOf.{lives_ended}
+use Rattle.farm_changes.specs.declared.act_answer.ActAnswer.TheVariants as known
 use Rattle.farm_changes.specs.declared.change.Change.{Change}
 use Rattle.farm_changes.specs.declared.change.More.TheVariants as more
 use Rattle.farm_changes.specs.declared.change.Reserved.TheVariants as taken
@@ -79,7 +81,7 @@ pub record IsBare (rows : Rows) : Type 0 where
 pub bare_installed : (f : Farm) (rows : Rows) → IsBare rows → installed f rows ≡ f
 bare_installed f rows bare =
     ap (λ (es : List (ℕ × HostLife)). record f { hosts = put_lives f.hosts es; slots = put_slots f.slots rows.slots.items }) bare.hosts
-    ∙ ap (λ (es : List (ℕ × SlotRow)). record f { slots = put_slots f.slots es }) bare.slots
+    ∙ ap (λ (es : List SlotChange). record f { slots = put_slots f.slots es }) bare.slots
 
 pub none_distinct : IsDistinct nat_eq []
 unfolding IsDistinct
@@ -89,12 +91,17 @@ pub one_distinct : (slot : ℕ) → IsDistinct nat_eq (slot ∷ [])
 unfolding IsDistinct
 one_distinct slot = (tt, tt)
 
+-- of one change that is of the row that stands there
+pub one_stood : (slots : List SlotRow) (slot : ℕ) (was row : SlotRow) → slice_get slots slot ≡ Some was → All (Stood slots) (record { slot = slot; was = was; row = row } ∷ [])
+one_stood slots slot was row stood = All-cons (Stood slots) (record { slot = slot; was = was; row = row }) [] stood (All-nil (Stood slots))
+
 pub bare_ready : (f : Farm) (rows : Rows) → IsBare rows → AreReady f rows
 bare_ready f rows bare =
     record {
       hosts_there = subst (λ (es : List (ℕ × HostLife)). All (λ e. e.0 < length f.hosts) es) (sym bare.hosts) (All-nil _);
-      slots_ready = subst (λ (es : List (ℕ × SlotRow)). AreInstallable f.subs f.slots es) (sym bare.slots) tt;
-      slots_differ = subst (λ (es : List (ℕ × SlotRow)). IsDistinct nat_eq (map slot_of es)) (sym bare.slots) none_distinct;
+      slots_ready = subst (λ (es : List SlotChange). AreInstallable f.subs f.slots es) (sym bare.slots) tt;
+      slots_stood = subst (All (Stood f.slots)) (sym bare.slots) (All-nil (Stood f.slots));
+      slots_differ = subst (λ (es : List SlotChange). IsDistinct nat_eq (map slot_of es)) (sym bare.slots) none_distinct;
     }
 
 -- of a show and an allocation that are there the number is below the most
@@ -108,7 +115,7 @@ abbrev sub_change : ℕ → SubLine → ℕ → ℕ → Rows → Change
 sub_change moment line sub booked rows =
     record {
       moment = moment;
-      answer = answer.Sub booked line.burst line.size;
+      answer = known.Whole (answer.Sub booked line.burst line.size);
       heard = None;
       rows = rows;
       more = more.Sub sub line.size line.burst;
@@ -131,17 +138,17 @@ sub_makes f line moment show alloc sub booked rows change ahead show_is alloc_is
 
 abbrev boot_change : ℕ → BootLine → BootPlan → ℕ → Rows → Change
 boot_change moment line plan boot rows =
-    record { moment = moment; answer = answer.Boot boot line.nonce; heard = None; rows = rows; more = more.Boot plan line; reserved = false; memory = taken.None }
+    record { moment = moment; answer = known.Whole (answer.Boot boot line.nonce); heard = None; rows = rows; more = more.Boot plan line; reserved = false; memory = taken.None }
 
 pub boot_makes : (f : Farm) (line copy : BootLine) (moment alloc boot : ℕ) (plan : BootPlan) (rows : Rows) (change : Change) → f.moment ≤ moment → alloc_named f line.alloc ≡ Some alloc → plan_of f.hosts line alloc ≡ Ok plan
     → AreReady f rows → installed (at_moment f moment) rows ≡ lives_ended (expire (at_moment f moment) moment) line → boot ≡ boot_in plan → copy ≡ line
-    → change ≡ record { moment = moment; answer = answer.Boot boot line.nonce; heard = None; rows = rows; more = more.Boot plan copy; reserved = false; memory = taken.None }
+    → change ≡ record { moment = moment; answer = known.Whole (answer.Boot boot line.nonce); heard = None; rows = rows; more = more.Boot plan copy; reserved = false; memory = taken.None }
     → Makes f (record { moment = moment; act = act.Boot line }) change
 boot_makes f line copy moment alloc boot plan rows change ahead alloc_is plan_is ready installs boot_is same is =
     let p = planned f line alloc plan plan_is in
     let g = expire (at_moment f moment) moment in
     let whole : change ≡ boot_change moment line plan (boot_in plan) rows =
-    is ∙ (ap (λ (l : BootLine). record { moment = moment; answer = answer.Boot boot line.nonce; heard = None; rows = rows; more = more.Boot plan l; reserved = false; memory = taken.None }) same ∙ ap (λ (n : ℕ). boot_change moment line plan n rows) boot_is) in
+    is ∙ (ap (λ (l : BootLine). record { moment = moment; answer = known.Whole (answer.Boot boot line.nonce); heard = None; rows = rows; more = more.Boot plan l; reserved = false; memory = taken.None }) same ∙ ap (λ (n : ℕ). boot_change moment line plan n rows) boot_is) in
     let fits : plan_of (installed (at_moment f moment) rows).hosts line (alloc_of plan) ≡ Ok plan =
     ap (λ (h : Farm). plan_of h.hosts line (alloc_of plan)) installs ∙ (silenced_plan f.hosts moment line (alloc_of plan) ∙ (ap (λ (n : ℕ). plan_of f.hosts line n) p.alloc_is ∙ plan_is)) in
     subst (Makes f (record { moment = moment; act = act.Boot line })) (sym whole)
@@ -156,21 +163,22 @@ boot_refuses f line moment alloc NoMemory alloc_is h = tt
 -- ---- bookings
 
 abbrev book_change : ℕ → Rows → Change
-book_change moment rows = record { moment = moment; answer = answer.Booked; heard = None; rows = rows; more = more.Nothing; reserved = false; memory = taken.None }
+book_change moment rows = record { moment = moment; answer = known.Whole answer.Booked; heard = None; rows = rows; more = more.Nothing; reserved = false; memory = taken.None }
 
-pub book_makes : (f : Farm) (slot host moment : ℕ) (row : SlotRow) (rows : Rows) (change : Change) → KeepsRows f → f.moment ≤ moment → may_record f slot host ≡ true → booked_at f slot host moment ≡ Some row
-    → rows.hosts.items ≡ [] → rows.slots.items ≡ (slot, row) ∷ [] → change ≡ book_change moment rows → Makes f (record { moment = moment; act = act.Book slot host }) change
-book_makes f slot host moment row rows change kept ahead allowed booked hosts slots is =
+pub book_makes : (f : Farm) (slot host moment : ℕ) (was row : SlotRow) (rows : Rows) (change : Change) → KeepsRows f → f.moment ≤ moment → may_record f slot host ≡ true → slice_get f.slots slot ≡ Some was → booked_at f slot host moment ≡ Some row
+    → rows.hosts.items ≡ [] → rows.slots.items ≡ record { slot = slot; was = was; row = row } ∷ [] → change ≡ book_change moment rows → Makes f (record { moment = moment; act = act.Book slot host }) change
+book_makes f slot host moment was row rows change kept ahead allowed stood booked hosts slots is =
     let can = booked_row_installs f slot host moment row booked (waiting_free f slot host kept.sound allowed) kept.hosts.count in
     let ready : AreReady f rows = record {
       hosts_there = subst (λ (es : List (ℕ × HostLife)). All (λ e. e.0 < length f.hosts) es) (sym hosts) (All-nil _);
-      slots_ready = subst (λ (es : List (ℕ × SlotRow)). AreInstallable f.subs f.slots es) (sym slots) (can, tt);
-      slots_differ = subst (λ (es : List (ℕ × SlotRow)). IsDistinct nat_eq (map slot_of es)) (sym slots) (one_distinct slot);
+      slots_ready = subst (λ (es : List SlotChange). AreInstallable f.subs f.slots es) (sym slots) (can, tt);
+      slots_stood = subst (All (Stood f.slots)) (sym slots) (one_stood f.slots slot was row stood);
+      slots_differ = subst (λ (es : List SlotChange). IsDistinct nat_eq (map slot_of es)) (sym slots) (one_distinct slot);
     } in
     let g = at_moment f moment in
     let farm : installed g rows ≡ with_proc g slot (new_proc g slot host moment) =
     ap (λ (es : List (ℕ × HostLife)). record g { hosts = put_lives f.hosts es; slots = put_slots f.slots rows.slots.items }) hosts
-    ∙ (ap (λ (es : List (ℕ × SlotRow)). record g { slots = put_slots f.slots es }) slots
+    ∙ (ap (λ (es : List SlotChange). record g { slots = put_slots f.slots es }) slots
     ∙ booked_row_leaves g slot host moment row (booked_at_moment f slot host moment moment ∙ booked)) in
     subst (Makes f (record { moment = moment; act = act.Book slot host })) (sym is)
     (makes f moment (act.Book slot host) (book_change moment rows) ahead refl tt ready tt refl farm refl)

@@ -23,24 +23,26 @@ use Rattle.farm_types.proofs.Changed.{changed_at_is}
 use Rattle.host_book.specs.declared.life.HostLife.{HostLife}
 use Rattle.job_book.specs.Book.{IsSameFrame, KeepsFrame, has_frame}
 use Rattle.farm_books.specs.Install.{CanInstall, MayBegin}
-use Rattle.farm_draft.specs.Rows.{AreInstallable, AreReady, installed, put_lives, put_slots, slot_of}
+use Rattle.farm_draft.specs.Rows.{AreInstallable, AreReady, Stood, installed, put_lives, put_slots, slot_of}
+use Rattle.farm_draft.specs.declared.slot_change.SlotChange.{SlotChange}
 use Rattle.farm_types.specs.declared.fault.FarmFault.{FarmFault}
 use Rattle.farm_types.specs.declared.fault.FarmFault.TheVariants.{Refused, NoMemory}
 use Rattle.farm_types.specs.Faults.{Refuses}
 use Rattle.farm_places.specs.Frames.{FindsFrame}
 use Rattle.farm_changes.specs.Change.{AnswersAct, HasHeard, Makes, Prepares}
 use Rattle.farm_changes.specs.ChangedRow.{ChangesRow}
+use Rattle.farm_changes.specs.declared.act_answer.ActAnswer.TheVariants as known
 use Rattle.farm_changes.specs.declared.change.Change.{Change}
 use Rattle.farm_changes.specs.declared.change.More.TheVariants as more
 use Rattle.farm_changes.specs.declared.change.Reserved.TheVariants as taken
-use Rattle.farm_changes.proofs.MadeChanges.{makes, one_distinct}
+use Rattle.farm_changes.proofs.MadeChanges.{makes, one_distinct, one_stood}
 
 -- the act is refused as its place is, and then as the row in its slot is; it changes that row, whose frame stays and whose attempt ends
 pub record IsFrameAct (f : Farm) (moment : ℕ) (p : FramePlace) (a : Act) (refusal : Option SlotRow → Option Refusal) (become : SlotRow → SlotRow) : Type 0 where
   refused : act_refusal f a ≡ or_else (place_refusal f (place_of p)) (refusal (slot_row_named f p))
   farm : after_act (at_moment f moment) moment a ≡ with_frame (at_moment f moment) p become
   heard : HasHeard f a None
-  answers : AnswersAct f moment a (answer.Ended (count_at (slot_row_named f p)))
+  answers : AnswersAct f moment a (known.Whole (answer.Ended (count_at (slot_row_named f p))))
   keeps : (s : SlotRow) → is_some s.frame ≡ true → IsSameFrame s.frame (become s).frame
   ends : (s : SlotRow) → (become s).proc ≡ None
 
@@ -124,16 +126,17 @@ module _ (f : Farm) (moment : ℕ) (p : FramePlace) (a : Act) (refusal : Option 
         } in
         let ready : AreReady f rows = record {
           hosts_there = subst (λ (es : List (ℕ × HostLife)). All (λ e. e.0 < length f.hosts) es) (sym hosts) (All-nil _);
-          slots_ready = subst (λ (es : List (ℕ × SlotRow)). AreInstallable f.subs f.slots es) (sym slots) (can, tt);
-          slots_differ = subst (λ (es : List (ℕ × SlotRow)). IsDistinct nat_eq (map slot_of es)) (sym slots) (one_distinct slot);
+          slots_ready = subst (λ (es : List SlotChange). AreInstallable f.subs f.slots es) (sym slots) (can, tt);
+          slots_stood = subst (All (Stood f.slots)) (sym slots) (one_stood f.slots slot old (become old) changes.stands);
+          slots_differ = subst (λ (es : List SlotChange). IsDistinct nat_eq (map slot_of es)) (sym slots) (one_distinct slot);
         } in
         let g = at_moment f moment in
         let farm : installed g rows ≡ with_frame g p become =
         ap (λ (es : List (ℕ × HostLife)). record g { hosts = put_lives f.hosts es; slots = put_slots f.slots rows.slots.items }) hosts
-        ∙ (ap (λ (es : List (ℕ × SlotRow)). record g { slots = put_slots f.slots es }) slots
+        ∙ (ap (λ (es : List SlotChange). record g { slots = put_slots f.slots es }) slots
         ∙ (ap (λ (ss : List SlotRow). record g { slots = ss }) (sym (changed_at_is f.slots slot become old changes.stands))
         ∙ sym (ap (with_row_at g become) (later_slot f p moment ∙ named)))) in
         let count : count_at (slot_row_named f p) ≡ count_at (Some old) = ap count_at (row_is ∙ changes.stands) in
         subst (Makes f (record { moment = moment; act = a })) (sym changes.sets.is)
-        (makes f moment a (record { moment = moment; answer = answer.Ended (count_at (Some old)); heard = None; rows = rows; more = more.Nothing; reserved = false; memory = taken.None })
-        ahead (refusal_is ∙ allowed) is.heard ready tt refl (farm ∙ sym is.farm) (subst (λ (n : ℕ). AnswersAct f moment a (answer.Ended n)) count is.answers))
+        (makes f moment a (record { moment = moment; answer = known.Whole (answer.Ended (count_at (Some old))); heard = None; rows = rows; more = more.Nothing; reserved = false; memory = taken.None })
+        ahead (refusal_is ∙ allowed) is.heard ready tt refl (farm ∙ sym is.farm) (subst (λ (n : ℕ). AnswersAct f moment a (known.Whole (answer.Ended n))) count is.answers))

@@ -24,6 +24,7 @@ use Rattle.farm_types.specs.declared.fault.FarmFault.{FarmFault}
 use Rattle.farm_types.specs.declared.fault.FarmFault.TheVariants.{Refused, NoMemory}
 use Rattle.farm_types.specs.Faults.{IsRefusal}
 use Rattle.farm_changes.specs.Change.{Makes, Prepares, with_more}
+use Rattle.farm_changes.specs.declared.act_answer.ActAnswer.TheVariants as known
 use Rattle.farm_changes.specs.declared.change.Change.{Change}
 use Rattle.farm_changes.specs.declared.change.More.TheVariants as more
 use Rattle.farm_changes.specs.declared.change.Reserved.TheVariants as taken
@@ -87,7 +88,7 @@ job_refuses f moment a name b NoMemory lists refusal none is = tt
 -- ---- a job that is paused
 
 pub pause_makes : (f : Farm) (name : List ℕ) (paused : Bool) (moment job : ℕ) (rows : Rows) (change : Change) → f.moment ≤ moment → job_named f name ≡ Some job → IsBare rows
-    → change ≡ record { moment = moment; answer = answer.Paused; heard = None; rows = rows; more = more.Paused job paused; reserved = false; memory = taken.None }
+    → change ≡ record { moment = moment; answer = known.Whole answer.Paused; heard = None; rows = rows; more = more.Paused job paused; reserved = false; memory = taken.None }
     → Makes f (record { moment = moment; act = act.Pause name paused }) change
 pause_makes f name paused moment job rows change ahead named bare is =
     let g = at_moment f moment in
@@ -96,17 +97,17 @@ pause_makes f name paused moment job rows change ahead named bare is =
     ap (λ (h : Farm). with_more h moment (more.Paused job paused)) (bare_installed g rows bare)
     ∙ (ap (λ (n : ℕ). with_more g moment (more.Paused n paused)) (sym row.2) ∙ sym (ap (with_paused g paused) row.1)) in
     subst (Makes f (record { moment = moment; act = act.Pause name paused })) (sym is)
-    (makes f moment (act.Pause name paused) (record { moment = moment; answer = answer.Paused; heard = None; rows = rows; more = more.Paused job paused; reserved = false; memory = taken.None })
+    (makes f moment (act.Pause name paused) (record { moment = moment; answer = known.Whole answer.Paused; heard = None; rows = rows; more = more.Paused job paused; reserved = false; memory = taken.None })
     ahead (ap (job_there_refusal f name) row.1) tt (bare_ready f rows bare) tt refl farm refl)
 
 -- ---- a job that is killed
 
 abbrev kill_change : ℕ → ℕ → Rows → Change
-kill_change moment ended rows = record { moment = moment; answer = answer.Ended ended; heard = None; rows = rows; more = more.Nothing; reserved = false; memory = taken.None }
+kill_change moment ended rows = record { moment = moment; answer = known.Whole (answer.Ended ended); heard = None; rows = rows; more = more.Nothing; reserved = false; memory = taken.None }
 
 pub kill_makes : (f : Farm) (name : List ℕ) (moment job ended : ℕ) (rows : Rows) (change : Change) → KeepsRows f → f.moment ≤ moment → job_named f name ≡ Some job → ended ≡ count_in job frame_state.Running f.slots
     → installed (at_moment f moment) rows ≡ record (at_moment f moment) { slots = map (killed_row job) f.slots } → AreReady f rows
-    → change ≡ record { moment = moment; answer = answer.Ended ended; heard = None; rows = rows; more = more.Nothing; reserved = false; memory = taken.None }
+    → change ≡ record { moment = moment; answer = known.Whole (answer.Ended ended); heard = None; rows = rows; more = more.Nothing; reserved = false; memory = taken.None }
     → Makes f (record { moment = moment; act = act.KillJob name }) change
 kill_makes f name moment job ended rows change kept ahead named count installs ready is =
     let g = at_moment f moment in

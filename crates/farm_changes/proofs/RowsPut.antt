@@ -31,9 +31,10 @@ use Rattle.host_book.specs.declared.boots.BootPlan.TheVariants.{Again, Same}
 use Rattle.host_book.specs.declared.boots.HostRefusal.TheVariants.{BootsSpent, OtherAlloc}
 use Rattle.host_book.specs.declared.life.HostLife.{HostLife}
 use Rattle.job_book.specs.Book.{KeepsFrame, placing_of, with_pause, without_job}
-use Rattle.job_book.specs.declared.placing.Placing.{Placing}
+use Rattle.job_book.specs.declared.placement.placing.Placing.{Placing}
 use Rattle.farm_books.specs.Install.{IsPlacement}
 use Rattle.farm_draft.specs.Rows.{AreInstallable, put_lives, put_slots}
+use Rattle.farm_draft.specs.declared.slot_change.SlotChange.{SlotChange}
 use Rattle.farm_rows.specs.declared.farm_row.FarmRow.TheVariants as row
 use Rattle.farm_rows.specs.declared.row_change.RowChange.{RowChange}
 use Rattle.farm_rows.specs.declared.row_change.RowChange.TheVariants as change
@@ -89,12 +90,12 @@ there_is : (o : Option SlotRow) (r : SlotRow) → KeepsFrame o r → (s : SlotRo
 there_is None r keeps = absurd keeps
 there_is (Some s) r keeps = (s, refl)
 
-pub makes_slots : (es : List (ℕ × SlotRow)) (f : Farm) → AreInstallable f.subs f.slots es → MakesRows f (record f { slots = put_slots f.slots es }) (map slot_put es)
+pub makes_slots : (cs : List SlotChange) (f : Farm) → AreInstallable f.subs f.slots cs → MakesRows f (record f { slots = put_slots f.slots cs }) (map slot_put cs)
 makes_slots [] f ready = λ k named. refl
-makes_slots (e ∷ es) f ready =
-    let here = there_is (slice_get f.slots e.0) e.1 ready.0.keeps in
-    let changed = record f { slots = slice_set f.slots e.0 e.1 } in
-    makes_then f changed (record f { slots = put_slots (slice_set f.slots e.0 e.1) es }) (slot_put e ∷ []) (map slot_put es) (makes_slot f e.0 e.1 here.0 here.1) (makes_slots es changed ready.1)
+makes_slots (c ∷ cs) f ready =
+    let here = there_is (slice_get f.slots c.slot) c.row ready.0.keeps in
+    let changed = record f { slots = slice_set f.slots c.slot c.row } in
+    makes_then f changed (record f { slots = put_slots (slice_set f.slots c.slot c.row) cs }) (slot_put c ∷ []) (map slot_put cs) (makes_slot f c.slot c.row here.0 here.1) (makes_slots cs changed ready.1)
 
 -- ---- a host that boots
 

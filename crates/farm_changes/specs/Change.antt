@@ -1,7 +1,6 @@
 -- Changes that were prepared: what each does to the farm, and what it needs of it.
 use Rattle.std.specs.Prelude.{ℕ, ◌≡◌, ◌<◌, ◌++◌, ◌∷◌, [], Bool, true, false, map, length, Option, None, Some, Result, Ok, Err}
 use Rattle.alloc_tags.specs.Book.{check_of}
-use Rattle.farm_types.specs.declared.answer.Answer.{Answer}
 use Rattle.farm_types.specs.declared.entry.Entry.{Entry}
 use Rattle.farm_types.specs.declared.entry.Act.{Act}
 use Rattle.farm_types.specs.declared.entry.Act.TheVariants as act
@@ -19,6 +18,8 @@ use Rattle.host_book.specs.declared.boots.BootPlan.TheVariants as plan
 use Rattle.job_book.specs.Layers.{spare_of}
 use Rattle.farm_books.specs.Install.{IsPlacement}
 use Rattle.farm_draft.specs.Rows.{AreReady, installed}
+use Rattle.farm_changes.specs.declared.act_answer.ActAnswer.{ActAnswer}
+use Rattle.farm_changes.specs.declared.act_answer.ActAnswer.TheVariants as known
 use Rattle.farm_changes.specs.declared.change.Change.{Change}
 use Rattle.farm_changes.specs.declared.change.More.{More}
 use Rattle.farm_changes.specs.declared.change.More.TheVariants as more
@@ -97,14 +98,15 @@ HasHeard f (act.Heard heard) None = ⊥
 HasHeard f (act.Heard heard) (Some host) = host_named f heard.host ≡ Some host
 HasHeard f other told = Unit {0}
 
--- The answer to the act at the moment. Of a depend that is added or dropped nothing is said here: the layer above answers it.
-abbrev pub AnswersAct : Farm → ℕ → Act → Answer → Type 0
-AnswersAct f moment (act.AddDepend spec) said = Unit {0}
-AnswersAct f moment (act.DropDepend depend) said = Unit {0}
-AnswersAct f moment other said = said ≡ answer_at f moment other
+-- What is known of the answer to the act at the moment: all of it, or that a depend is added or dropped.
+abbrev pub AnswersAct : Farm → ℕ → Act → ActAnswer → Type 0
+AnswersAct f moment does (known.Whole said) = said ≡ answer_at f moment does
+AnswersAct f moment (act.AddDepend spec) known.DependAdded = Unit {0}
+AnswersAct f moment (act.DropDepend depend) known.DependDropped = Unit {0}
+AnswersAct f moment other said = ⊥
 
--- The farm doesn't refuse the entry's act. The change fits the farm, makes the farm that the act makes, has the act's answer, and tells
--- the host of a report. Its memory isn't taken yet.
+-- The farm doesn't refuse the entry's act. The change fits the farm, makes the farm that the act makes, has what is known of the act's
+-- answer, and tells the host of a report. Its memory isn't taken yet.
 pub record Makes (f : Farm) (e : Entry) (change : Change) : Type 0 where
   pub accepted : act_refusal f e.act ≡ None
   pub heard : HasHeard f e.act change.heard

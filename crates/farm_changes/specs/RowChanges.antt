@@ -19,7 +19,7 @@ use Rattle.host_book.specs.Book.{alloc_of}
 use Rattle.host_book.specs.Life.{with_life}
 use Rattle.host_book.specs.declared.life.HostLife.{HostLife}
 use Rattle.job_book.specs.Book.{placing_of, with_pause, without_job}
-use Rattle.job_book.specs.declared.placing.Placing.{Placing}
+use Rattle.job_book.specs.declared.placement.placing.Placing.{Placing}
 use Rattle.job_book.specs.Lowest.{slot_for}
 use Rattle.farm_rows.specs.declared.farm_row.FarmRow.TheVariants as row
 use Rattle.farm_rows.specs.declared.row_key.RowKey.TheVariants as key
@@ -27,6 +27,7 @@ use Rattle.farm_rows.specs.declared.row_change.RowChange.{RowChange}
 use Rattle.farm_rows.specs.declared.row_change.RowChange.TheVariants as change
 use Rattle.farm_rows.specs.Changes.{slot_change}
 use Rattle.farm_rows.specs.Rows.{frame_row}
+use Rattle.farm_draft.specs.declared.slot_change.SlotChange.{SlotChange}
 use Rattle.farm_changes.specs.declared.change.Change.{Change}
 use Rattle.farm_changes.specs.declared.change.More.{More}
 use Rattle.farm_changes.specs.declared.change.More.TheVariants as more
@@ -42,8 +43,8 @@ abbrev pub lives_put : List HostRow → List (ℕ × HostLife) → List RowChang
 lives_put hosts [] = []
 lives_put hosts (e ∷ es) = life_put e (slice_get hosts e.0) ++ lives_put hosts es
 
-abbrev pub slot_put : ℕ × SlotRow → RowChange
-slot_put e = slot_change e.0 e.1
+abbrev pub slot_put : SlotChange → RowChange
+slot_put c = slot_change c.slot c.row
 
 -- the last of the lives that are told of that host
 abbrev pub last_life : ℕ → List (ℕ × HostLife) → Option HostLife → Option HostLife

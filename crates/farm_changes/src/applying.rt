@@ -17,7 +17,7 @@ ghost use Rattle.farm_changes.specs.Change.{FitsMore, IsReady, IsReserved, after
 use crate::change::{Change, More, Reserved};
 use farm_books::Books;
 use farm_draft::Rows;
-use farm_types::{Answer, BootLine, HostNo, JobSpec, Slot, Text};
+use farm_types::{BootLine, HostNo, JobSpec, Text};
 use host_book::BootPlan;
 use job_book::Placing;
 use std::alloc::{AllocError, Global};
@@ -51,20 +51,17 @@ fn memory_for(books: &mut Books, alloc: Global, more: &More) -> Result<Reserved,
 }
 
 /// Applies a change that fits the books and whose memory was taken. It takes no memory.
-pub fn apply(books: &mut Books, change: Change) -> Answer
+pub fn apply(books: &mut Books, change: Change)
     requires ready { IsReady books.old.farm change }
     requires reserved { IsReserved change }
     ensures farm { books.new ≡ with_farm books.old (after_change books.old.farm change) }
-    ensures answer { result ≡ change.answer }
     ensures hosts { length books.old.farm.hosts ≤ length books.new.farm.hosts }
 {
-    let answer = change.answer;
     let moment = change.moment;
     books.advance_to(moment);
     install_rows(books, change.rows);
     install_more(books, moment, change.more, change.memory);
     books.watch(moment);
-    answer
 }
 
 /// Takes the memory that the change needs, and applies it. At an `Err`, where memory ran out, the books are as before.
@@ -93,7 +90,7 @@ fn install_rows(books: &mut Books, rows: Rows)
         books.install_life(HostNo(entry.0 as u16), entry.1);
     }
     for entry in &rows.slots {
-        books.install_slot(Slot(entry.0), &entry.1);
+        books.install_slot(entry.slot, &entry.row);
     }
 }
 

@@ -3,18 +3,19 @@
 ghost use Rattle.std.specs.Prelude.{◌≡◌};
 ghost use Rattle.farm_changes.specs.Change.{adds_job};
 
+use crate::act_answer::ActAnswer;
 use alloc_tags::Spare;
-use farm_draft::Rows;
-use farm_types::{Answer, BootLine, Cores, HostNo, JobNo, JobSpec, SlotRow, SubNo, Text};
+use farm_draft::{Rows, SlotChange};
+use farm_types::{BootLine, Cores, HostNo, JobNo, JobSpec, SubNo, Text};
 use host_book::{BootPlan, HostSpare};
 use job_book::{JobSpare, Placing};
 
-/// A change that was prepared for an entry, at its moment (seconds): the rows that it leaves, what the farm answers once it is applied, and the host
-/// that a report is of. It is applied once its memory is reserved.
+/// A change that was prepared for an entry, at its moment (seconds): the rows that it leaves, what is known of the farm's answer, and the host that a
+/// report is of. It is applied once its memory is reserved.
 #[derive(Debug, Drop)]
 pub struct Change {
     pub(crate) moment: u64,
-    pub(crate) answer: Answer,
+    pub(crate) answer: ActAnswer,
     pub(crate) heard: Option<HostNo>,
     pub(crate) rows: Rows,
     pub(crate) more: More,
@@ -69,8 +70,8 @@ pub(crate) enum Reserved {
 }
 
 impl Change {
-    /// What the farm answers once the change is applied.
-    pub fn answer(&self) -> Answer
+    /// What is known of the farm's answer once the change is applied.
+    pub fn answer(&self) -> ActAnswer
         ensures { result ≡ self.now.answer }
     {
         self.answer
@@ -97,15 +98,8 @@ impl Change {
         self.heard
     }
 
-    /// Another answer is given once the change is applied.
-    pub fn set_answer(&mut self, answer: Answer)
-        ensures { self.new ≡ record self.old { answer = answer } }
-    {
-        self.answer = answer;
-    }
-
-    /// The slots that the change sets, in the order in which they are set, each with the row that it gets.
-    pub fn slot_rows(&self) -> &[(u32, SlotRow)]
+    /// The slots that the change sets, in the order in which they are set, each with the row that stands there and the one that it gets.
+    pub fn slot_rows(&self) -> &[SlotChange]
         ensures { result.now ≡ self.now.rows.slots.items }
     {
         self.rows.slots.as_slice()

@@ -1,14 +1,15 @@
-//! Prepares that a depend is added or dropped. No row of the books changes: the layer above has the depends, and gives the answer.
+//! Prepares that a depend is added or dropped. No row of the books changes: the layer above has the depends, and the numbers of the answer.
 
 ghost use Rattle.std.specs.Prelude.{◌≤◌};
 ghost use Rattle.farm_types.specs.declared.entry.Act.TheVariants as act;
 ghost use Rattle.farm_changes.specs.Change.{Prepares};
 
+use crate::act_answer::ActAnswer;
 use crate::change::{Change, More};
-use crate::preparing::change_of;
+use crate::preparing::change_with;
 use farm_books::Books;
 use farm_draft::Rows;
-use farm_types::{Answer, DependNo, DependSpec, FarmFault};
+use farm_types::{DependNo, DependSpec, FarmFault};
 use std::alloc::Global;
 
 /// Prepares that a depend is added.
@@ -23,11 +24,12 @@ pub(crate) fn prepare_added(
 {
     let _books = books;
     let _spec = spec;
-    let answer = Answer::DependAdded {
-        depend: DependNo(0),
-        unmet: 0,
-    };
-    Ok(change_of(moment, answer, Rows::none(alloc), More::Nothing))
+    Ok(change_with(
+        moment,
+        ActAnswer::DependAdded,
+        Rows::none(alloc),
+        More::Nothing,
+    ))
 }
 
 /// Prepares that a depend is dropped.
@@ -42,6 +44,10 @@ pub(crate) fn prepare_dropped(
 {
     let _books = books;
     let _depend = depend;
-    let answer = Answer::DependDropped { opened: 0 };
-    Ok(change_of(moment, answer, Rows::none(alloc), More::Nothing))
+    Ok(change_with(
+        moment,
+        ActAnswer::DependDropped,
+        Rows::none(alloc),
+        More::Nothing,
+    ))
 }

@@ -12,6 +12,7 @@ ghost use Rattle.farm_types.specs.declared.refusal.Refusal.TheVariants.{Exists};
 ghost use Rattle.farm_changes.specs.Change.{Prepares, boot_in};
 ghost use Rattle.farm_changes.specs.Refused.{IsBootFault};
 ghost use Rattle.farm_changes.specs.SilentCounts.{is_silent_one};
+ghost use Rattle.farm_changes.specs.declared.act_answer.ActAnswer.TheVariants as known;
 ghost use Rattle.farm_changes.specs.declared.change.More.TheVariants as more;
 ghost use Rattle.farm_changes.specs.declared.change.Reserved.TheVariants as taken;
 
@@ -121,7 +122,15 @@ pub(crate) fn prepare_heard(
 // The change of a host's report, which leaves those rows.
 fn report_change(moment: u64, host: HostNo, rows: Rows) -> Change
     ensures { result
-        ≡ record { moment = moment; answer = answer.Heard; heard = Some host; rows = rows; more = more.Nothing; reserved = false; memory = taken.None } }
+        ≡ record {
+          moment = moment;
+          answer = known.Whole answer.Heard;
+          heard = Some host;
+          rows = rows;
+          more = more.Nothing;
+          reserved = false;
+          memory = taken.None;
+        } }
 {
     let mut change = change_of(moment, Answer::Heard, rows, More::Nothing);
     change.heard = Some(host);

@@ -13,7 +13,7 @@ use crate::change::{Change, More};
 use crate::prepare_slots::one_slot;
 use crate::preparing::change_of;
 use farm_books::Books;
-use farm_draft::{retried_row, stopped_row};
+use farm_draft::{SlotChange, retried_row, stopped_row};
 use farm_places::{check_eat, check_kill, check_retry, find_frame};
 use farm_types::{Answer, FarmFault, FramePlace, FrameState, Slot, SlotRow};
 use std::alloc::{AllocError, Global};
@@ -80,7 +80,16 @@ fn stop(
     let Some(row) = books.slot(slot) else {
         unreachable!()
     };
-    row_change(alloc, moment, slot, &row, stopped_row(&row, state))
+    let stopped = stopped_row(&row, state);
+    row_change(
+        alloc,
+        moment,
+        SlotChange {
+            slot,
+            was: row,
+            row: stopped,
+        },
+    )
 }
 
 // The change in which the slot's attempt ends, and its frame waits as at first.
@@ -91,21 +100,24 @@ fn retry(alloc: Global, books: &Books, moment: u64, slot: Slot) -> Result<Change
     let Some(row) = books.slot(slot) else {
         unreachable!()
     };
-    row_change(alloc, moment, slot, &row, retried_row(&row))
+    let retried = retried_row(&row);
+    row_change(
+        alloc,
+        moment,
+        SlotChange {
+            slot,
+            was: row,
+            row: retried,
+        },
+    )
 }
 
-// The change in which the slot has that row in place of the old one, whose attempt ends.
-fn row_change(
-    alloc: Global,
-    moment: u64,
-    slot: Slot,
-    old: &SlotRow,
-    row: SlotRow,
-) -> Result<Change, AllocError>
-    ensures { IfOk result (SetsRow moment slot (count_at (Some old.now)) row) }
+// The change in which the slot gets another row, whose attempt ends.
+fn row_change(alloc: Global, moment: u64, change: SlotChange) -> Result<Change, AllocError>
+    ensures { IfOk result (SetsRow moment change.slot (count_at (Some change.was)) change.was change.row) }
 {
-    let rows = one_slot(alloc, slot, row)?;
-    let ended = count_in(old);
+    let ended = count_in(&change.was);
+    let rows = one_slot(alloc, change)?;
     Ok(change_of(moment, Answer::Ended { ended }, rows, More::Nothing))
 }
 

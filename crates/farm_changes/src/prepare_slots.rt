@@ -9,8 +9,8 @@ ghost use Rattle.farm_changes.specs.Change.{Prepares};
 use crate::change::{Change, More};
 use crate::preparing::change_of;
 use farm_books::Books;
-use farm_draft::Rows;
-use farm_types::{Answer, FarmFault, HostNo, Slot, SlotRow};
+use farm_draft::{Rows, SlotChange};
+use farm_types::{Answer, FarmFault, HostNo, Slot};
 use std::alloc::{AllocError, Global};
 
 /// Prepares a booking that may be recorded.
@@ -29,16 +29,21 @@ pub(crate) fn prepare_book(
     let Some(row) = books.booked_at(slot, host, moment) else {
         unreachable!()
     };
-    let rows = one_slot(alloc, slot, row)?;
+    let Some(was) = books.slot(slot) else {
+        unreachable!()
+    };
+    let rows = one_slot(alloc, SlotChange { slot, was, row })?;
     Ok(change_of(moment, Answer::Booked, rows, More::Nothing))
 }
 
-/// The row of one slot.
-pub(crate) fn one_slot(alloc: Global, slot: Slot, row: SlotRow) -> Result<Rows, AllocError>
+/// The change of one slot.
+pub(crate) fn one_slot(alloc: Global, change: SlotChange) -> Result<Rows, AllocError>
     ensures hosts { IfOk result (λ rows. rows.hosts.items ≡ []) }
-    ensures slots { IfOk result (λ rows. rows.slots.items ≡ (slot, row) ∷ []) }
+    ensures slots { IfOk result (λ rows. rows.slots.items ≡ change ∷ []) }
 {
+    // In its parts, since the check of the push asks for their types.
+    let SlotChange { slot, was, row } = change;
     let mut rows = Rows::none(alloc);
-    rows.slots.push((slot.0, row))?;
+    rows.slots.push(SlotChange { slot, was, row })?;
     Ok(rows)
 }

@@ -7,10 +7,12 @@ ghost use Rattle.farm_types.specs.Formed.{IsFormed};
 ghost use Rattle.farm_types.specs.Kept.{KeepsRows};
 ghost use Rattle.farm_types.specs.Step.{HasCondition};
 ghost use Rattle.farm_types.specs.declared.entry.Act.TheVariants as act;
+ghost use Rattle.farm_changes.specs.declared.act_answer.ActAnswer.TheVariants as known;
 ghost use Rattle.farm_changes.specs.declared.change.Reserved.TheVariants as taken;
 ghost use Rattle.farm_books.specs.Books.{IsWhole};
 ghost use Rattle.farm_changes.specs.Change.{Prepares};
 
+use crate::act_answer::ActAnswer;
 use crate::change::{Change, More, Reserved};
 use crate::prepare_depend::{prepare_added, prepare_dropped};
 use crate::prepare_host::{
@@ -58,8 +60,16 @@ pub fn prepare(alloc: Global, books: &Books, entry: &Entry) -> Result<Change, Fa
     }
 }
 
-/// A change of those rows, at the moment, which is of no report. Its memory isn't taken yet.
+/// A change of those rows, at the moment, with the whole answer, which is of no report. Its memory isn't taken yet.
 pub(crate) fn change_of(moment: u64, answer: Answer, rows: Rows, more: More) -> Change
+    ensures { result
+        ≡ record { moment = moment; answer = known.Whole answer; heard = None; rows = rows; more = more; reserved = false; memory = taken.None } }
+{
+    change_with(moment, ActAnswer::Whole(answer), rows, more)
+}
+
+/// The same with what is known of the answer.
+pub(crate) fn change_with(moment: u64, answer: ActAnswer, rows: Rows, more: More) -> Change
     ensures { result ≡ record { moment = moment; answer = answer; heard = None; rows = rows; more = more; reserved = false; memory = taken.None } }
 {
     Change {

@@ -15,10 +15,10 @@ use crate::change::{Change, More};
 use crate::row_boot::put_boot;
 use crate::row_job::put_job;
 use farm_books::Books;
+use farm_draft::SlotChange;
 use farm_rows::{FarmRow, RowChange};
 use farm_types::{
-    AllocRow, Cores, HostNo, HostRow, JobNo, JobSpec, ShowNo, ShowRow, Slot, SlotRow, SubNo,
-    SubRow, Text,
+    AllocRow, Cores, HostNo, HostRow, JobNo, JobSpec, ShowNo, ShowRow, SubNo, SubRow, Text,
 };
 use host_book::HostLife;
 use std::alloc::{AllocError, Global};
@@ -90,11 +90,11 @@ pub(crate) fn with_life(row: HostRow, life: &HostLife) -> HostRow
 }
 
 // Slots get other rows.
-fn put_slots(slots: &[(u32, SlotRow)], into: &mut Vec<RowChange>) -> Result<(), AllocError>
+fn put_slots(slots: &[SlotChange], into: &mut Vec<RowChange>) -> Result<(), AllocError>
     ensures { OnOk result (into.new.items ≡ into.old.items ++ map slot_put slots.now) }
 {
-    for entry in slots {
-        into.push(RowChange::of_slot(Slot(entry.0), &entry.1))?;
+    for change in slots {
+        into.push(RowChange::of_slot(change.slot, &change.row))?;
     }
     Ok(())
 }

@@ -14,9 +14,9 @@ use Rattle.farm_depends.specs.Follow.{CanFollow, FollowFits, after_follow, books
 use Rattle.farm_depends.proofs.Applied.{book_then, can_follow, fits_then, joined_then}
 use Rattle.farm_depends.proofs.Beside.{depends_stay, joined_change}
 use Rattle.farm_finish.specs.Finishing.{CanFinishAll, all_finished, books_finished, depends_finished}
-use Rattle.farm_finish.proofs.Finished.{all_beside, joined_all}
-use Rattle.farm_finish.proofs.FinishedFits.{fits_all}
-use Rattle.farm_finish.proofs.MayLaw.{can_finish}
+use Rattle.farm_finish.proofs.TurnLemmas.Finished.{all_beside, joined_all}
+use Rattle.farm_finish.proofs.TurnLemmas.FinishedFits.{fits_all}
+use Rattle.farm_finish.proofs.TurnLemmas.MayLaw.{can_finish}
 use Rattle.farm_core.specs.declared.change.Change.{Change}
 use Rattle.farm_core.specs.Change.{IsReady, IsReserved, after_change, followed_by, reserved_of}
 

@@ -14,7 +14,7 @@ use Rattle.farm_changes.specs.declared.change.More.{More}
 use Rattle.farm_changes.specs.declared.change.More.TheVariants as more
 use Rattle.farm_depends.specs.declared.follow.Follow.{Follow}
 use Rattle.farm_depends.specs.Follow.{after_follow, with_all, with_row, without}
-use Rattle.farm_depends.proofs.RowsAfter.{room_left}
+use Rattle.farm_depends.proofs.RowLemmas.RowsAfter.{room_left}
 use Rattle.farm_core.specs.declared.change.Change.{Change}
 use Rattle.farm_core.specs.Change.{IsReady, after_act, after_change, followed_by}
 

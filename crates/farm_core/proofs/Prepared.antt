@@ -2,7 +2,6 @@
 use Rattle.std.proofs.Common.{◌≡◌, ℕ, List, Option, Some, None, Result, Err, sym, ◌∙◌, ap, subst}
 use Rattle.std.specs.Prelude.{IsErrAnd}
 use Rattle.std.proofs.lemmas.Result.{err_from_is_err_and}
-use Rattle.farm_types.specs.declared.answer.Answer.{Answer}
 use Rattle.farm_types.specs.declared.answer.Answer.TheVariants as answer
 use Rattle.farm_types.specs.declared.entry.Act.{Act}
 use Rattle.farm_types.specs.declared.entry.Act.TheVariants.{AddDepend, DropDepend}
@@ -20,14 +19,16 @@ use Rattle.depend_law.specs.Ending.{CanEnd, IsSettled}
 use Rattle.depend_law.proofs.KeptRuns.{followed_step, kept_step}
 use Rattle.farm_changes.specs.Change as books
 use Rattle.farm_changes.specs.Change.{AnswersAct}
+use Rattle.farm_changes.specs.declared.act_answer.ActAnswer.{ActAnswer}
+use Rattle.farm_changes.specs.declared.act_answer.ActAnswer.TheVariants as known
 use Rattle.farm_changes.specs.declared.change.Change as act_change
 use Rattle.farm_types.specs.declared.fault.FarmFault.{FarmFault}
 use Rattle.farm_types.specs.declared.fault.FarmFault.TheVariants.{Refused, NoMemory}
 use Rattle.farm_depends.specs.declared.follow.Follow.{Follow}
 use Rattle.farm_depends.specs.Follow.{Counts, Follows, after_follow}
 use Rattle.farm_finish.specs.Closing.{closing}
-use Rattle.farm_finish.proofs.Closes.{closed_is, closing_ends}
-use Rattle.farm_core.specs.Answers.{told}
+use Rattle.farm_finish.proofs.TurnLemmas.Closes.{closed_is, closing_ends}
+use Rattle.farm_core.specs.Answers.{answer_by}
 use Rattle.farm_core.specs.declared.change.Change.{Change}
 use Rattle.farm_rows.specs.declared.row_change.RowChange.{RowChange}
 use Rattle.farm_rows.specs.Changes.{NamesExactly}
@@ -35,11 +36,13 @@ use Rattle.farm_core.specs.Change.{IsPrepared, Makes, Plans, Prepares, after_cha
 
 -- ---- the answer
 
-told_by : (f : Farm) (moment count : ℕ) (done : Act) (said : Answer) → AnswersAct f moment done said → Counts f done count → told f.next_depend count done said ≡ answer_at f moment done
+answered : (f : Farm) (moment count : ℕ) (done : Act) (said : ActAnswer) → AnswersAct f moment done said → Counts f done count
+    → answer_by f.next_depend count said ≡ answer_at f moment done
 unfolding slot_named
-told_by f moment count (AddDepend spec) said is counts = ap (answer.DependAdded f.next_depend) counts
-told_by f moment count (DropDepend depend) said is counts = ap answer.DependDropped counts
-told_by f moment count other said is counts = is
+answered f moment count done (known.Whole said) is counts = is
+answered f moment count (AddDepend spec) known.DependAdded is counts = ap (answer.DependAdded f.next_depend) counts
+answered f moment count (DropDepend depend) known.DependDropped is counts = ap answer.DependDropped counts
+answered f moment count other said is counts = absurd is
 
 -- ---- the act is refused
 
@@ -74,7 +77,7 @@ rows_stay f e change rows plan =
       heard = plan.heard;
       ready = record { fits = plan.ready.fits; follows = plan.ready.follows; ends = plan.ready.ends; kept = plan.ready.kept };
       unreserved = record { act = plan.unreserved.act; follow = plan.unreserved.follow };
-      staged = record { act = plan.staged.act; follows = plan.staged.follows; jobs = plan.staged.jobs };
+      staged = record { act = plan.staged.act; known = plan.staged.known; follows = plan.staged.follows; jobs = plan.staged.jobs };
       farm = plan.farm;
       answer = plan.answer;
     }
@@ -114,7 +117,7 @@ module _ (f : Farm) (e : Entry) (done : act_change.Change) (m : books.Makes f e 
       makes_farm = ap (λ (js : List ℕ). finish_each js settled_farm) closes ∙ (sym (closed_is e.act settled_farm) ∙ ap (closed e.act) followed_is)
 
       -- the change with its answer
-      pub made : (rows : List RowChange) → Plans f e (record { act = record done { answer = told f.next_depend w.count e.act done.answer }; follow = w; finish = jobs; rows = rows })
+      pub made : (rows : List RowChange) → Plans f e (record { act = done; follow = w; finish = jobs; rows = rows; answer = answer_by f.next_depend w.count done.answer })
       made rows =
           record {
             accepted = legal;
@@ -127,7 +130,7 @@ module _ (f : Farm) (e : Entry) (done : act_change.Change) (m : books.Makes f e 
                   kept = subst IsKeptFarm (sym makes_farm) (kept_step f e step kept);
                 };
             unreserved = record { act = m.unreserved; follow = follows.unreserved };
-            staged = record { act = m.farm; follows = follows; jobs = closes };
+            staged = record { act = m.farm; known = m.answer; follows = follows; jobs = closes };
             farm = makes_farm;
-            answer = told_by f (moment_of f e.moment) w.count e.act done.answer m.answer follows.counts;
+            answer = answered f (moment_of f e.moment) w.count e.act done.answer m.answer follows.counts;
           }

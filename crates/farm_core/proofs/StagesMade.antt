@@ -1,14 +1,10 @@
 -- The rows that a change makes, stage after stage: its act's, those of what follows, those of the jobs that finish, and the farm's own.
 use Rattle.std.proofs.Common.{◌≡◌, ℕ, List, [], ◌∷◌, ◌++◌, Option, None, Some, refl, sym, ap, subst, ◌∙◌}
 use Rattle.std.proofs.lemmas.Option.{none-some}
-use Rattle.farm_types.specs.declared.answer.Answer.{Answer}
-use Rattle.farm_types.specs.declared.entry.Act.{Act}
-use Rattle.farm_types.specs.declared.entry.Act.TheVariants.{AddDepend, DropDepend}
 use Rattle.farm_types.specs.declared.entry.Entry.{Entry}
 use Rattle.farm_types.specs.Farm.{Farm}
 use Rattle.farm_types.specs.DependActs.{or_else}
-use Rattle.farm_types.specs.EntryAnswers.{answer_at}
-use Rattle.farm_types.specs.Step.{act_refusal, finish_each, follow_refusal, moment_of}
+use Rattle.farm_types.specs.Step.{act_refusal, finish_each, follow_refusal}
 use Rattle.farm_rows.specs.declared.farm_row.FarmRow.TheVariants as row
 use Rattle.farm_rows.specs.declared.head_row.HeadRow.{HeadRow}
 use Rattle.farm_rows.specs.declared.row_change.RowChange.{RowChange}
@@ -18,7 +14,6 @@ use Rattle.farm_rows.specs.Changes.{MakesBookRows, MakesRows, row_after, row_at}
 use Rattle.farm_rows.specs.Rows.{head_row}
 use Rattle.farm_rows.proofs.MadeRows.{makes_all, makes_then}
 use Rattle.farm_changes.specs.Change as books
-use Rattle.farm_changes.specs.Change.{AnswersAct}
 use Rattle.farm_depends.specs.Follow.{after_follow}
 use Rattle.farm_depends.specs.FollowRows.{IsActed}
 use Rattle.farm_depends.proofs.Beside.{depends_stay}
@@ -29,11 +24,6 @@ use Rattle.farm_core.proofs.HeadAfter.{change_recorded}
 first_none : {X : Type 0} (o p : Option X) → or_else o p ≡ None → o ≡ None
 first_none None p none = refl
 first_none (Some x) p none = absurd (none-some x (sym none))
-
-answers : (moment : ℕ) (f : Farm) (done : Act) (said : Answer) → said ≡ answer_at f moment done → AnswersAct f moment done said
-answers moment f (AddDepend spec) said is = tt
-answers moment f (DropDepend depend) said is = tt
-answers moment f other said is = is
 
 module _ (f : Farm) (e : Entry) (change : Change) (m : Plans f e change) where
   -- the farm after the act, and after what follows
@@ -66,7 +56,7 @@ module _ (f : Farm) (e : Entry) (change : Change) (m : Plans f e change) where
         ready = m.ready.fits;
         unreserved = m.unreserved.act;
         farm = m.staged.act;
-        answer = answers (moment_of f e.moment) f e.act change.act.answer m.answer;
+        answer = m.staged.known;
       }
 
   -- all changes, one after the other

@@ -4,10 +4,10 @@ use Rattle.farm_types.specs.declared.entry.Entry.{Entry}
 use Rattle.farm_types.specs.EntryAnswers.{answer_of as entry_answer}
 use Rattle.farm_types.specs.Farm.{Farm}
 use Rattle.farm_types.specs.Kept.{IsKeptFarm}
-use Rattle.farm_types.specs.Step.{refusal_of, acted, after, finish_each}
+use Rattle.farm_types.specs.Step.{refusal_of, acted, after, finish_each, moment_of}
 use Rattle.depend_law.specs.Ending.{CanEnd}
 use Rattle.farm_changes.specs.Change as books
-use Rattle.farm_changes.specs.Change.{HasHeard}
+use Rattle.farm_changes.specs.Change.{AnswersAct, HasHeard}
 use Rattle.farm_rows.specs.Changes.{NamesExactly}
 use Rattle.farm_types.specs.declared.fault.FarmFault.{FarmFault}
 use Rattle.farm_types.specs.declared.fault.FarmFault.TheVariants.{Refused, NoMemory}
@@ -49,11 +49,13 @@ pub record IsReserved (change : Change) : Type 0 where
 
 -- the same change, with its memory taken
 abbrev pub reserved_of : Change → Change
-reserved_of change = record { act = books.reserved_of change.act; follow = follow_reserved change.follow; finish = change.finish; rows = change.rows }
+reserved_of change =
+    record { act = books.reserved_of change.act; follow = follow_reserved change.follow; finish = change.finish; rows = change.rows; answer = change.answer }
 
--- each part of the change makes what its stage of the entry makes: the act, what follows of depends, and the jobs that finish
+-- each part of the change makes what its stage of the entry makes: the act, of whose answer it knows, what follows of depends, and the jobs that finish
 pub record IsStaged (f : Farm) (e : Entry) (change : Change) : Type 0 where
   pub act : after_act f change ≡ acted f e
+  pub known : AnswersAct f (moment_of f e.moment) e.act change.act.answer
   pub follows : Follows f (after_act f change) e.act change.follow
   pub jobs : change.finish ≡ closing e.act (followed_by f change)
 
@@ -66,7 +68,7 @@ pub record Plans (f : Farm) (e : Entry) (change : Change) : Type 0 where
   pub unreserved : IsUnreserved change
   pub staged : IsStaged f e change
   pub farm : after_change f change ≡ after f e
-  pub answer : change.act.answer ≡ entry_answer f e
+  pub answer : change.answer ≡ entry_answer f e
 
 -- and it has exactly the rows in which the farm and the one that it makes differ, each as it will be
 pub record Makes (f : Farm) (e : Entry) (change : Change) : Type 0 where

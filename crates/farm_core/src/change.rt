@@ -6,22 +6,23 @@ use farm_depends::Follow;
 use farm_rows::RowChange;
 use farm_types::{Answer, HostNo, Items, JobNo};
 
-/// A change that was prepared for an entry: what its act does, what follows of depends, which jobs finish, and the rows of the store that change. It is
-/// applied once its memory is reserved.
+/// A change that was prepared for an entry: what its act does, what follows of depends, which jobs finish, the rows of the store that change, and the
+/// farm's answer. It is applied once its memory is reserved.
 #[derive(Drop)]
 pub struct Change {
     pub(crate) act: farm_changes::Change,
     pub(crate) follow: Follow,
     pub(crate) finish: Items<JobNo>,
     pub(crate) rows: Items<RowChange>,
+    pub(crate) answer: Answer,
 }
 
 impl Change {
     /// What the farm answers once the change is applied.
     pub fn answer(&self) -> Answer
-        ensures { result ≡ self.now.act.answer }
+        ensures { result ≡ self.now.answer }
     {
-        self.act.answer()
+        self.answer
     }
 
     /// The host that a report is of, and none for another act.

@@ -5,6 +5,7 @@ ghost use Rattle.farm_rows.specs.declared.row_key.RowKey.{RowKey};
 ghost use Rattle.farm_rows.specs.Changes.{row_after, row_at};
 ghost use Rattle.farm_rows.specs.Rows.{head_row};
 ghost use Rattle.farm_books.specs.Books.{IsWhole};
+ghost use Rattle.farm_depends.specs.Follow.{HasMarks};
 ghost use Rattle.farm_core.specs.Change.{IsReady, Makes, Plans, after_change};
 ghost use Rattle.farm_changes.specs.Change.{adds_job};
 
@@ -18,27 +19,28 @@ use farm_types::Entry;
 use std::alloc::{AllocError, Global};
 
 impl Farm {
-    /// The change of the entry with exactly the rows in which this farm and the one that it makes differ, each as it will be.
+    /// The change of the entry with exactly those of the rows in which this farm and the one that it makes differ, each as it will be.
     pub(crate) fn with_rows(
         &self,
         alloc: Global,
         entry: &Entry,
         change: Change,
+        rows: Vec<RowChange>,
     ) -> Result<Change, AllocError>
-        requires { Plans self.now entry.now change }
+        requires planned { Plans self.now entry.now change }
+        requires rows { (k : RowKey) → row_at (after_change self.now change) k ≡ row_after rows.items k (row_at self.now k) }
         ensures { IfOk result (λ made. Makes self.now entry.now made) }
     {
         let mut change = change;
-        let rows = rows_of_change(alloc, &self.books, entry, &change)?;
         let exact = exactly(alloc, self, rows)?;
         change.rows = exact;
         Ok(change)
     }
 }
 
-// The rows that the change of the entry makes, one after the other: those of its act, of what follows, and of the jobs that finish, and the farm's
-// own.
-fn rows_of_change(
+/// The rows that the change of the entry makes, one after the other: those of its act, of what follows, and of the jobs that finish, and the farm's
+/// own.
+pub(crate) fn rows_of_change(
     alloc: Global,
     books: &Books,
     entry: &Entry,
@@ -46,6 +48,7 @@ fn rows_of_change(
 ) -> Result<Vec<RowChange>, AllocError>
     requires whole { IsWhole books.now }
     requires made { Plans books.now.farm entry.now change.now }
+    requires marks { HasMarks books.now.graph change.now.follow }
     ensures { IfOk result (λ rows. (k : RowKey) → row_at (after_change books.now.farm change.now) k ≡ row_after rows.items k (row_at books.now.farm k)) }
 {
     books.kept();

@@ -1,18 +1,20 @@
 //! The change of an entry: what its act does, with what follows of depends and the jobs that finish.
 
-ghost use Rattle.std.specs.Prelude.{◌≡◌};
+ghost use Rattle.std.specs.Prelude.{◌≡◌, IfOk};
 ghost use Rattle.farm_changes.specs.Change as acts;
-ghost use Rattle.farm_core.specs.Answers.{HasNumber, told};
+ghost use Rattle.farm_core.specs.Answers.{HasNumber, answer_by};
 ghost use Rattle.farm_core.specs.Change.{IsPrepared, Plans};
 ghost use Rattle.farm_books.specs.Books.{IsWhole};
+ghost use Rattle.farm_depends.specs.Follow.{HasMarks};
 ghost use Rattle.farm_types.specs.Formed.{IsFormed};
 ghost use Rattle.farm_types.specs.Step.{HasCondition};
 
 use crate::change::Change;
 use farm_books::Books;
+use farm_changes::ActAnswer;
 use farm_depends::prepare_follow;
 use farm_finish::prepare_finish;
-use farm_types::{Act, Answer, DependNo, Entry, FarmFault, Items};
+use farm_types::{Answer, DependNo, Entry, FarmFault, Items};
 use std::alloc::Global;
 
 /// The change of an entry for whose act a change was prepared, with what follows and which jobs finish. The rows that it changes aren't found yet.
@@ -26,33 +28,33 @@ pub(crate) fn with_follow(
     requires condition { HasCondition books.now.farm entry.now.act }
     requires formed { IsFormed entry.now }
     requires made { acts.Makes books.now.farm entry.now act }
-    ensures { IsPrepared (Plans books.now.farm entry.now) books.now.farm entry.now result }
+    ensures prepared { IsPrepared (Plans books.now.farm entry.now) books.now.farm entry.now result }
+    ensures marks { IfOk result (λ change. HasMarks books.now.graph change.follow) }
 {
     let follow = prepare_follow(alloc, books, entry, &act)?;
     let finish = prepare_finish(alloc, books, entry, &act, &follow)?;
     let next = books.depends().next_number();
-    let act = answered(act, &entry.act, next, follow.count);
+    let answer = answer_by(act.answer(), next, follow.count);
     Ok(Change {
         act,
         follow,
         finish,
         rows: Items::new(alloc),
+        answer,
     })
 }
 
-// The change with the answer to the entry: of a depend it is known by what follows.
-fn answered(act: farm_changes::Change, entry: &Act, next: u64, count: u32) -> farm_changes::Change
-    requires { HasNumber next entry.now }
-    ensures { result ≡ record act { answer = told next count entry.now act.answer } }
+// The answer, by what is known of it: a depend that comes gets the next number and holds back so many frames, and one that goes lets so many open.
+fn answer_by(known: ActAnswer, next: u64, count: u32) -> Answer
+    requires { HasNumber next known }
+    ensures { result ≡ answer_by next count known }
 {
-    let mut act = act;
-    match entry {
-        Act::AddDepend(_) => act.set_answer(Answer::DependAdded {
+    match known {
+        ActAnswer::Whole(answer) => answer,
+        ActAnswer::DependAdded => Answer::DependAdded {
             depend: DependNo(next as u32),
             unmet: count,
-        }),
-        Act::DropDepend { .. } => act.set_answer(Answer::DependDropped { opened: count }),
-        _ => {}
+        },
+        ActAnswer::DependDropped => Answer::DependDropped { opened: count },
     }
-    act
 }

@@ -6,6 +6,7 @@ ghost use Rattle.farm_types.specs.Step.{HasCondition};
 ghost use Rattle.farm_core.specs.Change.{IsReady, IsReserved, Prepares, after_change, reserved_of};
 
 use crate::change::Change;
+use crate::changes::rows_of_change;
 use crate::farm::Farm;
 use crate::following::with_follow;
 use farm_changes::{apply, prepare, reserve};
@@ -24,7 +25,8 @@ impl Farm {
     {
         let act = prepare(alloc, &self.books, entry)?;
         let change = with_follow(alloc, &self.books, entry, act)?;
-        Ok(self.with_rows(alloc, entry, change)?)
+        let rows = rows_of_change(alloc, &self.books, entry, &change)?;
+        Ok(self.with_rows(alloc, entry, change, rows)?)
     }
 
     /// Takes the memory that the change needs, so that applying it takes none. The farm is as before.
@@ -44,7 +46,7 @@ impl Farm {
         requires ready { IsReady self.old change }
         requires reserved { IsReserved change }
         ensures farm { self.new ≡ after_change self.old change }
-        ensures answer { result ≡ change.act.answer }
+        ensures answer { result ≡ change.answer }
         ensures hosts { length self.old.hosts ≤ length self.new.hosts }
     {
         self.books.kept();
@@ -53,8 +55,9 @@ impl Farm {
             follow,
             finish,
             rows: _rows,
+            answer,
         } = change;
-        let answer = apply(&mut self.books, act);
+        apply(&mut self.books, act);
         apply_follow(&mut self.books, follow);
         apply_finish(&mut self.books, finish);
         answer

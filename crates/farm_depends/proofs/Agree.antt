@@ -10,7 +10,7 @@ use Rattle.farm_types.specs.declared.limits.TheConstants.{LAST_DEPEND, MOST_DEPE
 use Rattle.farm_types.specs.declared.refusal.Refusal.{Refusal}
 use Rattle.farm_types.specs.DependActs.{or_else}
 use Rattle.farm_types.specs.Depends.{are_done}
-use Rattle.farm_depends.specs.declared.counts.Counts.{Counts}
+use Rattle.farm_depends.specs.declared.new_depends.room.Counts.{Counts}
 use Rattle.farm_depends.specs.Coming.{counts_full, waiters_of}
 
 module _ (p q : ℕ → Bool) (same : (n : ℕ) → p n ≡ q n) where

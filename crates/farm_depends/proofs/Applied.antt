@@ -19,15 +19,15 @@ use Rattle.depend_book.specs.Book.{DependLists, IsBook, all_done_in, joined, wit
 use Rattle.farm_depends.specs.declared.follow.Follow.{Follow}
 use Rattle.depend_book.specs.Fits.{Fits, IsBeside}
 use Rattle.farm_depends.specs.Follow.{CanAddAll, CanFollow, FollowFits, HasDrop, IsDropThere, IsOneKind, NoneCome, after_follow, depends_after, drop_in, follow_reserved, is_listed, is_one, reopened_in, slots_after, with_all, with_new_all, with_row, without}
-use Rattle.farm_depends.proofs.Added.{Takes, takes_all}
-use Rattle.farm_depends.proofs.Completed.{Completes, completed_book, completed_farm, completed_fits}
-use Rattle.farm_depends.proofs.Dropped.{dropped_book, dropped_farm, dropped_fits}
-use Rattle.farm_depends.proofs.MetDropped.{met_before_drop}
+use Rattle.farm_depends.proofs.ComingLemmas.Added.{Takes, takes_all}
+use Rattle.farm_depends.proofs.CompletionLemmas.Completed.{Completes, completed_book, completed_farm, completed_fits}
+use Rattle.farm_depends.proofs.CompletionLemmas.Dropped.{dropped_book, dropped_farm, dropped_fits}
+use Rattle.farm_depends.proofs.CompletionLemmas.MetDropped.{met_before_drop}
 use Rattle.depend_book.proofs.OpenUnmet.{depend_there}
 use Rattle.depend_book.proofs.Pairs.{groups_joined}
-use Rattle.farm_depends.proofs.Reopened.{done_listed}
+use Rattle.farm_depends.proofs.CompletionLemmas.Reopened.{done_listed}
 use Rattle.depend_book.proofs.OneCleared.{and_one, cleared_book, cleared_is, flag_cleared}
-use Rattle.farm_depends.proofs.WithRow.{Numbered, numbered_kept, numbered_row}
+use Rattle.farm_depends.proofs.ComingLemmas.WithRow.{Numbered, numbered_kept, numbered_row}
 use Rattle.depend_book.proofs.Zips.{or_none, zip_length}
 use Rattle.farm_depends.proofs.FollowSlots.{follow_done, follow_stand}
 

@@ -72,11 +72,11 @@ more_joined f b (more.Job placing spec) fits = record { limits = fits.limits; ac
 -- a change that fits the farm fits its books, and the other way round
 pub ready_apart : (f : Farm) (b : DependLists) (change : Change) → IsReady (joined f b) change → IsReady f change
 ready_apart f b change ready =
-    record { rows = record { hosts_there = ready.rows.hosts_there; slots_ready = ready.rows.slots_ready; slots_differ = ready.rows.slots_differ }; more = more_apart (with_rows f change) b change.more ready.more }
+    record { rows = record { hosts_there = ready.rows.hosts_there; slots_ready = ready.rows.slots_ready; slots_stood = ready.rows.slots_stood; slots_differ = ready.rows.slots_differ }; more = more_apart (with_rows f change) b change.more ready.more }
 
 pub ready_joined : (f : Farm) (b : DependLists) (change : Change) → IsReady f change → IsReady (joined f b) change
 ready_joined f b change ready =
-    record { rows = record { hosts_there = ready.rows.hosts_there; slots_ready = ready.rows.slots_ready; slots_differ = ready.rows.slots_differ }; more = more_joined (with_rows f change) b change.more ready.more }
+    record { rows = record { hosts_there = ready.rows.hosts_there; slots_ready = ready.rows.slots_ready; slots_stood = ready.rows.slots_stood; slots_differ = ready.rows.slots_differ }; more = more_joined (with_rows f change) b change.more ready.more }
 
 -- ---- refusals
 

@@ -12,7 +12,7 @@ use Rattle.farm_types.specs.Rising.{IsRising, depend_key}
 use Rattle.depend_graph.specs.Graph.{GraphLists, Watch, groups_left, is_satisfied, with_all_done, with_done}
 use Rattle.depend_book.specs.Book.{DependLists, IsBook, all_done_in, done_in, row_of, rows_of, watch_number, with_graph}
 use Rattle.depend_book.specs.Fits.{Fits, group_in}
-use Rattle.farm_depends.proofs.Flags.{depends_after, watch_after}
+use Rattle.farm_depends.proofs.CompletionLemmas.Flags.{depends_after, watch_after}
 use Rattle.depend_book.proofs.Pairs.{row_at}
 use Rattle.depend_book.proofs.Zips.{zip_left, zip_map-alike, zip_sum-less}
 

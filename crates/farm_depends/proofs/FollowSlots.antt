@@ -16,8 +16,8 @@ use Rattle.depend_law.proofs.Among.{each_weaker}
 use Rattle.depend_law.proofs.Shapes.{SameFrames, frames_then}
 use Rattle.farm_depends.specs.declared.follow.Follow.{Follow}
 use Rattle.farm_depends.specs.Follow.{IsMovable, change_of, is_moved, put_blocked, put_opened, slots_after}
-use Rattle.farm_depends.proofs.Movable.{movable_blocked, movable_opened, movable_put_opened}
-use Rattle.farm_depends.proofs.PutSlots.{blocked_stand, opened_stand}
+use Rattle.farm_depends.proofs.MovingLemmas.Movable.{movable_blocked, movable_opened, movable_put_opened}
+use Rattle.farm_depends.proofs.MovingLemmas.PutSlots.{blocked_stand, opened_stand}
 
 moved_state : (state : FrameState) → (is_waiting state || is_blocked state) ≡ true → is_done_state state ≡ false
 moved_state frame_state.Succeeded moved = absurd (false≢true moved)

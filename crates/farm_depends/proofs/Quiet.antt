@@ -38,7 +38,7 @@ use Rattle.depend_book.specs.Fits.{IsBeside}
 use Rattle.farm_depends.specs.Follow.{Counts, FollowFits, Follows, nothing_follows}
 use Rattle.farm_depends.proofs.Beside.{refusal_joined}
 use Rattle.farm_depends.proofs.Joined.{joined_acted}
-use Rattle.farm_depends.proofs.Reopened.{none_reopened}
+use Rattle.farm_depends.proofs.CompletionLemmas.Reopened.{none_reopened}
 
 -- nothing follows the act
 abbrev pub IsQuiet : Act → Type 0

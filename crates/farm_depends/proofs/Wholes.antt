@@ -14,7 +14,7 @@ use Rattle.farm_books.specs.Books.{FarmBooks, IsWhole, depends_of}
 use Rattle.farm_books.proofs.WholeBooks.{whole_farm}
 use Rattle.farm_changes.specs.Change.{after_change}
 use Rattle.farm_changes.specs.declared.change.Change.{Change}
-use Rattle.farm_depends.specs.declared.counts.Counts.{Counts}
+use Rattle.farm_depends.specs.declared.new_depends.room.Counts.{Counts}
 use Rattle.farm_depends.specs.Follow.{FollowFits, Follows, PreparesFollow}
 use Rattle.farm_depends.specs.declared.follow.Follow.{Follow}
 use Rattle.farm_depends.proofs.Beside.{depends_placed, depends_stay}

@@ -12,11 +12,11 @@ use Rattle.farm_types.specs.Depends.{are_done, groups_left, is_done}
 use Rattle.farm_types.specs.Farm.{Farm, for_some}
 use Rattle.farm_types.specs.Operators.{waits}
 use Rattle.farm_types.specs.declared.limits.TheConstants.{LAST_DEPEND, MOST_DEPENDS, MOST_GROUPS}
-use Rattle.depend_graph.specs.Graph.{is_flagged}
+use Rattle.depend_graph.specs.Graph.{is_flagged, no_marks}
 use Rattle.depend_book.specs.declared.new_depend.NewDepend.{NewDepend}
 use Rattle.farm_types.specs.declared.fault.FarmFault.{FarmFault}
 use Rattle.farm_types.specs.declared.fault.FarmFault.TheVariants.{Refused, NoMemory}
-use Rattle.farm_depends.specs.declared.counts.Counts.{Counts}
+use Rattle.farm_depends.specs.declared.new_depends.room.Counts.{Counts}
 use Rattle.farm_depends.specs.declared.follow.Follow.{Follow}
 use Rattle.farm_depends.specs.Follow.{all_coming, coming}
 
@@ -54,6 +54,7 @@ follow_added f spec =
       spares = [];
       dropped = None;
       done = [];
+      marks = no_marks;
       reopened = None;
       opened = [];
       blocked = filter (waits_at f.slots) (unmet_waiters f spec);
@@ -64,7 +65,7 @@ follow_added f spec =
 -- the depends of a job that was placed, which block these frames
 abbrev pub follow_placed : Farm → List DependSpec → List ℕ → Follow
 follow_placed f specs blocked =
-    record { depends = all_coming f specs; spares = []; dropped = None; done = []; reopened = None; opened = []; blocked = blocked; raises = false; count = 0 }
+    record { depends = all_coming f specs; spares = []; dropped = None; done = []; marks = no_marks; reopened = None; opened = []; blocked = blocked; raises = false; count = 0 }
 
 -- ---- refusals, by counts
 
@@ -140,6 +141,7 @@ follow_new slots done n =
       spares = [];
       dropped = None;
       done = [];
+      marks = no_marks;
       reopened = None;
       opened = [];
       blocked = filter (waits_at slots) (unmet_by done n.groups);

@@ -3,10 +3,11 @@ use Rattle.std.specs.Prelude.{ℕ, ◌&&◌, Bool, not, List, map, filter, slice
 use Rattle.farm_types.specs.declared.entry.Act.{Act}
 use Rattle.farm_types.specs.declared.entry.Act.TheVariants as act
 use Rattle.farm_types.specs.declared.slot_row.SlotRow.{SlotRow}
-use Rattle.farm_types.specs.Depends.{is_done, is_done_state}
+use Rattle.farm_types.specs.Depends.{is_done_state}
 use Rattle.farm_types.specs.Farm.{for_some}
 use Rattle.farm_types.specs.Settle.{is_blocked}
 use Rattle.farm_draft.specs.Rows.{slot_of}
+use Rattle.farm_draft.specs.declared.slot_change.SlotChange.{SlotChange}
 use Rattle.depend_graph.specs.Graph.{is_flagged}
 use Rattle.farm_depends.specs.Follow.{is_listed}
 
@@ -20,17 +21,27 @@ IsCompleting other = ⊥
 abbrev pub is_done_row : SlotRow → Bool
 is_done_row s = for_some s.frame (λ x. is_done_state x.state)
 
--- a row in which the frame is done, of a slot in which it isn't
-abbrev pub completes : List SlotRow → ℕ × SlotRow → Bool
-completes slots e = is_done_row e.1 && not (is_done slots e.0)
+abbrev pub is_blocked_row : SlotRow → Bool
+is_blocked_row s = for_some s.frame (λ x. is_blocked x.state)
 
--- the slots of such rows, in order
-abbrev pub newly_done : List SlotRow → List (ℕ × SlotRow) → List ℕ
-newly_done slots rows = map slot_of (filter (completes slots) rows)
+-- the frame in the slot is done and wasn't
+abbrev pub completes : SlotChange → Bool
+completes c = is_done_row c.row && not (is_done_row c.was)
+
+-- the slots of such changes, in order
+abbrev pub newly_done : List SlotChange → List ℕ
+newly_done rows = map slot_of (filter completes rows)
+
+-- the frame in the slot is done and was blocked
+abbrev pub is_eaten : SlotChange → Bool
+is_eaten c = is_done_row c.row && is_blocked_row c.was
+
+abbrev pub newly_eaten : List SlotChange → List ℕ
+newly_eaten rows = map slot_of (filter is_eaten rows)
 
 -- the frame in the slot is blocked
 abbrev pub is_blocked_in : List SlotRow → ℕ → Bool
-is_blocked_in slots slot = for_some (slice_get slots slot) (λ (s : SlotRow). for_some s.frame (λ x. is_blocked x.state))
+is_blocked_in slots slot = for_some (slice_get slots slot) is_blocked_row
 
 abbrev pub blocked_among : List SlotRow → List ℕ → List ℕ
 blocked_among slots list = filter (is_blocked_in slots) list

@@ -16,7 +16,7 @@ use Rattle.farm_types.specs.Farm.{Farm, changed_at, for_some}
 use Rattle.farm_types.specs.Settle.{blocked_row, in_state, is_blocked, kept_version, opened_by, raised, settle, with_met}
 use Rattle.farm_types.specs.Step.{follow_refusal, followed}
 use Rattle.farm_types.specs.declared.limits.TheConstants.{LAST_DEPEND, MOST_DEPENDS, MOST_GROUPS}
-use Rattle.depend_graph.specs.Graph.{IsGroup, has_depend}
+use Rattle.depend_graph.specs.Graph.{GraphLists, HasMet, IsGroup, has_depend, no_marks, with_all_done}
 use Rattle.depend_book.specs.Book.{DependLists, all_done_in, done_in, dropped_in}
 use Rattle.depend_book.specs.declared.new_depend.NewDepend.{NewDepend}
 use Rattle.farm_types.specs.declared.fault.FarmFault.{FarmFault}
@@ -27,7 +27,11 @@ pub use Rattle.farm_books.specs.Coming.{CanAddAll, spare_for, with_new_all}
 use Rattle.farm_depends.specs.declared.follow.Follow.{Follow}
 
 abbrev pub nothing_follows : Follow
-nothing_follows = record { depends = []; spares = []; dropped = None; done = []; reopened = None; opened = []; blocked = []; raises = false; count = 0 }
+nothing_follows = record { depends = []; spares = []; dropped = None; done = []; marks = no_marks; reopened = None; opened = []; blocked = []; raises = false; count = 0 }
+
+-- what is met is what the frames that are done meet in the graph
+abbrev pub HasMarks : GraphLists → Follow → Type 0
+HasMarks g w = HasMet g.depends (with_all_done g w.done).depends w.marks
 
 -- ---- depends that come
 

@@ -20,7 +20,7 @@ use Rattle.farm_rows.specs.declared.row_change.RowChange.TheVariants as change
 use Rattle.farm_rows.specs.declared.row_key.RowKey.TheVariants as key
 use Rattle.farm_rows.specs.Changes.{MakesRows, beside, row_after}
 use Rattle.farm_rows.specs.Rows.{frame_row}
-use Rattle.depend_graph.specs.declared.marks.Marks.{Marks}
+use Rattle.depend_graph.specs.declared.trials.marks.Marks.{Marks}
 use Rattle.depend_graph.specs.Graph.{groups_at, is_flagged}
 use Rattle.depend_graph.specs.Watches.{mark_for}
 use Rattle.depend_book.specs.declared.new_depend.NewDepend.{NewDepend}

@@ -19,12 +19,13 @@ use Rattle.farm_types.specs.Groups.{all_slots, groups_by, part_of}
 use Rattle.farm_types.specs.Kept.{KeepsRows}
 use Rattle.farm_types.specs.Names.{frame_name}
 use Rattle.farm_types.specs.Step.{act_refusal, after_submit}
+use Rattle.depend_graph.specs.Graph.{no_marks}
 use Rattle.depend_book.specs.declared.new_depend.NewDepend.{NewDepend}
 use Rattle.farm_types.specs.declared.fault.FarmFault.{FarmFault}
 use Rattle.farm_types.specs.declared.fault.FarmFault.TheVariants.{Refused, NoMemory}
-use Rattle.farm_depends.specs.declared.counts.Counts.{Counts}
+use Rattle.farm_depends.specs.declared.new_depends.room.Counts.{Counts}
 use Rattle.farm_depends.specs.declared.follow.Follow.{Follow}
-use Rattle.farm_depends.specs.declared.own.OwnJob.{OwnJob}
+use Rattle.farm_depends.specs.declared.new_depends.own_job.OwnJob.{OwnJob}
 use Rattle.farm_depends.specs.Coming.{all_unmet_by, counts_full}
 use Rattle.farm_places.specs.Ends.{shape_refusal}
 use Rattle.farm_depends.specs.Follow.{is_listed}
@@ -101,4 +102,4 @@ blocked_own done own ns = filter (is_listed (all_unmet_by done ns)) (all_slots o
 
 abbrev pub follow_own : List Bool → OwnJob → List NewDepend → Follow
 follow_own done own ns =
-    record { depends = ns; spares = []; dropped = None; done = []; reopened = None; opened = []; blocked = blocked_own done own ns; raises = false; count = 0 }
+    record { depends = ns; spares = []; dropped = None; done = []; marks = no_marks; reopened = None; opened = []; blocked = blocked_own done own ns; raises = false; count = 0 }

@@ -6,7 +6,7 @@ use Rattle.farm_types.specs.DependActs.{place_refusal}
 use Rattle.farm_types.specs.Depends.{is_done}
 use Rattle.farm_types.specs.Farm.{for_some}
 use Rattle.farm_types.specs.Operators.{place_of, slot_named}
-use Rattle.depend_graph.specs.Graph.{Watch, unmet_of}
+use Rattle.depend_graph.specs.Graph.{Watch, no_marks, unmet_of}
 use Rattle.farm_books.specs.Books.{FarmBooks}
 use Rattle.farm_types.specs.declared.fault.FarmFault.{FarmFault}
 use Rattle.farm_types.specs.declared.fault.FarmFault.TheVariants.{Refused, NoMemory}
@@ -35,6 +35,7 @@ follow_retry slots watches slot =
       spares = [];
       dropped = None;
       done = [];
+      marks = no_marks;
       reopened = reopened_at slots slot;
       opened = [];
       blocked = shut_at slots watches slot;

@@ -33,6 +33,7 @@ pub fn apply_follow(books: &mut Books, follow: Follow)
         spares,
         dropped,
         done,
+        marks: _,
         reopened,
         opened,
         blocked,

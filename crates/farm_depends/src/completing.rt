@@ -1,6 +1,6 @@
 //! What follows completions, and a depend that goes.
 
-ghost use Rattle.std.specs.Prelude.{◌≡◌, ◌≤◌, decimal, length, IfOk};
+ghost use Rattle.std.specs.Prelude.{◌≡◌, ◌≤◌, decimal, length, All, IfOk};
 ghost use Rattle.farm_types.specs.Depends.{is_done};
 ghost use Rattle.farm_types.specs.declared.entry.Act.TheVariants as act;
 ghost use Rattle.farm_types.specs.declared.limits.TheConstants.{SLOT_LIMIT};
@@ -8,14 +8,18 @@ ghost use Rattle.farm_types.specs.declared.refusal.Refusal.TheVariants.{Unknown}
 ghost use Rattle.farm_types.specs.Faults.{IsRefusal};
 ghost use Rattle.farm_books.specs.Books.{IsWhole};
 ghost use Rattle.farm_changes.specs.Change.{Makes, after_change};
-ghost use Rattle.farm_depends.specs.Completing.{IsCompleting, blocked_among, is_blocked_in, is_done_row, left_blocked, newly_done, unmarked_among};
-ghost use Rattle.farm_depends.specs.Follow.{PreparesFollow};
+ghost use Rattle.farm_draft.specs.Rows.{Stood};
+ghost use Rattle.farm_depends.specs.Completing.{IsCompleting, blocked_among, is_blocked_in, left_blocked, newly_done, unmarked_among};
+ghost use Rattle.farm_depends.specs.Follow.{HasMarks, PreparesFollow};
 
 use crate::follow::Follow;
 use crate::marks::{is_marked, mark, no_marks};
+use crate::rows::completed::{is_blocked, is_done, newly_done, newly_eaten};
+use depend_graph::Marks;
 use farm_books::Books;
 use farm_changes::Change;
-use farm_types::{DependNo, Entry, FarmFault, FrameState, Items, Refusal, Slot, SlotRow, Text};
+use farm_draft::SlotChange;
+use farm_types::{DependNo, Entry, FarmFault, Items, Refusal, Slot, Text};
 use std::alloc::{AllocError, Global};
 
 /// What follows an act that may complete frames, for which `change` was prepared: its completions meet groups, and frames open.
@@ -28,18 +32,21 @@ pub(crate) fn follow_completed(
     requires whole { IsWhole books.now }
     requires made { Makes books.now.farm entry.now change.now }
     requires completing { IsCompleting entry.now.act }
-    ensures { PreparesFollow books.now.farm (after_change books.now.farm change.now) entry.now.act result }
+    ensures prepares { PreparesFollow books.now.farm (after_change books.now.farm change.now) entry.now.act result }
+    ensures marks { IfOk result (HasMarks books.now.graph) }
 {
     books.kept();
     let depends = books.depends();
-    let done = newly_done(alloc, books, change.slot_rows())?;
-    let opening = depends.would_open(alloc, done.as_slice())?;
-    let opened = left_blocked(alloc, books, done.as_slice(), opening.as_slice())?;
+    let rows = change.slot_rows();
+    let done = newly_done(alloc, rows)?;
+    let completion = depends.would_complete(alloc, done.as_slice())?;
+    let opened = left_blocked(alloc, books, rows, completion.opened.as_slice())?;
     Ok(Follow {
         depends: Items::new(alloc),
         spares: Items::new(alloc),
         dropped: None,
         done,
+        marks: completion.marks,
         reopened: None,
         opened,
         blocked: Items::new(alloc),
@@ -55,7 +62,8 @@ pub(crate) fn follow_drop(
     depend: DependNo,
 ) -> Result<Follow, FarmFault>
     requires whole { IsWhole books.now }
-    ensures { PreparesFollow books.now.farm books.now.farm (act.DropDepend depend) result }
+    ensures prepares { PreparesFollow books.now.farm books.now.farm (act.DropDepend depend) result }
+    ensures marks { IfOk result (HasMarks books.now.graph) }
 {
     let Some(row) = books.depend(depend) else {
         return Err(unknown(alloc, depend));
@@ -74,6 +82,7 @@ pub(crate) fn follow_drop(
         spares: Items::new(alloc),
         dropped: Some(depend),
         done: Items::new(alloc),
+        marks: Marks::none(alloc),
         reopened: None,
         opened,
         blocked: Items::new(alloc),
@@ -96,23 +105,6 @@ fn unknown(alloc: Global, depend: DependNo) -> FarmFault
     }
 }
 
-// The slots among these rows whose frames are done and weren't.
-fn newly_done(
-    alloc: Global,
-    books: &Books,
-    rows: &[(u32, SlotRow)],
-) -> Result<Items<Slot>, AllocError>
-    ensures { IfOk result (λ done. done ≡ newly_done books.now.farm.slots rows.now) }
-{
-    let mut done = Items::new(alloc);
-    for (slot, row) in rows {
-        if is_done(row) && !is_done_in(books, Slot(*slot)) {
-            done.push(Slot(*slot))?;
-        }
-    }
-    Ok(done)
-}
-
 // The slots among these whose frames are blocked.
 fn blocked_among(alloc: Global, books: &Books, slots: &[Slot]) -> Result<Items<Slot>, AllocError>
     ensures { IfOk result (λ blocked. blocked ≡ blocked_among books.now.farm.slots slots.now) }
@@ -126,19 +118,20 @@ fn blocked_among(alloc: Global, books: &Books, slots: &[Slot]) -> Result<Items<S
     Ok(blocked)
 }
 
-// The slots among these whose frames are blocked, but for those that are done. Where blocked frames are among those, as operators eat them, all slots of
-// the farm are marked once.
+// The slots among these whose frames are blocked, but for those that the changes complete. Where they complete blocked frames, as operators eat them, all
+// slots of the farm are marked once.
 fn left_blocked(
     alloc: Global,
     books: &Books,
-    done: &[Slot],
+    rows: &[SlotChange],
     slots: &[Slot],
 ) -> Result<Items<Slot>, AllocError>
-    requires { length books.now.farm.slots ≤ SLOT_LIMIT }
-    ensures { IfOk result (λ left. left ≡ left_blocked books.now.farm.slots done.now slots.now) }
+    requires few { length books.now.farm.slots ≤ SLOT_LIMIT }
+    requires stood { All (Stood books.now.farm.slots) rows.now }
+    ensures { IfOk result (λ left. left ≡ left_blocked books.now.farm.slots (newly_done rows.now) slots.now) }
 {
     let blocked = blocked_among(alloc, books, slots)?;
-    let eaten = blocked_among(alloc, books, done)?;
+    let eaten = newly_eaten(alloc, rows)?;
     if eaten.is_empty() {
         return Ok(blocked);
     }
@@ -161,16 +154,6 @@ fn unmarked_among(alloc: Global, marks: &[bool], slots: &[Slot]) -> Result<Items
     Ok(unmarked)
 }
 
-/// Whether the frame in the row is done.
-pub(crate) fn is_done(row: &SlotRow) -> bool
-    ensures { result ≡ is_done_row row.now }
-{
-    match &row.frame {
-        None => false,
-        Some(frame) => frame.state.is_done(),
-    }
-}
-
 /// Whether the frame in the slot is done.
 pub(crate) fn is_done_in(books: &Books, slot: Slot) -> bool
     ensures { result ≡ is_done books.now.farm.slots slot }
@@ -187,9 +170,6 @@ fn is_blocked_in(books: &Books, slot: Slot) -> bool
 {
     match books.slot(slot) {
         None => false,
-        Some(row) => match &row.frame {
-            None => false,
-            Some(frame) => matches!(frame.state, FrameState::Depend),
-        },
+        Some(row) => is_blocked(&row),
     }
 }

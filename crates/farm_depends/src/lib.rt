@@ -2,29 +2,20 @@
 #![tactic(auto)]
 
 mod applying;
-mod blocked;
-mod blocked_own;
-mod changed_rows;
-mod checks;
-mod coming;
 mod completing;
-mod counts;
 mod follow;
 mod marks;
-mod moved_rows;
 mod moving;
-mod own;
-mod own_coming;
+mod new_depends;
 mod preparing;
 mod refused;
-mod restoring;
-mod restoring_marks;
-mod restoring_rows;
+mod restored;
 mod retrying;
-mod submitted;
+mod rows;
 
 pub use applying::{apply_follow, reserve_follow};
-pub use changed_rows::follow_rows;
 pub use follow::Follow;
 pub use preparing::prepare_follow;
-pub use restoring::restore_depends;
+pub use restored::depends::restore_depends;
+pub use rows::changed::follow_rows;
+pub use rows::completed::completes;

@@ -6,19 +6,21 @@ ghost use Rattle.farm_types.specs.Formed.{IsFormedAct};
 ghost use Rattle.farm_types.specs.Farm.{show_named};
 ghost use Rattle.farm_types.specs.Step.{HasCondition, act_refusal, after_submit};
 ghost use Rattle.farm_types.specs.declared.entry.Act.TheVariants as act;
+ghost use Rattle.depend_graph.specs.Graph.{no_marks};
 ghost use Rattle.farm_books.specs.Books.{IsWhole};
 ghost use Rattle.farm_changes.specs.Change.{Makes, after_change};
 ghost use Rattle.farm_depends.specs.Coming.{follow_new, unmet_by};
-ghost use Rattle.farm_depends.specs.Follow.{PreparesFollow};
+ghost use Rattle.farm_depends.specs.Follow.{HasMarks, PreparesFollow};
 
-use crate::blocked::{unmet_waiters, waiting_among};
-use crate::coming::coming;
 use crate::completing::{follow_completed, follow_drop};
-use crate::counts::counts_of;
 use crate::follow::{Follow, follow_nothing};
+use crate::new_depends::blocked::{unmet_waiters, waiting_among};
+use crate::new_depends::depends::coming;
+use crate::new_depends::room::counts_of;
+use crate::new_depends::submitted::follow_submit;
 use crate::retrying::follow_retried;
-use crate::submitted::follow_submit;
 use depend_book::NewDepend;
+use depend_graph::Marks;
 use farm_books::Books;
 use farm_changes::Change;
 use farm_types::{Act, DependSpec, Entry, FarmFault, Items, JobSpec, Slot};
@@ -36,7 +38,8 @@ pub fn prepare_follow(
     requires condition { HasCondition books.now.farm entry.now.act }
     requires formed { IsFormedAct entry.now.act }
     requires made { Makes books.now.farm entry.now change.now }
-    ensures { PreparesFollow books.now.farm (after_change books.now.farm change.now) entry.now.act result }
+    ensures prepares { PreparesFollow books.now.farm (after_change books.now.farm change.now) entry.now.act result }
+    ensures marks { IfOk result (HasMarks books.now.graph) }
 {
     books.kept();
     match &entry.act {
@@ -55,7 +58,8 @@ pub fn prepare_follow(
 pub fn follow_depend(alloc: Global, books: &Books, spec: &DependSpec) -> Result<Follow, FarmFault>
     requires whole { IsWhole books.now }
     requires formed { IsFormedAct (act.AddDepend spec.now) }
-    ensures { PreparesFollow books.now.farm books.now.farm (act.AddDepend spec.now) result }
+    ensures prepares { PreparesFollow books.now.farm books.now.farm (act.AddDepend spec.now) result }
+    ensures marks { IfOk result (HasMarks books.now.graph) }
 {
     books.kept();
     let counts = counts_of(books.depends());
@@ -88,6 +92,7 @@ fn follow_of(
           spares = [];
           dropped = None;
           done = [];
+          marks = no_marks;
           reopened = None;
           opened = [];
           blocked = blocked;
@@ -102,6 +107,7 @@ fn follow_of(
         spares: Items::new(alloc),
         dropped: None,
         done: Items::new(alloc),
+        marks: Marks::none(alloc),
         reopened: None,
         opened: Items::new(alloc),
         blocked,

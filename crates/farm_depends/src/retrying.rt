@@ -6,6 +6,7 @@ ghost use Rattle.farm_depends.specs.Retrying.{Retries, has_frame, reopened_at, s
 
 use crate::completing::is_done_in;
 use crate::follow::Follow;
+use depend_graph::Marks;
 use farm_books::Books;
 use farm_places::find_frame;
 use farm_types::{FarmFault, FramePlace, Items, Slot};
@@ -27,6 +28,7 @@ pub(crate) fn follow_retried(
         spares: Items::new(alloc),
         dropped: None,
         done: Items::new(alloc),
+        marks: Marks::none(alloc),
         reopened: reopened_at(books, slot),
         opened: Items::new(alloc),
         blocked,

@@ -3,9 +3,12 @@ use Rattle.std.proofs.Common.{◌≡◌, ℕ, suc, zero, ◌+◌, false, nat_eq,
 use Rattle.std.specs.List.{slice_get, slice_set}
 use Rattle.std.proofs.lemmas.Bool.{ne_eqb}
 use Rattle.std.proofs.lemmas.Option.{none-some}
+use Rattle.farm_types.specs.declared.slot_row.SlotRow.{SlotRow}
 use Rattle.farm_types.specs.Farm.{changed_at}
 use Rattle.farm_types.proofs.ChangedLists.{changed_at_suc}
-use Rattle.farm_draft.specs.Laid.{laid, laid_from, row_over, whole}
+use Rattle.farm_draft.specs.Laid.{laid, laid_from, row_over}
+use Rattle.farm_draft.specs.Rows.{put_row}
+use Rattle.farm_draft.specs.declared.slot_change.SlotChange.{SlotChange}
 
 module _ {P X : Type 0} (put : P → X → X) where
   -- ---- what is read at a place
@@ -27,6 +30,13 @@ module _ {P X : Type 0} (put : P → X → X) where
   -- the row with what is laid over it, where there is one
   pub laid_is : (over : ℕ → Option P) (xs : List X) (i : ℕ) (x : X) (o : Option P) → slice_get xs i ≡ Some x → over i ≡ o → slice_get (laid put over xs) i ≡ Some (row_over put o x)
   laid_is over xs i x o at is = slice_get-laid over xs i ∙ (ap (option_map (row_over put (over i))) at ∙ ap (λ (p : Option P). Some (row_over put p x)) is)
+
+  under_none : (o : Option X) → option_map (row_over put None) o ≡ o
+  under_none None = refl
+  under_none (Some x) = refl
+
+  pub laid_under : (over : ℕ → Option P) (xs : List X) (i : ℕ) → over i ≡ None → slice_get (laid put over xs) i ≡ slice_get xs i
+  laid_under over xs i none = slice_get-laid over xs i ∙ (ap (λ (o : Option P). option_map (row_over put o) (slice_get xs i)) none ∙ under_none (slice_get xs i))
 
   pub laid_past : (over : ℕ → Option P) (xs : List X) (i : ℕ) → slice_get xs i ≡ None → slice_get (laid put over xs) i ≡ None
   laid_past over xs i past = slice_get-laid over xs i ∙ ap (option_map (row_over put (over i))) past
@@ -114,8 +124,8 @@ module _ {P X : Type 0} (put : P → X → X) where
   length-laid n over [] = refl
   length-laid n over (x ∷ xs) = ap suc (length-laid (suc n) over xs)
 
--- a whole row that is put in is set
-pub changed_at-whole : {X : Type 0} (xs : List X) (k : ℕ) (y : X) → changed_at xs k (whole y) ≡ slice_set xs k y
-changed_at-whole [] k y = refl
-changed_at-whole (x ∷ xs) zero y = refl
-changed_at-whole {X} (x ∷ xs) (suc k) y = changed_at_suc x xs k (whole y) ∙ ap (λ (ys : List X). x ∷ ys) (changed_at-whole xs k y)
+-- a row that takes another one's place is set
+pub changed_at-row : (slots : List SlotRow) (k : ℕ) (c : SlotChange) → changed_at slots k (put_row c) ≡ slice_set slots k c.row
+changed_at-row [] k c = refl
+changed_at-row (s ∷ ss) zero c = refl
+changed_at-row (s ∷ ss) (suc k) c = changed_at_suc s ss k (put_row c) ∙ ap (λ (ys : List SlotRow). s ∷ ys) (changed_at-row ss k c)

@@ -1,10 +1,10 @@
 -- Rows that are put in one after another, and the same rows laid over the list.
-use Rattle.std.proofs.Common.{◌≡◌, ◌≢◌, ◌⊎◌, inl, inr, ℕ, zero, suc, ◌+◌, ◌<◌, Bool, true, false, List, [], ◌∷◌, ◌++◌, length, Option, None, Some, slice_get, slice_set, All, nat_eq, eqb, refl, sym, ap, subst, ◌∙◌, append_assoc, arith}
+use Rattle.std.proofs.Common.{◌≡◌, ◌≢◌, ◌⊎◌, inl, inr, ℕ, zero, suc, ◌+◌, ◌<◌, Bool, true, false, List, [], ◌∷◌, ◌++◌, length, Option, None, Some, slice_get, slice_set, All, nat_eq, eqb, refl, sym, ap, subst, ◌∙◌, append_assoc, map, arith}
 use Rattle.std.specs.Cmp.{nat_eq_equiv}
 use Rattle.std.specs.List.{AllByRecursion, IsDistinct}
 use Rattle.std.specs.Map.{keys_of, lookup}
-use Rattle.std.proofs.lemmas.List.{append-nil}
-use Rattle.std.proofs.lemmas.List.Elements.{All-head, All-tail, All-nil, All-push, All-weaker, All-contains_itself}
+use Rattle.std.proofs.lemmas.List.{append-nil, map-append}
+use Rattle.std.proofs.lemmas.List.Elements.{All-cons, All-head, All-tail, All-nil, All-push, All-weaker, All-contains_itself}
 use Rattle.std.proofs.lemmas.Map.{lookup-none}
 use Rattle.std.proofs.lemmas.Map.Entries.{lookup_head, lookup_tail, none_past_head}
 use Rattle.std.proofs.lemmas.Map.Keys.{IsDistinct-cons, IsDistinct-head, IsDistinct-tail}
@@ -23,10 +23,11 @@ use Rattle.host_book.specs.Life.{with_life}
 use Rattle.host_book.specs.declared.life.HostLife.{HostLife}
 use Rattle.job_book.specs.Book.{IsSameFrame, KeepsFrame}
 use Rattle.farm_draft.specs.Ends.{IsEndOf, OnlyEnds}
-use Rattle.farm_draft.specs.Laid.{laid, laid_from, row_over, whole}
-use Rattle.farm_draft.proofs.LaidRows.{changed_at-whole, laid_alike, laid_is, laid_none}
+use Rattle.farm_draft.specs.Laid.{laid, laid_from, row_over}
+use Rattle.farm_draft.proofs.LaidRows.{changed_at-row, laid_alike, laid_is, laid_none}
 use Rattle.farm_books.specs.Install.{MayBegin}
-use Rattle.farm_draft.specs.Rows.{AreInstallable, HasOtherLife, HasSameLife, IsChanged, IsOtherLife, IsOtherRow, IsSameRow, put_lives, put_slots}
+use Rattle.farm_draft.specs.Rows.{AreChangesOf, AreInstallable, ArePicked, HasOtherLife, HasSameLife, IsChanged, IsChangeOf, IsOtherLife, Stood, put_lives, put_row, put_slots, slot_of}
+use Rattle.farm_draft.specs.declared.slot_change.SlotChange.{SlotChange}
 
 -- ---- rows laid over a list
 
@@ -51,9 +52,14 @@ abbrev pub put_all : {P X : Type 0} → (P → X → X) → List X → List (ℕ
 put_all put xs [] = xs
 put_all put xs (e ∷ es) = put_all put (changed_at xs e.0 (put e.1)) es
 
-pub put_slots_all : (slots : List SlotRow) (es : List (ℕ × SlotRow)) → put_slots slots es ≡ put_all whole slots es
+-- a change by its slot's number
+abbrev pub numbered : SlotChange → ℕ × SlotChange
+numbered c = (c.slot, c)
+
+put_slots_all : (slots : List SlotRow) (cs : List SlotChange) → put_slots slots cs ≡ put_all put_row slots (map numbered cs)
 put_slots_all slots [] = refl
-put_slots_all slots (e ∷ es) = put_slots_all (slice_set slots e.0 e.1) es ∙ ap (λ (ys : List SlotRow). put_all whole ys es) (sym (changed_at-whole slots e.0 e.1))
+put_slots_all slots (c ∷ cs) =
+    put_slots_all (slice_set slots c.slot c.row) cs ∙ ap (λ (ys : List SlotRow). put_all put_row ys (map numbered cs)) (sym (changed_at-row slots c.slot c))
 
 pub put_lives_all : (hosts : List HostRow) (es : List (ℕ × HostLife)) → put_lives hosts es ≡ put_all with_life hosts es
 put_lives_all hosts [] = refl
@@ -160,15 +166,8 @@ module _ {P X : Type 0} (put : P → X → X) (xs : List X) (Q : ℕ × P → Ty
 
 -- ---- entries that change nothing, and others
 
-pub idle_row : (slots : List SlotRow) (e : ℕ × SlotRow) → IsSameRow (slice_get slots e.0) e.1 → IsIdle whole slots e
-idle_row slots e same x at = sym (subst (λ (o : Option SlotRow). IsSameRow o e.1) at same)
-
 pub idle_life : (hosts : List HostRow) (e : ℕ × HostLife) → HasSameLife (slice_get hosts e.0) e.1 → IsIdle with_life hosts e
 idle_life hosts e same x at = subst (λ (l : HostLife). with_life l x ≡ x) (subst (λ (o : Option HostRow). HasSameLife o e.1) at same) refl
-
-pub other_row : (o : Option SlotRow) (row : SlotRow) → (IsSameRow o row → ⊥) → IsOtherRow o row
-other_row None row differs = absurd (differs tt)
-other_row (Some old) row differs = differs
 
 pub other_life : (o : Option HostRow) (life : HostLife) → (HasSameLife o life → ⊥) → HasOtherLife o life
 other_life None life differs = absurd (differs tt)
@@ -191,31 +190,31 @@ same_frame (Some f) None y p q = absurd p
 same_frame (Some f) (Some g) None p q = absurd q
 same_frame (Some f) (Some g) (Some h) p q = q ∙ ap (λ (z : Frame). record z { state = h.state; retries = h.retries }) (sym p)
 
--- the entry's row has the frame that stands in its slot, and no attempt
-abbrev IsEnding : List SlotRow → ℕ × SlotRow → Type 0
-IsEnding slots e = KeepsFrame (slice_get slots e.0) e.1 × (e.1.proc ≡ None)
+-- the row has the frame that stands in its slot, and no attempt
+abbrev IsEnding : List SlotRow → SlotChange → Type 0
+IsEnding slots c = KeepsFrame (slice_get slots c.slot) c.row × (c.row.proc ≡ None)
 
 kept_here : (slots : List SlotRow) (k : ℕ) (row next : SlotRow) (o : Option SlotRow) → slice_get slots k ≡ o → KeepsFrame o row → KeepsFrame o next → KeepsFrame (slice_get (slice_set slots k row) k) next
 kept_here slots k row next None at p q = absurd p
 kept_here slots k row next (Some x) at p q = subst (λ (o : Option SlotRow). KeepsFrame o next) (sym (slice_get-set_same slots k x row at)) (same_frame x.frame row.frame next.frame p q)
 
 -- a row that has the frame of its slot still has it after another such row was put in
-kept_next : (slots : List SlotRow) (d e : ℕ × SlotRow) → KeepsFrame (slice_get slots d.0) d.1 → KeepsFrame (slice_get slots e.0) e.1 → KeepsFrame (slice_get (slice_set slots d.0 d.1) e.0) e.1
-kept_next slots d e p q = by (eqb_tells e.0 d.0)
+kept_next : (slots : List SlotRow) (d e : SlotChange) → KeepsFrame (slice_get slots d.slot) d.row → KeepsFrame (slice_get slots e.slot) e.row → KeepsFrame (slice_get (slice_set slots d.slot d.row) e.slot) e.row
+kept_next slots d e p q = by (eqb_tells e.slot d.slot)
   where
-    by : ((eqb e.0 d.0 ≡ true) × (e.0 ≡ d.0)) ⊎ ((eqb e.0 d.0 ≡ false) × (e.0 ≢ d.0)) → KeepsFrame (slice_get (slice_set slots d.0 d.1) e.0) e.1
+    by : ((eqb e.slot d.slot ≡ true) × (e.slot ≡ d.slot)) ⊎ ((eqb e.slot d.slot ≡ false) × (e.slot ≢ d.slot)) → KeepsFrame (slice_get (slice_set slots d.slot d.row) e.slot) e.row
     by (inl h) =
-        subst (λ (k : ℕ). KeepsFrame (slice_get (slice_set slots d.0 d.1) k) e.1) (sym h.1)
-        (kept_here slots d.0 d.1 e.1 (slice_get slots d.0) refl p (subst (λ (k : ℕ). KeepsFrame (slice_get slots k) e.1) h.1 q))
-    by (inr h) = subst (λ (o : Option SlotRow). KeepsFrame o e.1) (sym (slice_get-set_other slots d.0 e.0 d.1 h.1)) q
+        subst (λ (k : ℕ). KeepsFrame (slice_get (slice_set slots d.slot d.row) k) e.row) (sym h.1)
+        (kept_here slots d.slot d.row e.row (slice_get slots d.slot) refl p (subst (λ (k : ℕ). KeepsFrame (slice_get slots k) e.row) h.1 q))
+    by (inr h) = subst (λ (o : Option SlotRow). KeepsFrame o e.row) (sym (slice_get-set_other slots d.slot e.slot d.row h.1)) q
 
-installable : (subs : List SubRow) (slots : List SlotRow) (es : List (ℕ × SlotRow)) → All (IsEnding slots) es → AreInstallable subs slots es
+installable : (subs : List SubRow) (slots : List SlotRow) (cs : List SlotChange) → All (IsEnding slots) cs → AreInstallable subs slots cs
 installable subs slots [] all = tt
-installable subs slots (e ∷ es) all =
-    let first = All-head (IsEnding slots) e es all in (
-      record { keeps = first.0; begins = subst (MayBegin subs slots e.0) (sym first.1) tt },
-      installable subs (slice_set slots e.0 e.1) es
-          (All-weaker (IsEnding slots) (IsEnding (slice_set slots e.0 e.1)) (λ d rest. (kept_next slots e d first.0 rest.0, rest.1)) es (All-tail (IsEnding slots) e es all)),
+installable subs slots (c ∷ cs) all =
+    let first = All-head (IsEnding slots) c cs all in (
+      record { keeps = first.0; begins = subst (MayBegin subs slots c.slot) (sym first.1) tt },
+      installable subs (slice_set slots c.slot c.row) cs
+          (All-weaker (IsEnding slots) (IsEnding (slice_set slots c.slot c.row)) (λ d rest. (kept_next slots c d first.0 rest.0, rest.1)) cs (All-tail (IsEnding slots) c cs all)),
     )
 
 -- where attempts only end, a row that differs ends one
@@ -223,14 +222,82 @@ ending_by : (x old new : SlotRow) (same : Bool) → x ≡ old → x ≢ new → 
 ending_by x old new true one other end = absurd (other (one ∙ sym end))
 ending_by x old new false one other end = subst (λ (s : SlotRow). IsSameFrame s.frame new.frame × (new.proc ≡ None)) (sym one) end
 
-ending_at : (slots : List SlotRow) (over : ℕ → Option SlotRow) → OnlyEnds slots (laid whole over slots) → (k : ℕ) (new : SlotRow) (o : Option SlotRow) → slice_get slots k ≡ o → over k ≡ Some new → IsOtherRow o new → KeepsFrame o new × (new.proc ≡ None)
-ending_at slots over ends k new None at is other = absurd other
-ending_at slots over ends k new (Some x) at is other =
-    let end = ends k new (laid_is whole over slots k x (Some new) at is) in
-    ending_by x end.0 new end.2.0 (same_Some x end.0 (sym at ∙ end.1)) other end.2.1
+module _ (slots : List SlotRow) (over : ℕ → Option SlotChange) (changes : AreChangesOf slots over) where
+  stood_over : (c : SlotChange) → over c.slot ≡ Some c → Stood slots c
+  stood_over c at = (changes c.slot c at).stood
 
--- where attempts only end in what is laid over the slots, the entries that differ may be put in, in turn
-pub slots_ready : (subs : List SubRow) (slots : List SlotRow) (all es : List (ℕ × SlotRow)) → OnlyEnds slots (laid whole (λ k. lookup (nat_eq k) all) slots) → All (IsChanged slots) es → All (IsAt all) es → AreInstallable subs slots es
-slots_ready subs slots all es ends differ at =
-    installable subs slots es
-    (All-weaker (λ e. IsChanged slots e × IsAt all e) (IsEnding slots) (λ e both. ending_at slots (λ k. lookup (nat_eq k) all) ends e.0 e.1 (slice_get slots e.0) refl both.1 both.0) es (λ k d within. (differ k d within, at k d within)))
+  ending_at : OnlyEnds slots (laid put_row over slots) → (c : SlotChange) → over c.slot ≡ Some c → IsChanged c → IsEnding slots c
+  ending_at ends c at other =
+      let stood = stood_over c at in
+      let end = ends c.slot c.row (laid_is put_row over slots c.slot c.was (Some c) stood at) in
+      let both = ending_by c.was end.0 c.row end.2.0 (same_Some c.was end.0 (sym stood ∙ end.1)) other end.2.1 in
+      (subst (λ (o : Option SlotRow). KeepsFrame o c.row) (sym stood) both.0, both.1)
+
+  module _ (cs : List SlotChange) (picked : ArePicked slots over cs) where
+    -- the changes are of the rows that stand in their slots
+    pub slots_stood : All (Stood slots) cs
+    slots_stood = All-weaker (λ c. over c.slot ≡ Some c) (Stood slots) stood_over cs picked.over_are
+
+    -- where attempts only end in what is laid over the slots, the rows may be put in, in turn
+    pub slots_ready : (subs : List SubRow) → OnlyEnds slots (laid put_row over slots) → AreInstallable subs slots cs
+    slots_ready subs ends =
+        installable subs slots cs
+        (All-weaker (λ c. IsChanged c × (over c.slot ≡ Some c)) (IsEnding slots) (λ c both. ending_at ends c both.1 both.0) cs (λ k d within. (picked.differ k d within, picked.over_are k d within)))
+
+-- ---- one change more
+
+pub changes_more : (slots : List SlotRow) (over next : ℕ → Option SlotChange) (k : ℕ) (c : SlotChange) → AreChangesOf slots over → next k ≡ Some c → ((j : ℕ) → nat_eq k j ≡ false → next j ≡ over j) → IsChangeOf slots k c
+    → AreChangesOf slots next
+changes_more slots over next k c changes is same one n d at = by (eqb_tells k n)
+  where
+    by : ((eqb k n ≡ true) × (k ≡ n)) ⊎ ((eqb k n ≡ false) × (k ≢ n)) → IsChangeOf slots n d
+    by (inl h) = subst (λ (m : ℕ). IsChangeOf slots m d) h.1 (subst (IsChangeOf slots k) (same_Some c d (sym is ∙ (ap next h.1 ∙ at))) one)
+    by (inr h) = changes n d (sym (same n h.0) ∙ at)
+
+-- ---- the changes that are picked
+
+unmapped : {X Y : Type 0} (P : Y → Type 0) (f : X → Y) (xs : List X) → All P (map f xs) → All (λ x. P (f x)) xs
+unmapped P f [] all = All-nil _
+unmapped P f (x ∷ xs) all = All-cons (λ y. P (f y)) x xs (All-head P (f x) (map f xs) all) (unmapped P f xs (All-tail P (f x) (map f xs) all))
+
+numbers : (cs : List SlotChange) → map slot_of cs ≡ keys_of (map numbered cs)
+numbers [] = refl
+numbers (c ∷ cs) = ap (λ (ns : List ℕ). c.slot ∷ ns) (numbers cs)
+
+module _ (slots : List SlotRow) (all : List (ℕ × SlotChange)) (changes : AreChangesOf slots (λ k. lookup (nat_eq k) all)) where
+  abbrev is_other : ℕ × SlotChange → Type 0
+  is_other e = IsChanged e.1
+
+  -- those that were kept, with those that are left, come to what all come to
+  abbrev pub Picks : List SlotChange → List (ℕ × SlotChange) → Type 0
+  Picks cs left = IsPicked put_row slots is_other all (map numbered cs) left
+
+  first_of : (cs : List SlotChange) (left : List (ℕ × SlotChange)) (e : ℕ × SlotChange) (rest : List (ℕ × SlotChange)) → left ≡ e ∷ rest → Picks cs left → IsChangeOf slots e.0 e.1
+  first_of cs left e rest first picked =
+      changes e.0 e.1 (All-head (IsAt all) e rest (subst (All (IsAt all)) first picked.left))
+
+  pub picks_none : (cs : List SlotChange) (left : List (ℕ × SlotChange)) → cs ≡ [] → left ≡ all → IsDistinct nat_eq (keys_of all) → Picks cs left
+  picks_none cs left none each distinct = picked_none put_row slots is_other all (map numbered cs) left (ap (map numbered) none) each distinct
+
+  pub picks_more : (cs next : List SlotChange) (left : List (ℕ × SlotChange)) (e : ℕ × SlotChange) (rest : List (ℕ × SlotChange)) → left ≡ e ∷ rest → next ≡ cs ++ record { slot = e.0; was = e.1.was; row = e.1.row } ∷ [] → Picks cs left → IsChanged e.1 → Picks next rest
+  picks_more cs next left e rest first pushed picked other =
+      let kept : SlotChange = record { slot = e.0; was = e.1.was; row = e.1.row } in
+      let same : numbered kept ≡ e = ap (λ (n : ℕ). (e.0, record { slot = n; was = e.1.was; row = e.1.row })) (sym (first_of cs left e rest first picked).slot_is) in
+      let more : map numbered next ≡ map numbered cs ++ e ∷ [] =
+      ap (map numbered) pushed ∙ map-append numbered cs (kept ∷ []) ∙ ap (λ (d : ℕ × SlotChange). map numbered cs ++ d ∷ []) same in
+      picked_more put_row slots is_other all (map numbered cs) left (map numbered next) e rest first more picked other
+
+  pub picks_past : (cs : List SlotChange) (left : List (ℕ × SlotChange)) (e : ℕ × SlotChange) (rest : List (ℕ × SlotChange)) → left ≡ e ∷ rest → Picks cs left → e.1.was ≡ e.1.row → Picks cs rest
+  picks_past cs left e rest first picked idle =
+      let of = first_of cs left e rest first picked in
+      picked_past put_row slots is_other all (map numbered cs) left e rest first picked
+      (λ x at. sym idle ∙ same_Some e.1.was x (sym of.stood ∙ (ap (slice_get slots) of.slot_is ∙ at)))
+
+  pub picks_all : (cs : List SlotChange) (left : List (ℕ × SlotChange)) → left ≡ [] → IsDistinct nat_eq (keys_of all) → Picks cs left → ArePicked slots (λ k. lookup (nat_eq k) all) cs
+  picks_all cs left none distinct picked =
+      record {
+        same = put_slots_all slots cs ∙ picked_all put_row slots is_other all (map numbered cs) left none picked distinct;
+        differ = unmapped is_other numbered cs picked.differ;
+        over_are = unmapped (IsAt all) numbered cs picked.at;
+        distinct = subst (IsDistinct nat_eq) (sym (numbers cs)) (picked_distinct put_row slots is_other all (map numbered cs) left none picked);
+      }

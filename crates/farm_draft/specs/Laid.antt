@@ -13,7 +13,3 @@ laid_from put n over (x ∷ xs) = row_over put (over n) x ∷ laid_from put (suc
 
 abbrev pub laid : {P X : Type 0} → (P → X → X) → (ℕ → Option P) → List X → List X
 laid put over xs = laid_from put 0 over xs
-
--- a row that takes another one's place
-abbrev pub whole : {X : Type 0} → X → X → X
-whole y x = y

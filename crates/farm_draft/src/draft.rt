@@ -1,12 +1,14 @@
 //! The draft, and its rows of hosts and slots.
 
-ghost use Rattle.std.specs.Prelude.{◌≡◌, ◌≤◌, length, nat_eq, slice_get, option_map, OnOk};
+ghost use Rattle.std.specs.Prelude.{◌≡◌, ◌≤◌, length, nat_eq, slice_get, option_map, IfSome, OnOk, Some};
 ghost use Rattle.indexmap.specs.IndexMap.{get};
 ghost use Rattle.farm_types.specs.Step.{at_moment};
 ghost use Rattle.farm_types.specs.declared.limits.TheConstants.{MOST_HOSTS};
 ghost use Rattle.host_book.specs.Life.{life_of};
 ghost use Rattle.farm_draft.specs.Drafted.{with_host, with_slot};
+ghost use Rattle.farm_draft.specs.Rows.{IsChangeOf, row_of};
 
+use crate::slot_change::SlotChange;
 use farm_books::Books;
 use farm_types::{HostNo, Slot, SlotRow};
 use host_book::HostLife;
@@ -21,7 +23,7 @@ pub struct Draft<'a> {
     pub(crate) books: &'a Books,
     pub(crate) moment: u64,
     pub(crate) hosts: IndexMap<u32, HostLife>,
-    pub(crate) slots: IndexMap<u32, SlotRow>,
+    pub(crate) slots: IndexMap<u32, SlotChange>,
 }
 
 impl<'a> Model for Draft<'a> {
@@ -29,9 +31,11 @@ impl<'a> Model for Draft<'a> {
 
     ghost Value = { types.Drafted };
 
-    ghost use Rattle.farm_draft.specs.Inside.{drafted_of};
+    ghost use Rattle.farm_draft.specs.Inside.{drafted_of, KeepsChanges};
 
     ghost view = { drafted_of };
+
+    ghost invariant = { KeepsChanges };
 }
 
 impl<'a> Draft<'a> {
@@ -66,14 +70,14 @@ impl<'a> Draft<'a> {
         }
     }
 
-    /// What stands in a slot.
-    pub fn slot(&self, slot: Slot) -> Option<SlotRow>
-        ensures { result ≡ slice_get self.now.farm.slots slot }
+    /// What stands in a slot, beside the row that the books have of it.
+    pub fn slot(&self, slot: Slot) -> Option<SlotChange>
+        ensures row { option_map row_of result ≡ slice_get self.now.farm.slots slot }
+        ensures is { IfSome result (IsChangeOf self.now.base.slots slot) }
     {
-        let row = self.books.slot(slot)?;
-        match row_over(&self.slots, slot.0) {
+        match change_over(&self.slots, slot.0) {
             Some(over) => Some(over),
-            None => Some(row),
+            None => unchanged(self.books, slot),
         }
     }
 
@@ -85,10 +89,12 @@ impl<'a> Draft<'a> {
         Ok(())
     }
 
-    /// The slot holds that row.
-    pub fn set_slot(&mut self, slot: Slot, row: SlotRow) -> Result<(), AllocError>
+    /// The slot holds that row, where the books have the other one.
+    pub fn set_slot(&mut self, slot: Slot, was: &SlotRow, row: SlotRow) -> Result<(), AllocError>
+        requires { slice_get self.old.base.slots slot ≡ Some was.now }
         ensures { OnOk result (self.new ≡ with_slot self.old slot row) }
     {
+        let was = *was;
         // In its parts, since the check of the insertion asks for their types.
         let SlotRow {
             version,
@@ -97,10 +103,14 @@ impl<'a> Draft<'a> {
         } = row;
         self.slots.insert(
             slot.0,
-            SlotRow {
-                version,
-                frame,
-                proc,
+            SlotChange {
+                slot,
+                was,
+                row: SlotRow {
+                    version,
+                    frame,
+                    proc,
+                },
             },
         )?;
         Ok(())
@@ -114,9 +124,21 @@ fn life_over(hosts: &IndexMap<u32, HostLife>, host: u32) -> Option<HostLife>
     hosts.get(&host).copied()
 }
 
-// The row that is laid over a slot's.
-fn row_over(slots: &IndexMap<u32, SlotRow>, slot: u32) -> Option<SlotRow>
+// The change that is laid over a slot.
+fn change_over(slots: &IndexMap<u32, SlotChange>, slot: u32) -> Option<SlotChange>
     ensures { result ≡ get nat_eq slots.now slot }
 {
     slots.get(&slot).copied()
+}
+
+// The slot as the books have it.
+fn unchanged(books: &Books, slot: Slot) -> Option<SlotChange>
+    ensures row { option_map row_of result ≡ slice_get books.now.farm.slots slot }
+    ensures is { IfSome result (IsChangeOf books.now.farm.slots slot) }
+{
+    let Some(was) = books.slot(slot) else {
+        return None;
+    };
+    let row = was;
+    Some(SlotChange { slot, was, row })
 }

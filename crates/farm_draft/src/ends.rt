@@ -26,16 +26,16 @@ impl<'a> Draft<'a> {
         ensures { OnOk result (self.new ≡ with_farm self.old (end_attempt self.old.farm host boot item.now)) }
     {
         let slot = item.attempt.slot;
-        let Some(row) = self.slot(slot) else {
+        let Some(change) = self.slot(slot) else {
             return Ok(());
         };
-        let Some(live) = &row.proc else {
+        let Some(live) = &change.row.proc else {
             return Ok(());
         };
         if !is_attempt(host, boot, item.attempt.version, live) {
             return Ok(());
         }
         let books = self.books;
-        self.set_slot(slot, ended_row(books, item.exit, &row))
+        self.set_slot(slot, &change.was, ended_row(books, item.exit, &change.row))
     }
 }

@@ -40,13 +40,17 @@ impl<'a> Draft<'a> {
     fn kill_one(&mut self, job: JobNo, slot: Slot) -> Result<(), AllocError>
         ensures { OnOk result (self.new ≡ with_slots self.old (changed_at self.old.farm.slots slot (killed_row job))) }
     {
-        let Some(row) = self.slot(slot) else {
+        let Some(change) = self.slot(slot) else {
             return Ok(());
         };
-        if !is_left_of(job, &row) {
+        if !is_left_of(job, &change.row) {
             return Ok(());
         }
-        self.set_slot(slot, stopped_row(&row, FrameState::Eaten))
+        self.set_slot(
+            slot,
+            &change.was,
+            stopped_row(&change.row, FrameState::Eaten),
+        )
     }
 }
 

@@ -7,9 +7,11 @@ mod killed;
 mod life;
 mod loses;
 mod rows;
+mod slot_change;
 mod stopped;
 mod verdict;
 
 pub use draft::Draft;
 pub use rows::Rows;
+pub use slot_change::SlotChange;
 pub use stopped::{retried_row, stopped_row};

@@ -47,16 +47,16 @@ impl<'a> Draft<'a> {
     fn lose_one(&mut self, slot: Slot, host: HostNo) -> Result<(), AllocError>
         ensures { OnOk result (self.new ≡ with_slots self.old (changed_at self.old.farm.slots slot (lost_where (λ n. n == host)))) }
     {
-        let Some(row) = self.slot(slot) else {
+        let Some(change) = self.slot(slot) else {
             return Ok(());
         };
-        let Some(live) = &row.proc else {
+        let Some(live) = &change.row.proc else {
             return Ok(());
         };
         if live.host != host {
             return Ok(());
         }
-        self.set_slot(slot, lost_row(&row))
+        self.set_slot(slot, &change.was, lost_row(&change.row))
     }
 
     // The host goes down, if it is silent at the draft's moment, and the attempts on it are lost.

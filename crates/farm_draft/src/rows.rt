@@ -1,26 +1,28 @@
 //! The rows that a draft has changed.
 
-ghost use Rattle.std.specs.Prelude.{◌≡◌, ◌↔◌, [], map, nat_eq, slice_get, Some, All, IfOk, IsTrue};
+ghost use Rattle.std.specs.Prelude.{◌≡◌, ◌↔◌, [], List, map, nat_eq, slice_get, All, IfOk, IsTrue};
 ghost use Rattle.std.specs.List.{IsDistinct};
 ghost use Rattle.indexmap.specs.IndexMap.{get};
 ghost use Rattle.host_book.specs.Life.{with_life};
-ghost use Rattle.farm_draft.specs.Laid.{laid, whole};
+ghost use Rattle.farm_draft.specs.Laid.{laid};
+ghost use Rattle.farm_types.specs.declared.slot_row.SlotRow.{SlotRow};
 ghost use Rattle.farm_types.specs.Step.{at_moment};
 ghost use Rattle.farm_draft.specs.Ends.{OnlyEnds};
-ghost use Rattle.farm_draft.specs.Rows.{AreReady, HasSameLife, IsChanged, IsOtherLife, IsSameRow, installed, put_lives, put_slots, slot_of};
+ghost use Rattle.farm_draft.specs.Rows.{AreChangesOf, AreReady, ArePicked, HasSameLife, IsChanged, IsOtherLife, installed, put_lives, slot_of};
 
 use crate::draft::Draft;
+use crate::slot_change::SlotChange;
 use farm_books::Books;
-use farm_types::{HostNo, Slot, SlotRow};
+use farm_types::{HostNo, Slot};
 use host_book::HostLife;
 use indexmap::IndexMap;
 use std::alloc::{AllocError, Global};
 
-/// Rows that differ from those of the books: lives of hosts and slots, each with its number.
+/// Rows that differ from those of the books: lives of hosts, each with its number, and changes of slots.
 #[derive(Debug, Drop)]
 pub struct Rows {
     pub hosts: Vec<(u32, HostLife)>,
-    pub slots: Vec<(u32, SlotRow)>,
+    pub slots: Vec<SlotChange>,
 }
 
 impl Rows {
@@ -43,13 +45,13 @@ impl<'a> Draft<'a> {
         requires { OnlyEnds self.base.slots self.farm.slots }
         ensures farm { IfOk result (λ rows. installed (at_moment self.entry.base self.entry.moment) rows ≡ self.entry.farm) }
         ensures ready { IfOk result (λ rows. AreReady self.entry.base rows) }
-        ensures differ { IfOk result (λ rows. All (IsChanged self.entry.base.slots) rows.slots.items
+        ensures differ { IfOk result (λ rows. All IsChanged rows.slots.items
             × All (IsOtherLife self.entry.base.hosts) rows.hosts.items) }
     {
         let books = self.books;
         Ok(Rows {
             hosts: changed_lives(alloc, books, self.hosts)?,
-            slots: changed_slots(alloc, books, self.slots)?,
+            slots: changed_slots(alloc, self.slots)?,
         })
     }
 }
@@ -73,35 +75,27 @@ fn changed_lives(
     Ok(entries)
 }
 
-// The rows that differ from those of the books' slots.
+// The changes that give their slots other rows.
 fn changed_slots(
     alloc: Global,
-    books: &Books,
-    over: IndexMap<u32, SlotRow>,
-) -> Result<Vec<(u32, SlotRow)>, AllocError>
-    ensures all { IfOk result (λ entries. put_slots books.now.farm.slots entries.items ≡ laid whole (get nat_eq over) books.now.farm.slots) }
-    ensures differ { IfOk result (λ entries. All (IsChanged books.now.farm.slots) entries.items) }
-    ensures over { IfOk result (λ entries. All (λ e. get nat_eq over e.0 ≡ Some e.1) entries.items) }
-    ensures numbers { IfOk result (λ entries. IsDistinct nat_eq (map slot_of entries.items)) }
+    over: IndexMap<u32, SlotChange>,
+) -> Result<Vec<SlotChange>, AllocError>
+    ensures { IfOk result (λ changes. (slots : List SlotRow) → AreChangesOf slots (get nat_eq over) → ArePicked slots (get nat_eq over) changes.items) }
 {
-    let mut entries = Vec::new(alloc);
-    for (slot, row) in over {
-        if is_same_row(books, slot, &row) {
+    let mut changes = Vec::new(alloc);
+    for (slot, change) in over {
+        if change.changes_nothing() {
             continue;
         }
-        entries.push((slot, row))?;
+        // In its parts, since the check of the push asks for their types.
+        let SlotChange { slot: _, was, row } = change;
+        changes.push(SlotChange {
+            slot: Slot(slot),
+            was,
+            row,
+        })?;
     }
-    Ok(entries)
-}
-
-// Whether the slot isn't there, or holds that row.
-fn is_same_row(books: &Books, slot: u32, row: &SlotRow) -> bool
-    ensures { IsTrue result ↔ IsSameRow (slice_get books.now.farm.slots slot) row.now }
-{
-    match books.slot(Slot(slot)) {
-        None => true,
-        Some(old) => old == *row,
-    }
+    Ok(changes)
 }
 
 // Whether the host isn't there, or has that life.

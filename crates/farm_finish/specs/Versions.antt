@@ -7,13 +7,14 @@ use Rattle.farm_types.specs.Settle.{raised}
 use Rattle.farm_rows.specs.declared.farm_row.FarmRow.TheVariants as row
 use Rattle.farm_rows.specs.declared.row_change.RowChange.{RowChange}
 use Rattle.farm_rows.specs.declared.row_change.RowChange.TheVariants as change
-use Rattle.farm_draft.specs.Rows.{put_slots, slot_of}
+use Rattle.farm_draft.specs.Rows.{Stood, put_slots, slot_of}
+use Rattle.farm_draft.specs.declared.slot_change.SlotChange.{SlotChange}
 use Rattle.farm_finish.specs.Gone.{version_in}
 use Rattle.farm_finish.specs.declared.rows_job.Done.{Done}
 
--- the slots are there, and no slot has two rows
-pub record AreSet (slots : List SlotRow) (rows : List (ℕ × SlotRow)) : Type 0 where
-  pub there : All (λ (e : ℕ × SlotRow). e.0 < length slots) rows
+-- the rows take the place of those that stand in the slots, and no slot has two rows
+pub record AreSet (slots : List SlotRow) (rows : List SlotChange) : Type 0 where
+  pub stood : All (Stood slots) rows
   pub differ : IsDistinct nat_eq (map slot_of rows)
 
 -- the version that is laid for a slot, or that of its row
@@ -22,7 +23,7 @@ version_or None row = version_in row
 version_or (Some version) row = version
 
 -- these are laid over the slots where those rows are put in
-abbrev pub AreLaid : List SlotRow → List (ℕ × SlotRow) → (ℕ → Option ℕ) → Type 0
+abbrev pub AreLaid : List SlotRow → List SlotChange → (ℕ → Option ℕ) → Type 0
 AreLaid slots rows over = (n : ℕ) → version_or (over n) (slice_get slots n) ≡ version_in (slice_get (put_slots slots rows) n)
 
 -- how many frames of the job were eaten, and how many succeeded

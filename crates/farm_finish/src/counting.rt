@@ -3,39 +3,29 @@
 ghost use Rattle.std.specs.Prelude.{◌≡◌, nat_eq, true, IfOk, OnOk};
 ghost use Rattle.indexmap.specs.IndexMap.{get};
 ghost use Rattle.depend_graph.specs.Trial.{IsFreed, IsLowered, count_or};
-ghost use Rattle.job_book.specs.Book.{has_frame, has_job};
-ghost use Rattle.farm_finish.specs.Closing.{HasItsJob, job_in, left_in};
+ghost use Rattle.job_book.specs.Book.{has_job};
+ghost use Rattle.farm_finish.specs.Closing.{left_in};
 
-use farm_types::{JobNo, Slot};
+use farm_types::JobNo;
 use indexmap::IndexMap;
 use job_book::Jobs;
 use std::alloc::AllocError;
 
-/// The frame in the slot is done: of its job one frame fewer is left, and the job is listed if that was the last one.
+/// A frame of the job is done: one frame fewer is left of it, and the job is listed if that was the last one.
 pub(crate) fn count_down(
     jobs: &Jobs,
     left: &mut IndexMap<u32, u64>,
     finished: &mut Vec<JobNo>,
-    slot: Slot,
+    job: JobNo,
 ) -> Result<(), AllocError>
-    requires { HasItsJob jobs.now slot }
-    ensures { OnOk result (IsFreed (job_in jobs.now.slots slot) (left_in (job_in jobs.now.slots slot) jobs.now.slots)
-        (get nat_eq left.old) (get nat_eq left.new) finished.old.items finished.new.items) }
+    requires { has_job jobs.now job ≡ true }
+    ensures { OnOk result (IsFreed job (left_in job jobs.now.slots) (get nat_eq left.old) (get nat_eq left.new) finished.old.items finished.new.items) }
 {
-    let job = job_in(jobs, slot);
     let before = lower(left, job, left_of(jobs, job))?;
     if before == 1 {
         finished.push(job)?;
     }
     Ok(())
-}
-
-// The job of the frame in the slot.
-fn job_in(jobs: &Jobs, slot: Slot) -> JobNo
-    requires { has_frame jobs.now slot ≡ true }
-    ensures { result ≡ job_in jobs.now.slots slot }
-{
-    jobs.frame(slot).job
 }
 
 // How many frames of the job aren't done.

@@ -4,16 +4,18 @@ ghost use Rattle.std.specs.Prelude.{◌≡◌, All, IfOk};
 ghost use Rattle.farm_types.specs.Rising.{IsRising, job_key};
 ghost use Rattle.farm_changes.specs.Change.{Makes, after_change};
 ghost use Rattle.farm_types.specs.Step.{finishing};
-ghost use Rattle.farm_depends.specs.Completing.{IsCompleting};
+ghost use Rattle.farm_draft.specs.Rows.{Stood};
+ghost use Rattle.farm_depends.specs.Completing.{IsCompleting, newly_done};
 ghost use Rattle.farm_books.specs.Books.{IsWhole};
 ghost use Rattle.farm_depends.specs.Follow.{Follows, after_follow};
-ghost use Rattle.farm_finish.specs.Closing.{HasItsJob, closing, finished_by};
+ghost use Rattle.farm_finish.specs.Closing.{HasItsJob, closing, finished_by, job_of};
 
 use crate::counting::count_down;
 use farm_books::Books;
 use farm_changes::Change;
-use farm_depends::Follow;
-use farm_types::{Act, Entry, Items, JobNo, Slot};
+use farm_depends::{Follow, completes};
+use farm_draft::SlotChange;
+use farm_types::{Act, Entry, Items, JobNo};
 use indexmap::IndexMap;
 use job_book::Jobs;
 use std::alloc::{AllocError, Global};
@@ -54,20 +56,35 @@ fn completed(
     requires completing { IsCompleting entry.now.act }
     ensures { IfOk result (λ jobs. jobs ≡ finishing (after_follow (after_change books.now.farm change.now) follow.now)) }
 {
-    finished_by(alloc, books.jobs(), follow.done.as_slice())
+    let _follow = follow;
+    finished_by(alloc, books.jobs(), change.slot_rows())
 }
 
-// The jobs of which no frame is left once these are done that weren't, in the order of their numbers.
-fn finished_by(alloc: Global, jobs: &Jobs, done: &[Slot]) -> Result<Items<JobNo>, AllocError>
+// The jobs of which no frame is left once the changes have completed frames, in the order of their numbers.
+fn finished_by(alloc: Global, jobs: &Jobs, rows: &[SlotChange]) -> Result<Items<JobNo>, AllocError>
     requires rise { IsRising job_key 1 jobs.now.jobs jobs.now.next_job }
-    requires there { All (HasItsJob jobs.now) done.now }
-    ensures { IfOk result (λ finished. finished ≡ finished_by jobs.now done.now) }
+    requires stood { All (Stood jobs.now.slots) rows.now }
+    requires there { All (HasItsJob jobs.now) (newly_done rows.now) }
+    ensures { IfOk result (λ finished. finished ≡ finished_by jobs.now (newly_done rows.now)) }
 {
     let mut left = IndexMap::new(alloc);
     let mut finished = Vec::new(alloc);
-    for slot in done {
-        count_down(jobs, &mut left, &mut finished, *slot)?;
+    for change in rows {
+        if !completes(change) {
+            continue;
+        }
+        count_down(jobs, &mut left, &mut finished, job_of(change))?;
     }
     finished.sort_unstable();
     Ok(Items::from_vec(finished))
+}
+
+// The job of the frame that stands in the slot, 0 where there is none.
+fn job_of(change: &SlotChange) -> JobNo
+    ensures { result ≡ job_of change.now.was.frame }
+{
+    match &change.was.frame {
+        None => JobNo(0),
+        Some(frame) => frame.job,
+    }
 }

@@ -27,8 +27,9 @@ use depend_book::Depends;
 use farm_books::Books;
 use farm_changes::Change;
 use farm_depends::Follow;
+use farm_draft::SlotChange;
 use farm_rows::RowChange;
-use farm_types::{Entry, JobNo, MOST_FINISHED, SlotRow, Version};
+use farm_types::{Entry, JobNo, MOST_FINISHED, Version};
 use indexmap::IndexMap;
 use job_book::Jobs;
 use std::alloc::{AllocError, Global};
@@ -72,7 +73,7 @@ fn each_job(
     alloc: Global,
     book: &Jobs,
     depends: &Depends,
-    rows: &[(u32, SlotRow)],
+    rows: &[SlotChange],
     jobs: &[JobNo],
 ) -> Result<Vec<RowChange>, AllocError>
     requires rows { AreSet book.now.slots rows.now }
@@ -151,7 +152,7 @@ fn add_job(
     alloc: Global,
     book: &Jobs,
     depends: &Depends,
-    rows: &[(u32, SlotRow)],
+    rows: &[SlotChange],
     versions: &IndexMap<u32, Version>,
     turn: Turn,
 ) -> Result<(), AllocError>

@@ -1,8 +1,7 @@
 //! The row of a job that finishes.
 
-ghost use Rattle.std.specs.Prelude.{◌≡◌, ◌==◌, ◌<◌, ◌++◌, ◌∷◌, [], if◌then◌else◌, true, find, length, slice_get, IfOk, OnOk, Some};
+ghost use Rattle.std.specs.Prelude.{◌≡◌, ◌==◌, ◌++◌, ◌∷◌, [], if◌then◌else◌, true, find, IfOk, OnOk, Some};
 ghost use Rattle.farm_types.specs.declared.rows.JobRow.{JobRow};
-ghost use Rattle.farm_types.specs.declared.slot_row.SlotRow.{SlotRow};
 ghost use Rattle.farm_types.specs.declared.states.JobState.TheVariants as job_state;
 ghost use Rattle.farm_types.specs.Finish.{has_succeeded, was_eaten};
 ghost use Rattle.farm_draft.specs.Rows.{put_slots};
@@ -10,6 +9,7 @@ ghost use Rattle.job_book.specs.Book.{has_job};
 ghost use Rattle.farm_finish.specs.Gone.{job_put};
 ghost use Rattle.farm_finish.specs.Versions.{AreSet, CanMove, done_in, moved_done};
 
+use farm_draft::SlotChange;
 use farm_rows::{FarmRow, RowChange};
 use farm_types::{FrameState, JobNo, JobRow, JobState, SlotRow};
 use job_book::Jobs;
@@ -27,7 +27,7 @@ pub(crate) fn put_job(
     changes: &mut Vec<RowChange>,
     alloc: Global,
     book: &Jobs,
-    rows: &[(u32, SlotRow)],
+    rows: &[SlotChange],
     job: JobNo,
     finish: u64,
 ) -> Result<(), AllocError>
@@ -67,15 +67,16 @@ fn finished(alloc: Global, row: &JobRow, finish: u64, done: Done) -> Result<JobR
 }
 
 // How many frames of the job are done once the rows are put in.
-fn done_after(book: &Jobs, rows: &[(u32, SlotRow)], job: JobNo) -> Done
+fn done_after(book: &Jobs, rows: &[SlotChange], job: JobNo) -> Done
     requires rows { AreSet book.now.slots rows.now }
     requires there { has_job book.now job ≡ true }
     ensures { result ≡ done_in job (put_slots book.now.slots rows.now) }
 {
-    let slots = book.slots();
+    // There are at most 65,536 slots, so that their frames can be counted.
+    let _slots = book.slots();
     let mut done = done_before(book, job);
-    for entry in rows {
-        done = moved_by(done, slots, entry, job);
+    for change in rows {
+        done = moved_by(done, change, job);
     }
     done
 }
@@ -92,24 +93,14 @@ fn done_before(book: &Jobs, job: JobNo) -> Done
     }
 }
 
-// The counts once the row is put into its slot.
-fn moved_by(done: Done, slots: &[SlotRow], entry: &(u32, SlotRow), job: JobNo) -> Done
-    requires within { entry.now.0 < length slots.now }
-    requires moves { (s : SlotRow) → slice_get slots.now entry.now.0 ≡ Some s → CanMove done (done_in job (s ∷ [])) (done_in job (entry.now.1 ∷ [])) }
-    ensures { (s : SlotRow) → slice_get slots.now entry.now.0 ≡ Some s → result ≡ moved_done done (done_in job (s ∷ [])) (done_in job (entry.now.1 ∷ [])) }
+// The counts once the slot has its row.
+fn moved_by(done: Done, change: &SlotChange, job: JobNo) -> Done
+    requires { CanMove done (done_in job (change.now.was ∷ [])) (done_in job (change.now.row ∷ [])) }
+    ensures { result ≡ moved_done done (done_in job (change.now.was ∷ [])) (done_in job (change.now.row ∷ [])) }
 {
-    let row = row_in_slot(slots, entry.0);
-    let old = done_of(&row, job);
-    let new = done_of(&entry.1, job);
+    let old = done_of(&change.was, job);
+    let new = done_of(&change.row, job);
     moved(done, old, new)
-}
-
-// The row of a slot.
-fn row_in_slot(slots: &[SlotRow], slot: u32) -> SlotRow
-    requires { slot < length slots.now }
-    ensures { slice_get slots.now slot ≡ Some result }
-{
-    slots[slot as usize]
 }
 
 // The counts with one slot's changed.

@@ -4,7 +4,8 @@ ghost use Rattle.std.specs.Prelude.{◌≡◌, ℕ, IfOk, OnOk, Some, nat_eq, sl
 ghost use Rattle.indexmap.specs.IndexMap.{get};
 ghost use Rattle.farm_finish.specs.Versions.{AreLaid, AreSet, version_or};
 
-use farm_types::{Slot, SlotRow, Version};
+use farm_draft::SlotChange;
+use farm_types::{Slot, Version};
 use indexmap::IndexMap;
 use job_book::Jobs;
 use std::alloc::{AllocError, Global};
@@ -13,15 +14,15 @@ use std::alloc::{AllocError, Global};
 pub(crate) fn versions_of(
     alloc: Global,
     book: &Jobs,
-    rows: &[(u32, SlotRow)],
+    rows: &[SlotChange],
 ) -> Result<IndexMap<u32, Version>, AllocError>
     requires { AreSet book.now.slots rows.now }
     ensures { IfOk result (λ versions. AreLaid book.now.slots rows.now (get nat_eq versions)) }
 {
     let _slots = book.slots();
     let mut versions = IndexMap::new(alloc);
-    for entry in rows {
-        lay(&mut versions, entry.0, entry.1.version)?;
+    for change in rows {
+        lay(&mut versions, change.slot.0, change.row.version)?;
     }
     Ok(versions)
 }

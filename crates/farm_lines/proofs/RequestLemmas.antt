@@ -28,7 +28,7 @@ use Rattle.farm_lines.specs.OperatorLines.{asks_pause, frame_at, frame_keys, fra
 use Rattle.farm_lines.specs.Points.{before_point, after_point}
 use Rattle.farm_lines.specs.Request.{LockLine, attempt_at, done_at, done_keys, report_at, report_keys, show_at, name_keys, alloc_parts, alloc_of_name, alloc_name_at, alloc_at, sub_form_at, sub_keys, boot_keys, lock_keys, sub_line_of, sub_line_at, boot_form_at, boot_line_of, boot_line_at, lock_line_at, tick_keys, drop_at, drop_keys, submit_keys, after_others, submit_at, asked, judged, asks_alloc, asks_kill, asks_lock, asks_tick, by_op, after_op, request_in, request_of}
 use Rattle.farm_lines.specs.Spec.{SpecError, Field, Range, Amount, form_first, number_at, tags_at, within, spec_at}
-use Rattle.farm_lines.specs.Asked.{IsFormedAsked, IsFormedAt, asked_of, heard_of}
+use Rattle.farm_lines.specs.Asked.{IsFormedAsked, IsFormedAt, asked_of}
 use Rattle.farm_lines.proofs.DependLemmas.{depend_formed}
 use Rattle.farm_lines.proofs.FieldLemmas.{step, step_any, ok_at, either, kind_formed, name_formed, whole_formed, tags_formed, list_formed}
 use Rattle.farm_lines.proofs.SpecLemmas.{first_formed, spec_formed, within_formed}
@@ -62,7 +62,7 @@ done_formed ms =
 
 -- the report's act
 abbrev IsReport : Report → Type 0
-IsReport report = IsFormedHeard (heard_of report)
+IsReport report = IsFormedHeard report.heard
 
 report_formed : (ms : Members) → IfOk (report_at ms) IsReport
 unfolding report_at

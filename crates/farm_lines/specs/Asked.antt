@@ -3,7 +3,6 @@ use Rattle.std.specs.Prelude.{ℕ}
 use Rattle.farm_types.specs.declared.entry.Act.{Act}
 use Rattle.farm_types.specs.declared.entry.Act.TheVariants as act
 use Rattle.farm_types.specs.declared.entry.Entry.{Entry}
-use Rattle.farm_types.specs.declared.entry.HeardAct.{HeardAct}
 use Rattle.farm_lines.specs.declared.asked.Asked.{Asked}
 use Rattle.farm_lines.specs.declared.asked.Asked.TheVariants as asked
 use Rattle.farm_lines.specs.declared.report.Report.{Report}
@@ -14,12 +13,9 @@ use Rattle.farm_types.specs.Formed.{IsFormed, IsFormedAct, IsFormedHeard}
 abbrev pub entry_at : ℕ → Act → Entry
 entry_at moment does = record { moment = moment; act = does }
 
--- what a report's entry tells: all of it but what runs
-abbrev pub heard_of : Report → HeardAct
-heard_of report = record { host = report.host; boot = report.boot; seq = report.seq; done = report.done }
-
+-- a report's entry: all of it but what runs
 abbrev pub heard_entry : Report → ℕ → Entry
-heard_entry report moment = entry_at moment (act.Heard (heard_of report))
+heard_entry report moment = entry_at moment (act.Heard report.heard)
 
 -- a report, which its round follows; another act; or a list, which makes no entry
 abbrev pub asked_of : Request → Asked
@@ -42,7 +38,7 @@ asked_of (request.List query) = asked.List query
 
 -- what is asked is within the forms and limits of its act
 abbrev pub IsFormedAsked : Asked → Type 0
-IsFormedAsked (asked.Report report) = IsFormedHeard (heard_of report)
+IsFormedAsked (asked.Report report) = IsFormedHeard report.heard
 IsFormedAsked (asked.Act does) = IsFormedAct does
 IsFormedAsked (asked.List query) = Unit {0}
 

@@ -181,21 +181,21 @@ ok_reply entry other = reply.Done
 
 -- ---- a report's reply
 
--- the attempts that the report says are done
-abbrev pub acks_of : Report → List Attempt
-acks_of report = map (λ (d : DoneItem). d.attempt) report.done
+-- the attempts that are done
+abbrev pub acks_of : List DoneItem → List Attempt
+acks_of done = map (λ (d : DoneItem). d.attempt) done
 
--- the attempts that the report says are running, and that aren't live on this host and boot
-abbrev pub kills_of : Farm → ℕ → Report → List Attempt
-kills_of f host report = filter (λ a. not (is_live f host report.boot a.slot a.version)) report.running
+-- the attempts of these that run, and that aren't live on this host and boot
+abbrev pub kills_of : Farm → ℕ → ℕ → List Attempt → List Attempt
+kills_of f host boot running = filter (λ a. not (is_live f host boot a.slot a.version)) running
 
 -- whether the report lists the attempt as running or as done
 abbrev pub is_listed : Report → Attempt → Bool
-is_listed report a = list_any (is_same a) report.running || list_any (λ (d : DoneItem). is_same a d.attempt) report.done
+is_listed report a = list_any (is_same a) report.running || list_any (λ (d : DoneItem). is_same a d.attempt) report.heard.done
 
 -- whether the live attempt is on this host and boot and the report doesn't list it
 abbrev pub is_due : ℕ → Report → ProcRow → Bool
-is_due host report p = p.host == host && p.boot == report.boot && not (is_listed report (record { slot = p.slot; version = p.version }))
+is_due host report p = p.host == host && p.boot == report.heard.boot && not (is_listed report (record { slot = p.slot; version = p.version }))
 
 abbrev pub launch_for : ProcRow → Frame → JobRow → LayerRow → Launch
 launch_for p frame job layer =
@@ -244,7 +244,14 @@ report_data boot seq cut acks kills launches =
 -- The reply to a report, over the live attempts of this farm. `ended` says what ended the round.
 abbrev pub report_reply : Farm → ℕ → Report → Cut → Reply
 report_reply f host report ended =
-    reply.Report (record { acks = acks_of report; boot = report.boot; cut = ended; kills = kills_of f host report; launches = launches_of f host report; seq = report.seq })
+    reply.Report (record {
+      acks = acks_of report.heard.done;
+      boot = report.heard.boot;
+      cut = ended;
+      kills = kills_of f host report.heard.boot report.running;
+      launches = launches_of f host report;
+      seq = report.heard.seq;
+    })
 
 -- ---- every reply
 

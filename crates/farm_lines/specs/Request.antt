@@ -64,7 +64,7 @@ report_at ms =
     name_at (codes "host") ms >>= λ host. whole_at (codes "boot") 1 LAST_BOOT ms >>= λ boot.
     whole_at (codes "seq") 1 18446744073709551615 ms >>= λ seq. list_of (codes "running") attempt_at ms >>= λ running.
     list_of (codes "done") done_at ms >>= λ done. others_at report_keys ms >>= λ none.
-    Ok (record { host = host; boot = boot; seq = seq; running = running; done = done })
+    Ok (record { heard = record { host = host; boot = boot; seq = seq; done = done }; running = running })
 
 -- ---- shows and allocations
 

@@ -51,8 +51,8 @@ done_item_data item =
 
 unfoldable pub report_line : Report → Data
 report_line r =
-    object (member (codes "boot") (whole r.boot) (member (codes "done") (array (items_of (map done_item_data r.done))) (member (codes "host") (string r.host)
-    (op (codes "report") (member (codes "running") (attempts_data r.running) (member (codes "seq") (whole r.seq) no_members))))))
+    object (member (codes "boot") (whole r.heard.boot) (member (codes "done") (array (items_of (map done_item_data r.heard.done)))
+    (member (codes "host") (string r.heard.host) (op (codes "report") (member (codes "running") (attempts_data r.running) (member (codes "seq") (whole r.heard.seq) no_members))))))
 
 unfoldable pub boot_line : BootLine → Data
 boot_line b =

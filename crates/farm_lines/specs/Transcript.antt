@@ -77,7 +77,7 @@ accepted_answer f report moment mark (Some host) =
 
 abbrev pub report_answer : Farm → Report → ℕ → Mark → Option Refusal → Answered
 report_answer f report moment mark (Some why) = only_reply (reply.Refused why)
-report_answer f report moment mark None = accepted_answer f report moment mark (host_named f report.host)
+report_answer f report moment mark None = accepted_answer f report moment mark (host_named f report.heard.host)
 
 -- ---- other requests
 

@@ -1,13 +1,10 @@
 //! A host's report.
 
-use farm_types::{Attempt, DoneItem, Items, Text};
+use farm_types::{Attempt, HeardAct, Items};
 
-/// What a host tells: the attempts that it runs and those that are done, in the order of its lists.
+/// What a host tells: what its entry records, and the attempts that it runs, in the order of its list.
 #[derive(Debug, Drop)]
 pub struct Report {
-    pub host: Text,
-    pub boot: u32,
-    pub seq: u64,
+    pub heard: HeardAct,
     pub running: Items<Attempt>,
-    pub done: Items<DoneItem>,
 }

@@ -10,6 +10,8 @@ use Rattle.std.proofs.lemmas.Option.{slice_get-map}
 use Rattle.farm_types.specs.declared.attempt.Attempt.{Attempt}
 use Rattle.farm_types.specs.declared.attempt.DoneItem.{DoneItem}
 use Rattle.farm_types.specs.declared.attempt.ProcRow.{ProcRow}
+use Rattle.farm_types.specs.declared.entry.Act.TheVariants as act
+use Rattle.farm_types.specs.declared.entry.HeardAct.{HeardAct}
 use Rattle.farm_types.specs.declared.slot_row.SlotRow.{SlotRow}
 use Rattle.farm_types.specs.Farm.{Farm, changed_at, for_some, host_named}
 use Rattle.farm_types.specs.Hosts.{heard_row, silenced}
@@ -18,8 +20,7 @@ use Rattle.farm_types.specs.Run.{counted_in, is_same}
 use Rattle.farm_types.specs.Step.{at_moment, end_attempt, ended_row, expire, is_attempt, is_live, is_silent, moment_of}
 use Rattle.farm_types.proofs.Changed.{changed_at_other, changed_at_same, places}
 use Rattle.farm_types.proofs.Lists.{and_both, for_some_true}
-use Rattle.farm_lines.specs.Asked.{heard_entry}
-use Rattle.farm_lines.specs.declared.report.Report.{Report}
+use Rattle.farm_lines.specs.Asked.{entry_at}
 use Rattle.farm_load.specs.Loads.{failed_in, fails}
 
 -- ---- tests of two
@@ -239,21 +240,21 @@ module _ (host boot : ℕ) where
 
 -- ---- the entry of a report
 
-abbrev heard_at : Farm → Report → ℕ → ℕ → Farm
-heard_at f report moment host =
-    record (expire (at_moment f moment) moment) { hosts = changed_at (silenced moment f.hosts) host (heard_row report.seq moment) }
+abbrev heard_at : Farm → HeardAct → ℕ → ℕ → Farm
+heard_at f heard moment host =
+    record (expire (at_moment f moment) moment) { hosts = changed_at (silenced moment f.hosts) host (heard_row heard.seq moment) }
 
 -- of a host that is there
-pub failed_on : (n : ℕ) (f : Farm) (report : Report) (moment host : ℕ) → host_named f report.host ≡ Some host
-    → failed_in n f (heard_entry report moment ∷ []) ≡ count_by (fails n) (counted_in (expire f (moment_of f moment)) host report.boot report.done)
-failed_on n f report moment host named =
+pub failed_on : (n : ℕ) (f : Farm) (heard : HeardAct) (moment host : ℕ) → host_named f heard.host ≡ Some host
+    → failed_in n f (entry_at moment (act.Heard heard) ∷ []) ≡ count_by (fails n) (counted_in (expire f (moment_of f moment)) host heard.boot heard.done)
+failed_on n f heard moment host named =
     rw named
-    (ap (count_by (fails n)) (append-nil (counted_in (heard_at f report (moment_of f moment) host) host report.boot report.done))
-    ∙ counted_alike host report.boot (fails n) (expire f (moment_of f moment)) (heard_at f report (moment_of f moment) host) report.done (λ a. refl))
+    (ap (count_by (fails n)) (append-nil (counted_in (heard_at f heard (moment_of f moment) host) host heard.boot heard.done))
+    ∙ counted_alike host heard.boot (fails n) (expire f (moment_of f moment)) (heard_at f heard (moment_of f moment) host) heard.done (λ a. refl))
 
 -- of none
-pub failed_nowhere : (n : ℕ) (f : Farm) (report : Report) (moment : ℕ) → host_named f report.host ≡ None → failed_in n f (heard_entry report moment ∷ []) ≡ 0
-failed_nowhere n f report moment named = rw named refl
+pub failed_nowhere : (n : ℕ) (f : Farm) (heard : HeardAct) (moment : ℕ) → host_named f heard.host ≡ None → failed_in n f (entry_at moment (act.Heard heard) ∷ []) ≡ 0
+failed_nowhere n f heard moment named = rw named refl
 
 -- ---- the walk
 

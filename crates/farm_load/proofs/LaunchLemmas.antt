@@ -128,7 +128,7 @@ accepted_launches f report moment mark (Some host) keeps =
 
 answer_launches : (f : Farm) (report : Report) (moment : ℕ) (mark : Mark) (why : Option Refusal) → LaunchesFormed f (report_answer f report moment mark why)
 answer_launches f report moment mark (Some why) keeps = none_launched
-answer_launches f report moment mark None keeps = accepted_launches f report moment mark (host_named f report.host) keeps
+answer_launches f report moment mark None keeps = accepted_launches f report moment mark (host_named f report.heard.host) keeps
 
 unless_launches : (f : Farm) (mark : Mark) (answered : Answered) → LaunchesFormed f answered → LaunchesFormed f (unless_memory mark answered)
 unless_launches f Memory answered launches = λ keeps. none_launched

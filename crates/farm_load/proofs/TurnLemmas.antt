@@ -85,7 +85,7 @@ module _ (n : ℕ) (f : Farm) (failing : ℕ) where
   answer_failures : (report : Report) (moment : ℕ) (mark : Mark) (why : Option Refusal) → is_calm mark ≡ true → failing ≡ failed_in n f (heard_entry report moment ∷ [])
       → FailuresAre (report_answer f report moment mark why)
   answer_failures report moment mark (Some why) calm is = refl
-  answer_failures report moment mark None calm is = accepted_failures report moment mark (host_named f report.host) calm is
+  answer_failures report moment mark None calm is = accepted_failures report moment mark (host_named f report.heard.host) calm is
 
   unless_failures : (mark : Mark) (answered : Answered) → FailuresAre answered → FailuresAre (unless_memory mark answered)
   unless_failures Memory answered are = refl

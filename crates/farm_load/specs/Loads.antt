@@ -57,7 +57,7 @@ load_done n launched = map (λ (a : Attempt). record { attempt = a; exit = load_
 
 -- the host's report of a round: the round is its sequence number, nothing runs, and all that was launched is done
 abbrev pub load_report : ℕ → ℕ → LoadHost → Report
-load_report n round h = record { host = h.name; boot = 1; seq = round; running = []; done = load_done n h.launched }
+load_report n round h = record { heard = record { host = h.name; boot = 1; seq = round; done = load_done n h.launched }; running = [] }
 
 -- what a reply launches; a refusal launches nothing
 abbrev pub launches_in : ReportReply → List Attempt

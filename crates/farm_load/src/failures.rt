@@ -5,36 +5,36 @@ ghost use Rattle.std.specs.List.{list_any};
 ghost use Rattle.farm_types.specs.Hosts.{is_unheard};
 ghost use Rattle.farm_types.specs.Run.{counted_in, is_same};
 ghost use Rattle.farm_types.specs.Step.{expire, is_live, is_silent, moment_of};
-ghost use Rattle.farm_lines.specs.Asked.{heard_entry};
+ghost use Rattle.farm_types.specs.declared.entry.Act.TheVariants as act;
+ghost use Rattle.farm_lines.specs.Asked.{entry_at};
 ghost use Rattle.farm_load.specs.Loads.{failed_in, fails};
 
 use farm_core::Farm;
 use farm_gen::load_exit;
-use farm_lines::Report;
-use farm_types::{Attempt, DoneItem, HostNo, HostRow, SILENT_SECONDS};
+use farm_types::{Attempt, DoneItem, HeardAct, HostNo, HostRow, SILENT_SECONDS};
 
 /// How many completions of the report change the farm when it is taken at the moment (seconds), and are of attempts that fail.
 #[tactic(auto, using(crate::proofs::FailureLemmas::failed_nowhere))]
-pub(crate) fn failures(farm: &Farm, n: u32, report: &Report, moment: u64) -> u64
-    ensures value { result ≡ failed_in n farm.now (heard_entry report.now moment ∷ []) }
-    ensures few { result ≤ length report.now.done }
+pub(crate) fn failures(farm: &Farm, n: u32, heard: &HeardAct, moment: u64) -> u64
+    ensures value { result ≡ failed_in n farm.now (entry_at moment (act.Heard heard.now) ∷ []) }
+    ensures few { result ≤ length heard.now.done }
 {
-    match farm.books().host_named(report.host.as_str()) {
-        Some(host) => failures_on(farm, n, host, report, moment),
+    match farm.books().host_named(heard.host.as_str()) {
+        Some(host) => failures_on(farm, n, host, heard, moment),
         None => 0,
     }
 }
 
 // The same on a host: none where it is silent by then, so that its attempts are lost.
 #[tactic(auto, using(crate::proofs::FailureLemmas::silent_none, crate::proofs::FailureLemmas::heard_same))]
-fn failures_on(farm: &Farm, n: u32, host: HostNo, report: &Report, moment: u64) -> u64
-    ensures value { result ≡ count_by (fails n) (counted_in (expire farm.now (moment_of farm.now moment)) host report.now.boot report.now.done) }
-    ensures few { result ≤ length report.now.done }
+fn failures_on(farm: &Farm, n: u32, host: HostNo, heard: &HeardAct, moment: u64) -> u64
+    ensures value { result ≡ count_by (fails n) (counted_in (expire farm.now (moment_of farm.now moment)) host heard.now.boot heard.now.done) }
+    ensures few { result ≤ length heard.now.done }
 {
     if is_silent(farm, host, moment) {
         0
     } else {
-        failures_among(farm, n, host, report.boot, report.done.as_slice())
+        failures_among(farm, n, host, heard.boot, heard.done.as_slice())
     }
 }
 

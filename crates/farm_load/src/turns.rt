@@ -16,7 +16,7 @@ use crate::load_host::LoadHost;
 use farm_gen::load_exit;
 use farm_keeper::Keeper;
 use farm_lines::{Reply, Report, ReportReply};
-use farm_types::{Attempt, Cut, DoneItem, Items};
+use farm_types::{Attempt, Cut, DoneItem, HeardAct, Items};
 use line_answers::take_report;
 use recorder::PlainRecorder;
 use std::alloc::{AllocError, Global};
@@ -78,12 +78,12 @@ fn take_counted<K: Keeper>(
     counts: &mut Counts,
 ) -> Result<Items<Attempt>, AllocError>
     requires formed { IsFormed (heard_entry report moment) }
-    requires few { length report.done ≤ LAUNCHES_EACH }
+    requires few { length report.heard.done ≤ LAUNCHES_EACH }
     requires room { HasRoom counts.old }
     ensures { HasReported n recorder.old.farm report moment counts.old result recorder.new.farm counts.new
         (Continues K.tells K.faults recorder.old.keeper recorder.new.keeper) }
 {
-    let failing = failures(recorder.read(), n, &report, moment);
+    let failing = failures(recorder.read(), n, &report.heard, moment);
     let taken = take_report(alloc, recorder, report, moment);
     recorder.read().kept();
     counts.attempts += u64::from(taken.booked);
@@ -133,11 +133,13 @@ fn report_of(alloc: Global, n: u32, round: u32, host: &LoadHost) -> Result<Repor
     ensures { IfOk result (λ report. report ≡ load_report n round host.now) }
 {
     Ok(Report {
-        host: host.name.copy(alloc)?,
-        boot: 1,
-        seq: u64::from(round),
+        heard: HeardAct {
+            host: host.name.copy(alloc)?,
+            boot: 1,
+            seq: u64::from(round),
+            done: done_items(alloc, n, host.launched.as_slice())?,
+        },
         running: Items::new(alloc),
-        done: done_items(alloc, n, host.launched.as_slice())?,
     })
 }
 

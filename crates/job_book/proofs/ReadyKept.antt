@@ -23,8 +23,8 @@ use Rattle.job_book.specs.Inside.{IsBook, counts_for}
 use Rattle.job_book.specs.Ready.{CanBeReady, CanChange, KeepsReady, changed_ready, has_priority, ready_key, waits}
 use Rattle.job_index.specs.Keys.{put_key}
 use Rattle.job_book.proofs.InState.{IsInState, counts_other, with_row}
-use Rattle.job_book.proofs.Placed.{count_placed, new_job_counts_none}
-use Rattle.job_book.proofs.PlacedLayers.{slice_get-back}
+use Rattle.job_book.proofs.PlacementLemmas.Placed.{count_placed, new_job_counts_none}
+use Rattle.job_book.proofs.PlacementLemmas.PlacedLayers.{slice_get-back}
 use Rattle.job_book.proofs.ReadyLists.{can_be_ready, more_ready, ready_after, same_ready}
 use Rattle.job_index.specs.declared.limits.TheConstants.{MOST_JOBS}
 use Rattle.job_index.specs.declared.ready_jobs.TheConstants.{JOB_NUMBERS}

@@ -19,7 +19,7 @@ use Rattle.job_book.specs.Index.{by_priority, insert_job, ready_of}
 use Rattle.job_book.specs.Ready.{CanBeReady, KeepsReady, change_of, has_priority, is_ready_in, ready_key, ready_keys, waits}
 use Rattle.job_index.specs.Keys.{CanPut, drop_key, job_of, put_key, sorted}
 use Rattle.job_index.proofs.PutKeys.{commute, drop_put, length-sorted, none-put, number_of_key}
-use Rattle.job_book.proofs.Placed.{rising_within}
+use Rattle.job_book.proofs.PlacementLemmas.Placed.{rising_within}
 use Rattle.farm_types.specs.declared.limits.TheConstants.{MOST_PRIORITY}
 use Rattle.job_index.specs.declared.limits.TheConstants.{MOST_JOBS}
 use Rattle.job_index.specs.declared.ready_jobs.TheConstants.{JOB_NUMBERS}

@@ -1,5 +1,6 @@
 -- What the calls of the job book answer and change.
-use Rattle.std.specs.Prelude.{◌≡◌, ℕ, ◌==◌, ◌&&◌, ◌+◌, Bool, not, is_some, List, [], ◌∷◌, ◌++◌, filter, option_map, option_and_then, sum_by, Option, None, Some, find, slice_get, nat_lt, bytes_eq, Result, Ok, Err, if◌then◌else◌}
+use Rattle.std.specs.Prelude.{◌≡◌, ℕ, ◌==◌, ◌&&◌, ◌+◌, Bool, not, is_some, List, [], ◌∷◌, ◌++◌, filter, option_map}
+use Rattle.std.specs.Prelude.{option_and_then, sum_by, Option, None, Some, find, slice_get, nat_lt, bytes_eq, Result, Ok, Err, if◌then◌else◌}
 use Rattle.farm_types.specs.declared.job.JobSpec.{JobSpec}
 use Rattle.farm_types.specs.declared.rows.JobRow.{JobRow}
 use Rattle.farm_types.specs.declared.slot_row.Frame.{Frame}
@@ -11,10 +12,10 @@ use Rattle.farm_types.specs.Jobs.{JobLists, frames_in, frames_of, job_refusal, j
 use Rattle.job_entries.specs.declared.counts.Counts.{Counts}
 pub use Rattle.job_entries.specs.Counting.{number_of}
 pub use Rattle.job_entries.specs.Entries.{with_pause}
-use Rattle.job_book.specs.declared.frame_view.FrameView.{FrameView}
+use Rattle.job_book.specs.declared.reading.frame_view.FrameView.{FrameView}
 use Rattle.farm_types.specs.declared.fault.FarmFault.{FarmFault}
 use Rattle.farm_types.specs.declared.fault.FarmFault.TheVariants as fault
-use Rattle.job_book.specs.declared.placing.Placing.{Placing}
+use Rattle.job_book.specs.declared.placement.placing.Placing.{Placing}
 use Rattle.job_book.specs.Lowest.{lowest_free}
 
 -- no jobs, no slot used, and 1 the next job's number

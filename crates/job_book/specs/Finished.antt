@@ -1,5 +1,6 @@
 -- The finished jobs, as the book keeps them: by keys that rise.
-use Rattle.std.specs.Prelude.{ℕ, ◌≡◌, ◌≤◌, ◌&&◌, ◌==◌, ◌+◌, ◌*◌, Bool, true, not, List, map, filter, length, nat_eq, nat_le, nat_lt, Option, None, slice_get, if◌then◌else◌}
+use Rattle.std.specs.Prelude.{ℕ, ◌≡◌, ◌≤◌, ◌&&◌, ◌==◌, ◌+◌, ◌*◌, Bool, true, not, List, map, filter, length, nat_eq, nat_le}
+use Rattle.std.specs.Prelude.{nat_lt, Option, None, slice_get, if◌then◌else◌}
 use Rattle.std.specs.List.{IsDistinct, list_all, list_any}
 use Rattle.farm_types.specs.declared.rows.JobRow.{JobRow}
 use Rattle.farm_types.specs.declared.rows.LayerRow.{LayerRow}

@@ -22,7 +22,14 @@ use Rattle.job_book.specs.declared.jobs.TheConstants.{PLACE_LIMIT}
 
 -- the lists of the book
 abbrev pub book_of : Inside → JobLists
-book_of book = record { jobs = book.entries.rows; layers = book.entries.layers; slots = book.slots.items; next_job = book.entries.next; next_finish = book.next_finish }
+book_of book =
+    record {
+      jobs = book.entries.rows;
+      layers = book.entries.layers;
+      slots = book.slots.items;
+      next_job = book.entries.next;
+      next_finish = book.next_finish;
+    }
 
 -- layers are in the order of their jobs, those of a job by their places
 abbrev pub layer_key : LayerRow → ℕ

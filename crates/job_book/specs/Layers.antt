@@ -47,7 +47,8 @@ new_slot b layers layer position = slot_from 0 (is_placed b.next_job layer posit
 pub record KeepsLayers (layers : List LayerRow) (slots : List SlotRow) (places : List (List ℕ)) : Type 0 where
   pub as_many : length places ≡ length layers
   pub found : (job layer position : ℕ) → slot_from 0 (is_placed job layer position) slots ≡ place_in places (layer_position job layer layers) position
-  pub first : (slot : ℕ) (row : SlotRow) (x : Frame) → slice_get slots slot ≡ Some row → row.frame ≡ Some x → slot_from 0 (is_placed x.job x.layer x.position) slots ≡ Some slot
+  pub first : (slot : ℕ) (row : SlotRow) (x : Frame) → slice_get slots slot ≡ Some row → row.frame ≡ Some x
+      → slot_from 0 (is_placed x.job x.layer x.position) slots ≡ Some slot
 
 -- those positions of each layer are marked whose frames wait
 pub record KeepsWaiting (slots : List SlotRow) (index : List LayerPlaces) : Type 0 where

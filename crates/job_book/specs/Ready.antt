@@ -1,5 +1,6 @@
 -- The ready jobs of each show, as the book keeps them: by keys that rise.
-use Rattle.std.specs.Prelude.{ℕ, ◌≡◌, ◌==◌, ◌&&◌, ◌+◌, ◌-◌, ◌*◌, Bool, true, false, List, [], map, filter, length, nat_le, nat_lt, Option, None, Some, IfSome, slice_get}
+use Rattle.std.specs.Prelude.{ℕ, ◌≡◌, ◌==◌, ◌&&◌, ◌+◌, ◌-◌, ◌*◌, Bool, true, false, List, [], map, filter, length, nat_le}
+use Rattle.std.specs.Prelude.{nat_lt, Option, None, Some, IfSome, slice_get}
 use Rattle.std.specs.List.{list_all}
 use Rattle.farm_types.specs.declared.rows.JobRow.{JobRow}
 use Rattle.farm_types.specs.declared.slot_row.SlotRow.{SlotRow}

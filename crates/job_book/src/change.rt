@@ -5,7 +5,7 @@ ghost use Rattle.std.specs.Vec.{vec_capacity};
 ghost use Rattle.job_book.specs.Book.{KeepsFrame};
 
 use crate::jobs::Jobs;
-use crate::ready::{change_ready, has_waiting};
+use crate::reading::ready::{change_ready, has_waiting};
 use farm_types::{Slot, SlotRow};
 
 impl Jobs {

@@ -3,7 +3,7 @@
 ghost use Rattle.std.specs.Prelude.{◌≡◌, IfOk};
 
 use crate::jobs::Jobs;
-use crate::ready::copy_ready;
+use crate::reading::ready::copy_ready;
 use farm_types::SLOT_LIMIT;
 use job_index::plain_copies;
 use std::alloc::{AllocError, Global};

@@ -3,7 +3,7 @@
 ghost use Rattle.std.specs.Prelude.{◌≡◌, IfOk};
 ghost use Rattle.job_book.specs.Book.{no_jobs};
 
-use crate::ready::no_ready;
+use crate::reading::ready::no_ready;
 use farm_types::{SLOT_LIMIT, SlotRow};
 use job_entries::Entries;
 use job_index::{JobNames, ReadyJobs};

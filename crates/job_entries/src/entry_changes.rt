@@ -9,7 +9,8 @@ ghost use Rattle.farm_types.specs.declared.limits.TheConstants.{LAST_JOB};
 ghost use Rattle.std.specs.Vec.{vec_capacity};
 ghost use Rattle.job_entries.specs.declared.entries.TheConstants.{MOST_PLACES};
 ghost use Rattle.job_entries.specs.Counting.{CanMove};
-ghost use Rattle.job_entries.specs.Entries.{IsAt, are_layers, counts_in, held, is_held_at, place_key, with_end, with_entry, with_moved_in, without_row, layer_position};
+ghost use Rattle.job_entries.specs.Entries.{IsAt, are_layers, counts_in, held, is_held_at, layer_position, place_key};
+ghost use Rattle.job_entries.specs.Entries.{with_end, with_entry, with_moved_in, without_row};
 ghost use Rattle.job_index.specs.Places.{marked};
 ghost use Rattle.job_index.specs.declared.limits.TheConstants.{MOST_JOBS};
 

@@ -55,3 +55,7 @@ is_ours schema table index tables indexes t i one_table one_index is_table is_in
     let all_indexes : schema.indexes ≡ rows_index ∷ [] = sym i ∙ one_item indexes index one_index is_index ∙ ap (λ x. x ∷ []) index_is in
     let all : schema ≡ record { tables = rows_table ∷ []; indexes = rows_index ∷ []; views = [] } = λ k. record { tables = all_tables k; indexes = all_indexes k; views = views k } in
     all ∙ sym schema_is
+
+-- the index of our schema
+pub our_index : (schema : Schema) → schema ≡ rows_schema → schema.indexes ≡ rows_index ∷ []
+our_index schema is = ap (λ (s : Schema). s.indexes) (is ∙ schema_is)

@@ -1,5 +1,5 @@
 //! Whether a schema is empty, or has the one table and nothing else.
-ghost use Rattle.std.specs.Prelude.{◌≡◌, ◌∷◌, [], IsTrue};
+ghost use Rattle.std.specs.Prelude.{◌≡◌, ◌↔◌, ◌∷◌, [], IsTrue};
 ghost use Rattle.keeper_sqlite.specs.Table.{HasKey, HasNoRules, column_of, no_schema, rows_index, rows_schema, rows_table};
 
 use sqlite_schema::schema::{Column, Index, Kind, Schema, Table};
@@ -7,20 +7,20 @@ use sqlite_value::keys::Collation;
 use sqlite_value::value::{Bytes, Value};
 
 pub(crate) fn is_no_schema(schema: &Schema) -> bool
-    ensures { IsTrue result → schema.now ≡ no_schema }
+    ensures { IsTrue result ↔ schema.now ≡ no_schema }
 {
     schema.tables.is_empty() && schema.indexes.is_empty() && schema.views.is_empty()
 }
 
 fn is_word(bytes: &Bytes, word: &str) -> bool
-    ensures { IsTrue result → bytes.now ≡ word.now }
+    ensures { IsTrue result ↔ bytes.now ≡ word.now }
 {
     bytes.as_slice() == word.as_bytes()
 }
 
 /// Whether a key is that of the kind and the id.
 fn is_key(places: &[usize]) -> bool
-    ensures { IsTrue result → places.now ≡ 1 ∷ 2 ∷ [] }
+    ensures { IsTrue result ↔ places.now ≡ 1 ∷ 2 ∷ [] }
 {
     let [kind, id] = places else {
         return false;
@@ -29,7 +29,7 @@ fn is_key(places: &[usize]) -> bool
 }
 
 fn is_column(column: &Column, name: &str, kind: Kind) -> bool
-    ensures { IsTrue result → column.now ≡ column_of name.now kind }
+    ensures { IsTrue result ↔ column.now ≡ column_of name.now kind }
 {
     is_word(&column.name, name)
         && column.kind == kind
@@ -40,7 +40,7 @@ fn is_column(column: &Column, name: &str, kind: Kind) -> bool
 }
 
 fn are_columns(columns: &[Column]) -> bool
-    ensures { IsTrue result → columns.now ≡ rows_table.columns }
+    ensures { IsTrue result ↔ columns.now ≡ rows_table.columns }
 {
     let [kind, id, bytes] = columns else {
         return false;
@@ -51,7 +51,7 @@ fn are_columns(columns: &[Column]) -> bool
 }
 
 fn has_key(table: &Table) -> bool
-    ensures { IsTrue result → HasKey table.now }
+    ensures { IsTrue result ↔ HasKey table.now }
 {
     let [unique] = table.uniques.as_slice() else {
         return false;
@@ -66,7 +66,7 @@ fn has_key(table: &Table) -> bool
 }
 
 fn has_no_rules(table: &Table) -> bool
-    ensures { IsTrue result → HasNoRules table.now }
+    ensures { IsTrue result ↔ HasNoRules table.now }
 {
     table.checks.roots.is_empty()
         && table.references.is_empty()
@@ -78,7 +78,7 @@ fn has_no_rules(table: &Table) -> bool
 }
 
 fn is_rows_table(table: &Table) -> bool
-    ensures { IsTrue result → table.now ≡ rows_table }
+    ensures { IsTrue result ↔ table.now ≡ rows_table }
 {
     is_word(&table.name, "rows")
         && table.tree == 0
@@ -88,7 +88,7 @@ fn is_rows_table(table: &Table) -> bool
 }
 
 fn is_rows_index(index: &Index) -> bool
-    ensures { IsTrue result → index.now ≡ rows_index }
+    ensures { IsTrue result ↔ index.now ≡ rows_index }
 {
     is_word(&index.name, "sqlite_autoindex_rows_1")
         && index.tree == 1
@@ -100,7 +100,7 @@ fn is_rows_index(index: &Index) -> bool
 
 /// Whether it has the one table, with the index of its key, and nothing else.
 pub(crate) fn is_rows_schema(schema: &Schema) -> bool
-    ensures { IsTrue result → schema.now ≡ rows_schema }
+    ensures { IsTrue result ↔ schema.now ≡ rows_schema }
 {
     let [table] = schema.tables.as_slice() else {
         return false;

@@ -1,5 +1,5 @@
 //! The keeper.
-ghost use Rattle.std.specs.Prelude.{◌≡◌, ◌≢◌, ◌⊎◌, false, Err, IfOk, IsTrue};
+ghost use Rattle.std.specs.Prelude.{◌≡◌, ◌↔◌, ◌≢◌, ◌⊎◌, false, Err, IfOk, IsTrue};
 ghost use Rattle.sqlite.specs.Held.{state};
 ghost use Rattle.fault_counts.specs.Counts.{incremented_if};
 ghost use Rattle.farm_keeper.specs.Faults.{is_store_failure};
@@ -40,7 +40,7 @@ fn blame(error: Error, faults: &mut u64) -> KeeperFault
 impl<S: Alter + Drop> SqliteKeeper<S> {
     /// Whether a database is one that a keeper may be over: it has nothing yet, or the keeper's table and nothing else.
     pub fn takes(connection: &Connection<S>) -> bool
-        ensures { IsTrue result → (connection.now.schema ≡ no_schema) ⊎ (connection.now.schema ≡ rows_schema) }
+        ensures { IsTrue result ↔ (connection.now.schema ≡ no_schema) ⊎ (connection.now.schema ≡ rows_schema) }
     {
         is_no_schema(connection.schema()) || is_rows_schema(connection.schema())
     }

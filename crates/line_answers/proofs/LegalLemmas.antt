@@ -55,7 +55,7 @@ module _ (f : Farm) (report : Report) (moment : ℕ) (formed : IsFormed (heard_e
 
   report_legal : (mark : Mark) (why : Option Refusal) → refusal_of f (heard_entry report moment) ≡ why → IsLegal f (report_answer f report moment mark why).entries
   report_legal mark (Some why) h = tt
-  report_legal mark None h = accepted_legal mark (host_named f report.host) h
+  report_legal mark None h = accepted_legal mark (host_named f report.heard.host) h
 
 -- an entry that the farm accepts
 entry_legal : (f : Farm) (e : Entry) (mark : Mark) (why : Option Refusal) → IsFormed e → refusal_of f e ≡ why → HasCondition f e.act → IsLegal f (entry_answer f e mark why).entries

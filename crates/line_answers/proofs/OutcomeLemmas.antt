@@ -30,7 +30,7 @@ whole_entries f host report heard round mark whole = absurd whole
 pub whole_round : (f : Farm) (line : List ℕ) (moment : ℕ) (mark : Mark) (report : Report) → WalksWhole mark → IsAccepted f line moment report
     → HasWholeRound f line moment mark report
 whole_round f line moment mark report whole taken =
-    let found = host_of f report moment (host_named f report.host) refl taken.accepted in
+    let found = host_of f report moment (host_named f report.heard.host) refl taken.accepted in
     record {
       host = found.0;
       named = found.1;
@@ -48,7 +48,7 @@ late_accepted f report moment None = refl
 late_accepted f report moment (Some host) = refl
 
 late_report : (f : Farm) (report : Report) (moment : ℕ) (why : Option Refusal) → (report_answer f report moment LatePlain why).entries ≡ (report_answer f report moment Plain why).entries
-late_report f report moment None = late_accepted f report moment (host_named f report.host)
+late_report f report moment None = late_accepted f report moment (host_named f report.heard.host)
 late_report f report moment (Some why) = refl
 
 late_entry : (f : Farm) (e : Entry) (why : Option Refusal) → (entry_answer f e LatePlain why).entries ≡ (entry_answer f e Plain why).entries

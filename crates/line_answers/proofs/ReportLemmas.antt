@@ -1,5 +1,5 @@
 -- The answer to a report, by cases.
-use Rattle.std.proofs.Common.{◌≡◌, ℕ, ◌<◌, arith, Bool, true, false, List, [], ◌∷◌, ◌++◌, length, take, refl, sym, ap, ◌∙◌, subst, Option, None, Some, Result, Ok, Err, IsErrAnd, inl, inr}
+use Rattle.std.proofs.Common.{◌≡◌, ℕ, ◌<◌, arith, Bool, true, false, List, [], ◌∷◌, ◌++◌, length, take, refl, sym, ap, ◌∙◌, subst, Option, None, Some, Result, Ok, Err, IfOk, IsErrAnd, inl, inr}
 use Rattle.std.proofs.Common.{true≢false}
 use Rattle.std.proofs.lemmas.Bool.{false≢true}
 use Rattle.std.proofs.lemmas.List.{take_all}
@@ -9,7 +9,6 @@ use Rattle.dispatch_plan.specs.declared.walked.Walked.{Walked}
 use Rattle.dispatch_plan.specs.Rounds.{EndsBy, IsRound, is_store_cut}
 use Rattle.farm_types.specs.declared.entry.Act.{Act}
 use Rattle.farm_types.specs.declared.entry.Act.TheVariants as act
-use Rattle.farm_types.specs.declared.attempt.Attempt.{Attempt}
 use Rattle.farm_types.specs.declared.entry.Entry.{Entry}
 use Rattle.farm_types.specs.declared.entry.HeardAct.{HeardAct}
 use Rattle.farm_types.specs.declared.refusal.Refusal.{Refusal}
@@ -29,8 +28,8 @@ use Rattle.farm_types.specs.Dispatch.{round_for}
 use Rattle.farm_types.specs.Farm.{Farm, host_named}
 use Rattle.farm_lines.specs.Reply.{reply_text, report_reply}
 use Rattle.farm_types.specs.Run.{run_of}
-use Rattle.farm_types.specs.Step.{HasCondition, refusal_of, after, host_refusal}
-use Rattle.farm_lines.specs.Asked.{heard_entry, heard_of}
+use Rattle.farm_types.specs.Step.{refusal_of, after, host_refusal}
+use Rattle.farm_lines.specs.Asked.{heard_entry}
 use Rattle.farm_lines.specs.Transcript.{Mark, Plain, Memory, Store, CutAfter, StoreAfter, LatePlain, LateCut, LateStore, Answered, accepted_answer, is_store_mark, marked_answer, only_reply, report_answer, unless_memory}
 use Rattle.recorder.specs.declared.refusal.CommitRefusal.{CommitRefusal}
 use Rattle.recorder.specs.declared.refusal.CommitRefusal.TheVariants as refusal
@@ -41,7 +40,7 @@ use Rattle.recorder.specs.Recording.{ChangesNone, ChangesRows, FailsToRecord, Is
 use Rattle.line_answers.specs.LineAnswers.{AnswersReport, Going, Hears, MayCutRound, MayStore, TakesReport, TakesRound, bookings_in, is_calm, reported, tells_memory, unrecorded_reply}
 use Rattle.line_answers.specs.Lines.{IsLineOf, IsLineOfTaken, is_store_reply}
 use Rattle.line_answers.specs.declared.taken.Taken.{Taken}
-use Rattle.line_answers.specs.Reports.{IsHeard, IsTold}
+use Rattle.line_answers.specs.Reports.{TellsHost}
 use Rattle.line_answers.proofs.AnswerLemmas.{unrecorded}
 use Rattle.line_answers.proofs.BookingLemmas.{booked_front, booked_whole}
 
@@ -53,31 +52,17 @@ told_in none other = none
 pub heard_same : (one other : HeardAct) → act.Heard one ≡ act.Heard other → one ≡ other
 heard_same one other is = ap (told_in one) is
 
-abbrev report_with : HeardAct → List Attempt → Report
-report_with heard running = record { host = heard.host; boot = heard.boot; seq = heard.seq; running = running; done = heard.done }
-
--- a report is what its entry tells and what it says is running
-pub same_report : (one other : Report) → heard_of one ≡ heard_of other → one.running ≡ other.running → one ≡ other
-same_report one other heard running = ap (λ (h : HeardAct). report_with h one.running) heard ∙ ap (report_with (heard_of other)) running
-
 -- ---- its entry is recorded
 
--- a report's entry is no booking
-pub heard_condition : (f : Farm) (a : Act) → IsHeard a → HasCondition f a
-heard_condition f (act.Heard heard) is = tt
-heard_condition f other is = absurd is
-
--- a change that tells the host of a report tells one
-told_by : (f : Farm) (a : Act) (told : Option ℕ) → IsHeard a → HasHeard f a told → IsTold told
-told_by f (act.Heard heard) None is there = absurd there
-told_by f (act.Heard heard) (Some host) is there = tt
-told_by f other told is there = absurd is
-
-pub made_told : (f : Farm) (e : Entry) (change : Change) → IsHeard e.act → Makes f e change → IsTold change.act.heard
-made_told f e change is makes = told_by f e.act change.act.heard is makes.planned.heard
+-- where a report is recorded its host is told
+pub tells_host : (f new : Farm) (report : Report) (moment : ℕ) (r : Result (Option ℕ) CommitRefusal) → Hears f (heard_entry report moment) r new
+    → IfOk r (TellsHost (act.Heard report.heard))
+tells_host f new report moment (Ok None) heard = heard.1
+tells_host f new report moment (Ok (Some host)) heard = tt
+tells_host f new report moment (Err why) heard = tt
 
 -- a fault that is told as another
-told_as : (found : CommitRefusal) (r : Result ℕ CommitRefusal) → IsErrAnd r (λ told. told ≡ found) → r ≡ Err found
+told_as : (found : CommitRefusal) (r : Result (Option ℕ) CommitRefusal) → IsErrAnd r (λ told. told ≡ found) → r ≡ Err found
 told_as found r err = let p = err_from_is_err_and r err in p.1 ∙ ap Err p.2
 
 refused_as : (f : Farm) (e : Entry) (why : FarmFault) → Prepares f e (Err why) → Hears f e (Err (of_farm why)) f
@@ -85,47 +70,46 @@ refused_as f e (prepare.Refused why) refuses = (refuses, refl)
 refused_as f e prepare.NoMemory fails = refl
 
 -- no change was prepared
-pub unprepared : (f : Farm) (e : Entry) (why : FarmFault) (r : Result ℕ CommitRefusal) → IsErrAnd r (λ told. told ≡ of_farm why) → Prepares f e (Err why) → Hears f e r f
-unprepared f e why r err is = subst (λ (q : Result ℕ CommitRefusal). Hears f e q f) (sym (told_as (of_farm why) r err)) (refused_as f e why is)
+pub unprepared : (f : Farm) (e : Entry) (why : FarmFault) (r : Result (Option ℕ) CommitRefusal) → IsErrAnd r (λ told. told ≡ of_farm why) → Prepares f e (Err why) → Hears f e r f
+unprepared f e why r err is = subst (λ (q : Result (Option ℕ) CommitRefusal). Hears f e q f) (sym (told_as (of_farm why) r err)) (refused_as f e why is)
 
 prepared_not : (why : FarmFault) → is_by_store (of_farm why) ≡ false
 prepared_not (prepare.Refused why) = refl
 prepared_not prepare.NoMemory = refl
 
 -- and preparing tells of no store
-pub never_store : (why : FarmFault) (r : Result ℕ CommitRefusal) → IsErrAnd r (λ told. told ≡ of_farm why) → is_store_refusal r ≡ false
+pub never_store : (why : FarmFault) (r : Result (Option ℕ) CommitRefusal) → IsErrAnd r (λ told. told ≡ of_farm why) → is_store_refusal r ≡ false
 never_store why r err = ap is_store_refusal (told_as (of_farm why) r err) ∙ prepared_not why
 
 -- the change was recorded
-pub was_heard : (f new : Farm) (e : Entry) (change : Change) (host : ℕ) → Makes f e change → change.act.heard ≡ Some host → new ≡ after_change f change
-    → Hears f e (Ok host) new
-was_heard f new e change host makes told is = (makes.planned.accepted, subst (HasHeard f e.act) told makes.planned.heard, is ∙ makes.planned.farm)
+pub was_heard : (f new : Farm) (e : Entry) (change : Change) (told : Option ℕ) → Makes f e change → told ≡ change.act.heard → new ≡ after_change f change → Hears f e (Ok told) new
+was_heard f new e change told makes is now = (makes.planned.accepted, subst (HasHeard f e.act) (sym is) makes.planned.heard, now ∙ makes.planned.farm)
 
 failed_as : (f new : Farm) (e : Entry) (change : Change) (why : RecordFault) → Makes f e change → FailsToRecord f (after_change f change) why new → Hears f e (Err (of_record why)) new
 failed_as f new e change fault.Store makes fails = (makes.planned.accepted, subst (ChangesRows f) makes.planned.farm fails.1, fails.0)
 failed_as f new e change fault.NoMemory makes fails = fails
 
 -- the store failed or memory ran out
-pub unheard : (f new : Farm) (e : Entry) (change : Change) (why : RecordFault) (r : Result ℕ CommitRefusal) → IsErrAnd r (λ told. told ≡ of_record why) → Makes f e change
+pub unheard : (f new : Farm) (e : Entry) (change : Change) (why : RecordFault) (r : Result (Option ℕ) CommitRefusal) → IsErrAnd r (λ told. told ≡ of_record why) → Makes f e change
     → FailsToRecord f (after_change f change) why new → Hears f e r new
 unheard f new e change why r err makes fails =
-    subst (λ (q : Result ℕ CommitRefusal). Hears f e q new) (sym (told_as (of_record why) r err)) (failed_as f new e change why makes fails)
+    subst (λ (q : Result (Option ℕ) CommitRefusal). Hears f e q new) (sym (told_as (of_record why) r err)) (failed_as f new e change why makes fails)
 
 store_of : (why : RecordFault) → is_of_store why ≡ is_by_store (of_record why)
 store_of fault.Store = refl
 store_of fault.NoMemory = refl
 
 -- the store failed where that is told, and only there
-pub store_told : (why : RecordFault) (r : Result ℕ CommitRefusal) → IsErrAnd r (λ told. told ≡ of_record why) → is_of_store why ≡ is_store_refusal r
+pub store_told : (why : RecordFault) (r : Result (Option ℕ) CommitRefusal) → IsErrAnd r (λ told. told ≡ of_record why) → is_of_store why ≡ is_store_refusal r
 store_told why r err = store_of why ∙ sym (ap is_store_refusal (told_as (of_record why) r err))
 
 -- ---- what is answered to it
 
 -- a report that the farm takes is of a host that is there
-pub host_of : (f : Farm) (report : Report) (moment : ℕ) (named : Option ℕ) → host_named f report.host ≡ named → refusal_of f (heard_entry report moment) ≡ None
-    → (host : ℕ) × (host_named f report.host ≡ Some host)
+pub host_of : (f : Farm) (report : Report) (moment : ℕ) (named : Option ℕ) → host_named f report.heard.host ≡ named → refusal_of f (heard_entry report moment) ≡ None
+    → (host : ℕ) × (host_named f report.heard.host ≡ Some host)
 host_of f report moment None is accepted =
-    absurd (unknown (sym (ap (λ n. or_else (host_refusal f (record { host = report.host; boot = report.boot; seq = report.seq; done = report.done }) n) None) is) ∙ accepted))
+    absurd (unknown (sym (ap (λ n. or_else (host_refusal f report.heard n) None) is) ∙ accepted))
   where
     unknown : {why : Refusal} → Some why ≡ None → ⊥
     unknown e = true≢false (ap is_some e)
@@ -137,7 +121,7 @@ accepted_unless Memory f host report heard round answered is = refl
 accepted_unless mark f host report heard round answered is = is
 
 -- the farm accepts it: it is answered by what the mark says
-pub accepted_is : (f : Farm) (report : Report) (moment host : ℕ) (mark : Mark) → refusal_of f (heard_entry report moment) ≡ None → host_named f report.host ≡ Some host
+pub accepted_is : (f : Farm) (report : Report) (moment host : ℕ) (mark : Mark) → refusal_of f (heard_entry report moment) ≡ None → host_named f report.heard.host ≡ Some host
     → unless_memory mark (report_answer f report moment mark (refusal_of f (heard_entry report moment)))
     ≡ marked_answer f host report (heard_entry report moment) (round_for (after f (heard_entry report moment)) host moment) mark
 accepted_is f report moment host mark accepts named =
@@ -167,7 +151,7 @@ unrecorded_report f new report moment (refusal.Refused why) taken goes heard is 
     subst (λ (g : Farm). TakesReport f report moment g taken goes) (sym heard.1)
     (unchanged f report moment Plain taken goes (ap (report_answer f report moment Plain) heard.0 ∙ ap only_reply (sym is)) none (λ calm. refl) tt keeper)
 unrecorded_report f new report moment refusal.Store taken goes heard is none keeper =
-    let found = host_of f report moment (host_named f report.host) refl heard.0 in
+    let found = host_of f report moment (host_named f report.heard.host) refl heard.0 in
     subst (λ (g : Farm). TakesReport f report moment g taken goes) (sym heard.2)
     (unchanged f report moment Store taken goes (accepted_is f report moment found.0 Store heard.0 found.1 ∙ ap only_reply (sym is)) none (λ calm. refl)
     (record { accepted = heard.0; changes = heard.1 }) keeper)
@@ -176,7 +160,7 @@ unrecorded_report f new report moment refusal.NoMemory taken goes heard is none 
     (unchanged f report moment Memory taken goes (ap only_reply (sym is)) none (λ calm. absurd (false≢true (sym calm ∙ ap tells_memory is))) tt keeper)
 
 -- a mark of the round stands for the report
-round_may : (f next : Farm) (report : Report) (moment host : ℕ) → refusal_of f (heard_entry report moment) ≡ None → host_named f report.host ≡ Some host
+round_may : (f next : Farm) (report : Report) (moment host : ℕ) → refusal_of f (heard_entry report moment) ≡ None → host_named f report.heard.host ≡ Some host
     → next ≡ after f (heard_entry report moment) → (mark : Mark) → MayCutRound (length (round_for next host moment)) mark → MayStore f moment (asked.Report report) mark
 round_may f next report moment host accepts named is Store may = absurd may
 round_may f next report moment host accepts named is (StoreAfter k) may =
@@ -186,7 +170,7 @@ round_may f next report moment host accepts named is (LateStore k) may =
 round_may f next report moment host accepts named is mark may = tt
 
 -- what the round makes is what the report makes
-pub taken_report : (f next new : Farm) (report : Report) (moment host : ℕ) (taken : Taken) (goes since : Going) → Hears f (heard_entry report moment) (Ok host) next
+pub taken_report : (f next new : Farm) (report : Report) (moment host : ℕ) (taken : Taken) (goes since : Going) → Hears f (heard_entry report moment) (Ok (Some host)) next
     → ((done : List Entry) (failed : Bool) → since (round_for next host moment) done failed
     → goes (heard_entry report moment ∷ round_for next host moment) (heard_entry report moment ∷ done) failed)
     → TakesRound next host report moment new taken since → TakesReport f report moment new taken goes
@@ -386,7 +370,7 @@ module _ (f new : Farm) (report : Report) (moment : ℕ) (text : List ℕ) (take
   -- memory ran out for the reply alone
   late_accepted : refusal_of f (heard_entry report moment) ≡ None → AnswersReport f report moment new text goes
   late_accepted accepted =
-      let host = host_of f report moment (host_named f report.host) refl accepted in
+      let host = host_of f report moment (host_named f report.heard.host) refl accepted in
       let heard = heard_entry report moment in
       let bookings = round_for (after f heard) host.0 moment in
       let late = is_late f host.0 report moment heard bookings took.mark in
@@ -444,7 +428,7 @@ told_report f new report moment text taken goes took line = by_line f new report
 -- ---- what changes no row
 
 -- its entry, and the round that follows it
-pub unstored_round : (f next : Farm) (report : Report) (moment host : ℕ) → Hears f (heard_entry report moment) (Ok host) next
+pub unstored_round : (f next : Farm) (report : Report) (moment host : ℕ) → Hears f (heard_entry report moment) (Ok (Some host)) next
     → ChangesNone f (reported f report moment Plain).entries → ChangesNone next (round_for next host moment)
 unstored_round f next report moment host heard none =
     subst (λ (g : Farm). ChangesNone g (round_for g host moment)) (sym heard.2)
@@ -452,5 +436,5 @@ unstored_round f next report moment host heard none =
 
 pub unstored_heard : (f : Farm) (report : Report) (moment : ℕ) → ChangesNone f (reported f report moment Plain).entries → IsUnstored f (heard_entry report moment)
 unstored_heard f report moment none accepts =
-    let host = host_of f report moment (host_named f report.host) refl accepts in
+    let host = host_of f report moment (host_named f report.heard.host) refl accepts in
     (subst (λ (a : Answered). ChangesNone f a.entries) (accepted_is f report moment host.0 Plain accepts host.1) none).0

@@ -1,5 +1,5 @@
 -- What a keeper was told of a line, from what it was told of each entry.
-use Rattle.std.proofs.Common.{◌≡◌, ℕ, Bool, false, List, [], ◌∷◌, None, Err, inl, inr, refl, sym, ap, subst}
+use Rattle.std.proofs.Common.{◌≡◌, ℕ, Bool, false, List, [], ◌∷◌, Option, None, Err, inl, inr, refl, sym, ap, subst}
 use Rattle.farm_types.specs.declared.entry.Entry.{Entry}
 use Rattle.farm_types.specs.Dispatch.{round_for}
 use Rattle.farm_types.specs.Farm.{Farm, host_named}
@@ -49,7 +49,7 @@ module _ {K : Type 0} (commits : Committing K) (tells : K → Type 0) (faults : 
     -- what the farm takes of it
     taken_entries : refusal_of f heard ≡ None → (host : ℕ) × ((reported f report moment Plain).entries ≡ heard ∷ round_for (after f heard) host moment)
     taken_entries accepts =
-        let host = host_of f report moment (host_named f report.host) refl accepts in
+        let host = host_of f report moment (host_named f report.heard.host) refl accepts in
         (host.0, ap (λ (a : Answered). a.entries) (accepted_is f report moment host.0 Plain accepts host.1))
 
     ends_at : refusal_of f heard ≡ None → (failed : Bool) → ((es : List Entry) → EndsTelling commits f (heard ∷ es) failed before now)
@@ -61,7 +61,7 @@ module _ {K : Type 0} (commits : Committing K) (tells : K → Type 0) (faults : 
     untold_by : now ≡ before → Tells commits f (reported f report moment Plain).entries [] false before now
     untold_by same = subst (λ (k : K). Tells commits f (reported f report moment Plain).entries [] false before k) (sym same) (tells_still commits f (reported f report moment Plain).entries before)
 
-    told_by : (why : CommitRefusal) → Hears f heard (Err why) new → TellsCommit {T = ℕ} commits f heard (Err why) before now
+    told_by : (why : CommitRefusal) → Hears f heard (Err why) new → TellsCommit {T = Option ℕ} commits f heard (Err why) before now
         → Tells commits f (reported f report moment Plain).entries [] (is_by_store why) before now
     told_by (refusal.Refused why) heard_so told = untold_by told
     told_by refusal.Store heard_so told = ends_at heard_so.0 (is_by_store refusal.Store) (λ es. told)
@@ -69,5 +69,5 @@ module _ {K : Type 0} (commits : Committing K) (tells : K → Type 0) (faults : 
     told_by refusal.NoMemory heard_so (inr told) = ends_at told.0 false (λ es. inr told.1)
 
     pub unheard_goes : (why : CommitRefusal) → Hears f heard (Err why) new → Continues tells faults before now (is_by_store why)
-        → TellsCommit {T = ℕ} commits f heard (Err why) before now → GoesOn commits tells faults f before now (reported f report moment Plain).entries [] (is_by_store why)
+        → TellsCommit {T = Option ℕ} commits f heard (Err why) before now → GoesOn commits tells faults f before now (reported f report moment Plain).entries [] (is_by_store why)
     unheard_goes why heard_so goes told = record { keeper = goes; told = told_by why heard_so told }

@@ -86,7 +86,7 @@ not_due f host report s off = by s.proc off
   where
     by : (o : Option ProcRow) → is_on host o ≡ false → option_and_then (λ (p : ProcRow). cond (is_due host report p) (launch_of f s p) None) o ≡ None
     by None off = refl
-    by (Some p) off = ap (λ b. cond (b && eqb p.boot report.boot && not (is_listed report (record { slot = p.slot; version = p.version }))) (launch_of f s p) None) off
+    by (Some p) off = ap (λ b. cond (b && eqb p.boot report.heard.boot && not (is_listed report (record { slot = p.slot; version = p.version }))) (launch_of f s p) None) off
 
 -- one more of what is taken
 take_cons : {X : Type 0} (n : ℕ) (x : X) (xs : List X) → 0 < n → take n (x ∷ xs) ≡ x ∷ take (n - 1) xs

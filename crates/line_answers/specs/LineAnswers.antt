@@ -1,5 +1,5 @@
 -- What answering one line does.
-use Rattle.std.specs.Prelude.{◌≡◌, ◌<◌, ◌++◌, ◌∷◌, [], ℕ, List, length, count_by, Bool, true, false, Result, None, Some, Ok, Err}
+use Rattle.std.specs.Prelude.{◌≡◌, ◌<◌, ◌++◌, ◌∷◌, [], ℕ, List, length, count_by, Bool, true, false, Option, Result, None, Some, Ok, Err}
 use Rattle.farm_types.specs.declared.dispatch.Cut.{Cut}
 use Rattle.farm_types.specs.declared.dispatch.Cut.TheVariants as cut
 use Rattle.farm_types.specs.declared.entry.Act.{Act}
@@ -50,7 +50,7 @@ pub record MayFail (f : Farm) (e : Entry) : Type 0 where
 pub record MayCut (f : Farm) (report : Report) (moment k : ℕ) : Type 0 where
   pub accepted : refusal_of f (heard_entry report moment) ≡ None
   pub host : ℕ
-  pub named : host_named f report.host ≡ Some host
+  pub named : host_named f report.heard.host ≡ Some host
   pub left : k < length (round_for (after f (heard_entry report moment)) host moment)
 
 -- an entry but a report's may meet the store's mark alone
@@ -155,10 +155,10 @@ IsRecorded old changed written new (Written line) = (new ≡ changed) × (line �
 IsRecorded old changed written new reply_line.Store = (new ≡ old) × ChangesRows old changed
 IsRecorded old changed written new line = (line ≡ reply_line.NoMemory) × (new ≡ old)
 
--- The report's entry was recorded, and this is its host; or the farm refuses it; or the store failed at a row that changes; or memory ran out. At each
+-- The entry was recorded, and a report's host is told; or the farm refuses it; or the store failed at a row that changes; or memory ran out. At each
 -- fault the farm is as before.
-abbrev pub Hears : Farm → Entry → Result ℕ CommitRefusal → Farm → Type 0
-Hears old e (Ok host) new = (refusal_of old e ≡ None) × HasHeard old e.act (Some host) × (new ≡ after old e)
+abbrev pub Hears : Farm → Entry → Result (Option ℕ) CommitRefusal → Farm → Type 0
+Hears old e (Ok host) new = (refusal_of old e ≡ None) × HasHeard old e.act host × (new ≡ after old e)
 Hears old e (Err (commit.Refused why)) new = (refusal_of old e ≡ Some why) × (new ≡ old)
 Hears old e (Err commit.Store) new = (refusal_of old e ≡ None) × ChangesRows old (after old e) × (new ≡ old)
 Hears old e (Err commit.NoMemory) new = new ≡ old

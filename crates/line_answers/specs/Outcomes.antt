@@ -26,7 +26,7 @@ pub record IsAccepted (f : Farm) (line : List ℕ) (moment : ℕ) (report : Repo
 -- the report's host is there, and what is recorded of the line is that it was heard, and then exactly its round
 pub record HasWholeRound (f : Farm) (line : List ℕ) (moment : ℕ) (mark : Mark) (report : Report) : Type 0 where
   pub host : ℕ
-  pub named : host_named f report.host ≡ Some host
+  pub named : host_named f report.heard.host ≡ Some host
   pub recorded : (answer_to f line moment mark).entries ≡ heard_entry report moment ∷ round_for (after f (heard_entry report moment)) host moment
 
 -- A line past the limit is told so, wherever memory runs out or the store fails. Each other, where neither does, is answered by what it asks. Where

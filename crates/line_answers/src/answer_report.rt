@@ -1,22 +1,23 @@
 //! Answering a report.
 
 ghost use Rattle.std.specs.Prelude.{◌≡◌, ◌≤◌, IfOk, Some};
-ghost use Rattle.farm_types.specs.declared.entry.Act.TheVariants as act;
+ghost use Rattle.farm_types.specs.declared.entry.Act.TheVariants as acts;
 ghost use Rattle.farm_types.specs.declared.limits.TheConstants.{BOOKINGS_EACH};
 ghost use Rattle.farm_types.specs.Farm.{Farm};
 ghost use Rattle.farm_types.specs.Dispatch.{round_for};
-ghost use Rattle.farm_types.specs.Step.{after};
+ghost use Rattle.farm_types.specs.Step.{HasCondition, after};
 ghost use Rattle.farm_keeper.specs.Keeping.{Continues};
 ghost use Rattle.recorder.specs.Faults.{is_store_refusal};
 ghost use Rattle.recorder.specs.Recording.{ChangesNone, HasSameRows, IsOfEntry, IsUnstored};
 ghost use Rattle.recorder.specs.Telling.{GoesOn, TellsCommit};
 ghost use Rattle.farm_types.specs.Formed.{IsFormed};
-ghost use Rattle.farm_lines.specs.Asked.{heard_entry, heard_of};
+ghost use Rattle.farm_lines.specs.Asked.{heard_entry};
 ghost use Rattle.farm_lines.specs.Reply.{report_reply};
 ghost use Rattle.farm_lines.specs.Transcript.{Plain};
 ghost use Rattle.line_answers.specs.LineAnswers.{AnswersReport, Hears, TakesReport, TakesRound, reported, unrecorded_reply};
 ghost use Rattle.line_answers.specs.Lines.{IsLineOfTaken, shown};
-ghost use Rattle.line_answers.specs.Reports.{IsHeard, IsTold};
+ghost use Rattle.line_answers.specs.Launches.{told};
+ghost use Rattle.line_answers.specs.Reports.{IsReport, TellsHost};
 
 use crate::launches::{acks, kills, launches};
 use crate::reply_line::{ReplyLine, line_of};
@@ -25,7 +26,7 @@ use dispatch_plan::round;
 use farm_core::{Change, Farm};
 use farm_keeper::Keeper;
 use farm_lines::{Reply, Report, ReportReply};
-use farm_types::{Act, Attempt, Cut, Entry, HeardAct, HostNo, Items};
+use farm_types::{Act, Attempt, Cut, Entry, HeardAct, HostNo};
 use recorder::{CommitRefusal, PlainRecorder};
 use std::alloc::{AllocError, Global};
 
@@ -58,17 +59,17 @@ pub fn take_report<K: Keeper>(
     ensures few { result.booked ≤ BOOKINGS_EACH }
     ensures same { ChangesNone recorder.old.farm (reported recorder.old.farm report moment Plain).entries → recorder.new.keeper ≡ recorder.old.keeper }
 {
-    let (heard, running) = parts_of(report);
     let entry = Entry {
         moment,
-        act: Act::Heard(heard),
+        act: Act::Heard(report.heard),
     };
     let recorded = record_heard(alloc, recorder, &entry);
     take_recorded(
         alloc,
         recorder,
         recorded,
-        &report_of(heard_in(entry), running),
+        &entry.act,
+        report.running.as_slice(),
         moment,
     )
 }
@@ -84,14 +85,14 @@ fn taken_line(alloc: Global, reply: Reply) -> ReplyLine
     }
 }
 
-// Records what a report tells, and says which host it is of.
+// Records a report's entry, and says which host it is of.
 fn record_heard<K: Keeper>(
     alloc: Global,
     recorder: &mut PlainRecorder<K>,
     entry: &Entry,
-) -> Result<HostNo, CommitRefusal>
+) -> Result<Option<HostNo>, CommitRefusal>
+    requires condition { HasCondition recorder.old.farm entry.now.act }
     requires formed { IsFormed entry.now }
-    requires heard { IsHeard entry.now.act }
     ensures farm { Hears recorder.old.farm entry.now result recorder.new.farm }
     ensures keeper { Continues K.tells K.faults recorder.old.keeper recorder.new.keeper (is_store_refusal result) }
     ensures told { TellsCommit K.commits recorder.old.farm entry.now result recorder.old.keeper recorder.new.keeper }
@@ -101,21 +102,20 @@ fn record_heard<K: Keeper>(
     record_change(alloc, recorder, entry, change)
 }
 
-// Records the change that a report makes, and says which host it is of.
+// Records the change that a report's entry makes, and says which host it is of.
 fn record_change<K: Keeper>(
     alloc: Global,
     recorder: &mut PlainRecorder<K>,
     entry: &Entry,
     change: Change,
-) -> Result<HostNo, CommitRefusal>
-    requires of_entry { IsOfEntry recorder.old.farm entry.now change }
-    requires heard { IsHeard entry.now.act }
+) -> Result<Option<HostNo>, CommitRefusal>
+    requires { IsOfEntry recorder.old.farm entry.now change }
     ensures farm { Hears recorder.old.farm entry.now result recorder.new.farm }
     ensures keeper { Continues K.tells K.faults recorder.old.keeper recorder.new.keeper (is_store_refusal result) }
     ensures told { TellsCommit K.commits recorder.old.farm entry.now result recorder.old.keeper recorder.new.keeper }
     ensures same { HasSameRows recorder.old.farm (after recorder.old.farm entry.now) → recorder.new.keeper ≡ recorder.old.keeper }
 {
-    let host = host_of(&change);
+    let host = change.heard();
     recorder.record(alloc, entry, change)?;
     Ok(host)
 }
@@ -124,24 +124,41 @@ fn record_change<K: Keeper>(
 fn take_recorded<K: Keeper>(
     alloc: Global,
     recorder: &mut PlainRecorder<K>,
-    recorded: Result<HostNo, CommitRefusal>,
-    report: &Report,
+    recorded: Result<Option<HostNo>, CommitRefusal>,
+    act: &Act,
+    running: &[Attempt],
     moment: u64,
 ) -> Taken
-    ensures taken { (f : Farm) (before : K) → Hears f (heard_entry report.now moment) recorded recorder.old.farm
+    requires { IfOk recorded (TellsHost act.now) }
+    ensures taken { (f : Farm) (before : K) (report : Report) → IsReport act.now running.now report → Hears f (heard_entry report moment) recorded recorder.old.farm
         → Continues K.tells K.faults before recorder.old.keeper (is_store_refusal recorded)
-        → TellsCommit K.commits f (heard_entry report.now moment) recorded before recorder.old.keeper
-        → TakesReport f report.now moment recorder.new.farm result (GoesOn K.commits K.tells K.faults f before recorder.new.keeper) }
+        → TellsCommit K.commits f (heard_entry report moment) recorded before recorder.old.keeper
+        → TakesReport f report moment recorder.new.farm result (GoesOn K.commits K.tells K.faults f before recorder.new.keeper) }
     ensures few { result.booked ≤ BOOKINGS_EACH }
-    ensures same { (f : Farm) → Hears f (heard_entry report.now moment) recorded recorder.old.farm → ChangesNone f (reported f report.now moment Plain).entries
-        → recorder.new.keeper ≡ recorder.old.keeper }
+    ensures same { (f : Farm) (report : Report) → IsReport act.now running.now report → Hears f (heard_entry report moment) recorded recorder.old.farm
+        → ChangesNone f (reported f report moment Plain).entries → recorder.new.keeper ≡ recorder.old.keeper }
 {
     match recorded {
-        Ok(host) => take_round(alloc, recorder, host, report, moment),
+        Ok(told) => {
+            let (host, heard) = heard_by(told, act);
+            take_round(alloc, recorder, host, heard, running, moment)
+        }
         Err(why) => Taken {
             reply: unrecorded_reply(why),
             booked: 0,
         },
+    }
+}
+
+// The host that was heard, and what it told.
+fn heard_by(told: Option<HostNo>, act: &Act) -> (HostNo, &HeardAct)
+    requires { TellsHost act.now told }
+    ensures host { told ≡ Some result.0 }
+    ensures heard { act.now ≡ acts.Heard result.1.now }
+{
+    match (told, act) {
+        (Some(host), Act::Heard(heard)) => (host, heard),
+        _ => unreachable!(),
     }
 }
 
@@ -156,71 +173,22 @@ fn unrecorded_reply(why: CommitRefusal) -> Reply
     }
 }
 
-// The host that the report is of.
-fn host_of(change: &Change) -> HostNo
-    requires { IsTold change.now.act.heard }
-    ensures { change.now.act.heard ≡ Some result }
-{
-    match change.heard() {
-        Some(host) => host,
-        None => unreachable!(),
-    }
-}
-
-// What the report's entry tells, and what the report says is running.
-fn parts_of(report: Report) -> (HeardAct, Items<Attempt>)
-    ensures heard { result.0 ≡ heard_of report }
-    ensures running { result.1 ≡ report.running }
-{
-    let heard = HeardAct {
-        host: report.host,
-        boot: report.boot,
-        seq: report.seq,
-        done: report.done,
-    };
-    (heard, report.running)
-}
-
-// What the entry of a report tells.
-fn heard_in(entry: Entry) -> HeardAct
-    requires { IsHeard entry.act }
-    ensures { entry.act ≡ act.Heard result }
-{
-    match entry.act {
-        Act::Heard(heard) => heard,
-        _ => unreachable!(),
-    }
-}
-
-// The report that tells this.
-fn report_of(heard: HeardAct, running: Items<Attempt>) -> Report
-    ensures heard { heard_of result ≡ heard }
-    ensures running { result.running ≡ running }
-{
-    Report {
-        host: heard.host,
-        boot: heard.boot,
-        seq: heard.seq,
-        running,
-        done: heard.done,
-    }
-}
-
 // Walks the round that follows a report, and says what is replied to the report.
 fn take_round<K: Keeper>(
     alloc: Global,
     recorder: &mut PlainRecorder<K>,
     host: HostNo,
-    report: &Report,
+    heard: &HeardAct,
+    running: &[Attempt],
     moment: u64,
 ) -> Taken
-    ensures taken { TakesRound recorder.old.farm host report.now moment recorder.new.farm result
+    ensures taken { TakesRound recorder.old.farm host (told heard.now running.now) moment recorder.new.farm result
         (GoesOn K.commits K.tells K.faults recorder.old.farm recorder.old.keeper recorder.new.keeper) }
     ensures few { result.booked ≤ BOOKINGS_EACH }
     ensures same { ChangesNone recorder.old.farm (round_for recorder.old.farm host moment) → recorder.new.keeper ≡ recorder.old.keeper }
 {
     let walked = round(alloc, recorder, host, moment);
-    match report_reply(alloc, recorder.read(), host, report, walked.cut) {
+    match report_reply(alloc, recorder.read(), host, heard, running, walked.cut) {
         Ok(reply) => Taken {
             reply,
             booked: walked.booked,
@@ -237,20 +205,21 @@ fn report_reply(
     alloc: Global,
     farm: &Farm,
     host: HostNo,
-    report: &Report,
+    heard: &HeardAct,
+    running: &[Attempt],
     cut: Cut,
 ) -> Result<Reply, AllocError>
-    ensures { IfOk result (λ reply. reply ≡ report_reply farm.now host report.now cut) }
+    ensures { IfOk result (λ reply. reply ≡ report_reply farm.now host (told heard.now running.now) cut) }
 {
-    let acks = acks(alloc, report)?;
-    let kills = kills(alloc, farm, host, report)?;
-    let launches = launches(alloc, farm, host, report)?;
+    let acks = acks(alloc, heard.done.as_slice())?;
+    let kills = kills(alloc, farm, host, heard.boot, running)?;
+    let launches = launches(alloc, farm, host, heard, running)?;
     Ok(Reply::Report(ReportReply {
         acks,
-        boot: report.boot,
+        boot: heard.boot,
         cut,
         kills,
         launches,
-        seq: report.seq,
+        seq: heard.seq,
     }))
 }

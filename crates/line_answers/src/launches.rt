@@ -4,22 +4,22 @@ ghost use Rattle.std.specs.Prelude.{◌≡◌, ◌++◌, IfOk, OnOk, option_to_l
 ghost use Rattle.std.specs.List.{list_any};
 ghost use Rattle.farm_lines.specs.Reply.{acks_of, kills_of, launches_of, launch_of, launch_for, due_in, is_due, is_listed};
 ghost use Rattle.farm_types.specs.Run.{is_same};
-ghost use Rattle.line_answers.specs.Launches.{due_at};
+ghost use Rattle.line_answers.specs.Launches.{due_at, told};
 
 use command_text::{expand, frame_name};
 use farm_core::Farm;
-use farm_lines::{LAUNCHES_EACH, Launch, Report};
+use farm_lines::{LAUNCHES_EACH, Launch};
 use farm_types::{
-    Attempt, DoneItem, Frame, HostNo, Items, JobRow, LayerRow, ProcRow, Slot, SlotRow,
+    Attempt, DoneItem, Frame, HeardAct, HostNo, Items, JobRow, LayerRow, ProcRow, Slot, SlotRow,
 };
 use std::alloc::{AllocError, Global};
 
 /// The attempts that the report says are done, in order.
-pub fn acks(alloc: Global, report: &Report) -> Result<Items<Attempt>, AllocError>
-    ensures { IfOk result (λ acks. acks ≡ acks_of report.now) }
+pub fn acks(alloc: Global, done: &[DoneItem]) -> Result<Items<Attempt>, AllocError>
+    ensures { IfOk result (λ acks. acks ≡ acks_of done.now) }
 {
     let mut acks = Items::new(alloc);
-    for item in report.done.as_slice() {
+    for item in done {
         acks.push(item.attempt)?;
     }
     Ok(acks)
@@ -30,13 +30,14 @@ pub fn kills(
     alloc: Global,
     farm: &Farm,
     host: HostNo,
-    report: &Report,
+    boot: u32,
+    running: &[Attempt],
 ) -> Result<Items<Attempt>, AllocError>
-    ensures { IfOk result (λ kills. kills ≡ kills_of farm.now host report.now) }
+    ensures { IfOk result (λ kills. kills ≡ kills_of farm.now host boot running.now) }
 {
     let mut kills = Items::new(alloc);
-    for attempt in report.running.as_slice() {
-        if !farm.books().is_live(host, report.boot, *attempt) {
+    for attempt in running {
+        if !farm.books().is_live(host, boot, *attempt) {
             kills.push(*attempt)?;
         }
     }
@@ -49,9 +50,10 @@ pub fn launches(
     alloc: Global,
     farm: &Farm,
     host: HostNo,
-    report: &Report,
+    heard: &HeardAct,
+    running: &[Attempt],
 ) -> Result<Items<Launch>, AllocError>
-    ensures { IfOk result (λ launches. launches ≡ launches_of farm.now host report.now) }
+    ensures { IfOk result (λ launches. launches ≡ launches_of farm.now host (told heard.now running.now)) }
 {
     let mut launches = Items::new(alloc);
     let mut next = farm.books().first_attempt(host);
@@ -59,7 +61,7 @@ pub fn launches(
         if launches.len() >= LAUNCHES_EACH as usize {
             return Ok(launches);
         }
-        add_due(alloc, &mut launches, farm, host, report, slot)?;
+        add_due(alloc, &mut launches, farm, host, heard, running, slot)?;
         next = farm.books().next_attempt(slot);
     }
     Ok(launches)
@@ -71,15 +73,16 @@ fn add_due(
     launches: &mut Items<Launch>,
     farm: &Farm,
     host: HostNo,
-    report: &Report,
+    heard: &HeardAct,
+    running: &[Attempt],
     slot: Slot,
 ) -> Result<(), AllocError>
-    ensures { OnOk result (launches.new ≡ launches.old ++ option_to_list (due_at farm.now host report.now slot)) }
+    ensures { OnOk result (launches.new ≡ launches.old ++ option_to_list (due_at farm.now host (told heard.now running.now) slot)) }
 {
     let Some(row) = farm.books().slot(slot) else {
         return Ok(());
     };
-    if let Some(launch) = due(alloc, farm, host, report, &row)? {
+    if let Some(launch) = due(alloc, farm, host, heard, running, &row)? {
         launches.push(launch)?;
     }
     Ok(())
@@ -90,15 +93,16 @@ fn due(
     alloc: Global,
     farm: &Farm,
     host: HostNo,
-    report: &Report,
+    heard: &HeardAct,
+    running: &[Attempt],
     slot: &SlotRow,
 ) -> Result<Option<Launch>, AllocError>
-    ensures { IfOk result (λ launch. launch ≡ due_in farm.now host report.now slot.now) }
+    ensures { IfOk result (λ launch. launch ≡ due_in farm.now host (told heard.now running.now) slot.now) }
 {
     let Some(proc) = slot.proc else {
         return Ok(None);
     };
-    if is_due_on(host, report, &proc) {
+    if is_due_on(host, heard, running, &proc) {
         launch_at(alloc, farm, slot, &proc)
     } else {
         Ok(None)
@@ -106,21 +110,21 @@ fn due(
 }
 
 // Whether the live attempt is on this host and boot and the report doesn't list it.
-fn is_due_on(host: HostNo, report: &Report, proc: &ProcRow) -> bool
-    ensures { result ≡ is_due host report.now proc.now }
+fn is_due_on(host: HostNo, heard: &HeardAct, running: &[Attempt], proc: &ProcRow) -> bool
+    ensures { result ≡ is_due host (told heard.now running.now) proc.now }
 {
     let attempt = Attempt {
         slot: proc.slot,
         version: proc.version,
     };
-    proc.host == host && proc.boot == report.boot && !is_listed(report, &attempt)
+    proc.host == host && proc.boot == heard.boot && !is_listed(heard, running, &attempt)
 }
 
 // Whether the report lists the attempt as running or as done.
-fn is_listed(report: &Report, attempt: &Attempt) -> bool
-    ensures { result ≡ is_listed report.now attempt.now }
+fn is_listed(heard: &HeardAct, running: &[Attempt], attempt: &Attempt) -> bool
+    ensures { result ≡ is_listed (told heard.now running.now) attempt.now }
 {
-    is_running(report.running.as_slice(), attempt) || is_done(report.done.as_slice(), attempt)
+    is_running(running, attempt) || is_done(heard.done.as_slice(), attempt)
 }
 
 fn is_running(running: &[Attempt], attempt: &Attempt) -> bool

@@ -176,7 +176,7 @@ of_entry f e change formed condition makes =
     record { legal = record { formed = formed; accepted = makes.planned.accepted; condition = condition }; makes = makes }
 
 pub commits_made : (f new : Farm) (e : Entry) (change : Change) → Makes f e change → (r : Result Answer CommitRefusal)
-    → RecordsAnswered f (after_change f change) change.act.answer r new → Commits f e r new
+    → RecordsAnswered f (after_change f change) change.answer r new → Commits f e r new
 commits_made f new e change makes (Ok said) is = (makes.planned.accepted, is.0 ∙ makes.planned.answer, is.1 ∙ makes.planned.farm)
 commits_made f new e change makes (Err (refusal.Refused why)) is = absurd is
 commits_made f new e change makes (Err refusal.Store) is = (makes.planned.accepted, λ rows. is.1 (rows ∙ ap rows_of (sym makes.planned.farm)), is.0)

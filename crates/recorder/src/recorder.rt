@@ -114,7 +114,7 @@ impl<K: Keeper> PlainRecorder<K> {
         change: Change,
     ) -> Result<Answer, CommitRefusal>
         requires { IsOfEntry self.old.farm entry.now change }
-        ensures farm { RecordsAnswered self.old.farm (after_change self.old.farm change) change.act.answer result self.new.farm }
+        ensures farm { RecordsAnswered self.old.farm (after_change self.old.farm change) change.answer result self.new.farm }
         ensures same { HasSameRows self.old.farm (after self.old.farm entry.now) → self.new.keeper ≡ self.old.keeper }
         ensures keeper { Continues K.tells K.faults self.old.keeper self.new.keeper (is_store_refusal result) }
         ensures told { TellsCommit K.commits self.old.farm entry.now result self.old.keeper self.new.keeper }

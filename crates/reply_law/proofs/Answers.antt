@@ -19,7 +19,7 @@ use Rattle.farm_lines.specs.declared.reply.Reply.TheVariants as reply
 use Rattle.farm_lines.specs.declared.report.Report.{Report}
 use Rattle.farm_lines.specs.declared.request.Request.{Request}
 use Rattle.farm_lines.specs.declared.request.Request.TheVariants as request
-use Rattle.farm_lines.specs.Asked.{asked_of, entry_at, heard_entry, heard_of}
+use Rattle.farm_lines.specs.Asked.{asked_of, entry_at, heard_entry}
 use Rattle.farm_lines.specs.FormedLines.{IsFormedAttempt, IsFormedRefusal, IsFormedReply, IsFormedRequest}
 use Rattle.farm_lines.specs.Reply.{ok_reply}
 use Rattle.farm_lines.specs.Request.{RequestError, request_of}
@@ -55,8 +55,8 @@ module _ (f : Farm) (kept : IsKeptFarm f) (report : Report) (moment : ℕ) (form
   accepted_formed mark (Some host) none = marked_formed host mark none
 
   report_replies : (mark : Mark) (why : Option Refusal) → refusal_of f (heard_entry report moment) ≡ why → Replies (report_answer f report moment mark why)
-  report_replies mark None none = accepted_formed mark (host_named f report.host) none
-  report_replies mark (Some why) is = subst (λ (o : Option Refusal). IfSome o IsFormedRefusal) is (refused_formed f (act.Heard (heard_of report)) kept.rows formed.act_formed tt)
+  report_replies mark None none = accepted_formed mark (host_named f report.heard.host) none
+  report_replies mark (Some why) is = subst (λ (o : Option Refusal). IfSome o IsFormedRefusal) is (refused_formed f (act.Heard report.heard) kept.rows formed.act_formed tt)
 
 -- ---- other acts
 

@@ -20,7 +20,6 @@ use Rattle.farm_law.proofs.KeptJobsFormed.{job_formed}
 use Rattle.command_text.proofs.ExpandedTexts.{expanded_text}
 use Rattle.farm_lines.specs.declared.limits.TheConstants.{LAUNCHES_EACH}
 use Rattle.farm_lines.specs.declared.report.Report.{Report}
-use Rattle.farm_lines.specs.Asked.{heard_of}
 use Rattle.farm_lines.specs.FormedLines.{IsFormedAttempt, IsFormedLaunch, IsFormedReply}
 use Rattle.farm_lines.specs.Reply.{due_in, is_due, launch_for, launch_of, report_reply}
 use Rattle.reply_law.proofs.Attempts.{AttemptWithin, attempt_within}
@@ -64,14 +63,14 @@ module _ (f : Farm) (kept : KeepsRows f) (host : ℕ) (report : Report) where
       by None is = tt
       by (Some p) is = if_one IsFormedLaunch (is_due host report p) (launch_of f s p) None (of_frame i s at p is s.frame) tt
 
-  pub report_formed : (ended : Cut) → IsFormedHeard (heard_of report) → All IsFormedAttempt report.running → IsFormedReply (report_reply f host report ended)
+  pub report_formed : (ended : Cut) → IsFormedHeard report.heard → All IsFormedAttempt report.running → IsFormedReply (report_reply f host report ended)
   report_formed ended formed running =
       record {
         each_ack =
-            All-map IsFormedAttempt (λ (d : DoneItem). d.attempt) report.done
-            (All-weaker IsFormedDone (λ (d : DoneItem). IsFormedAttempt d.attempt) (λ d done. record { slot_within = done.slot_within; version_within = done.version_within }) report.done formed.each_done);
+            All-map IsFormedAttempt (λ (d : DoneItem). d.attempt) report.heard.done
+            (All-weaker IsFormedDone (λ (d : DoneItem). IsFormedAttempt d.attempt) (λ d done. record { slot_within = done.slot_within; version_within = done.version_within }) report.heard.done formed.each_done);
         boot_within = formed.boot_within;
-        each_kill = All-filter (λ a. not (is_live f host report.boot a.slot a.version)) IsFormedAttempt report.running running;
+        each_kill = All-filter (λ a. not (is_live f host report.heard.boot a.slot a.version)) IsFormedAttempt report.running running;
         few = take_few LAUNCHES_EACH (filter_map (due_in f host report) f.slots);
         each_launch = All-take IsFormedLaunch LAUNCHES_EACH (filter_map (due_in f host report) f.slots) (found_each IsFormedLaunch (due_in f host report) f.slots due_formed);
         seq_within = formed.seq_within;

@@ -17,7 +17,7 @@ use farm_lines::{
     AttemptReader, Launch, Report, ReportReply, Request, RequestFault, read_list, read_name,
     write_attempts,
 };
-use farm_types::LAST_BOOT;
+use farm_types::{HeardAct, LAST_BOOT};
 use object_writer::ObjectWriter;
 use state_names::cut_word;
 use std::alloc::{AllocError, Global};
@@ -46,11 +46,13 @@ fn report(alloc: Global, object: &Map) -> Result<Report, FieldFault>
         &["boot", "done", "host", "op", "running", "seq"],
     )?;
     Ok(Report {
-        host,
-        boot: boot as u32,
-        seq,
+        heard: HeardAct {
+            host,
+            boot: boot as u32,
+            seq,
+            done,
+        },
         running,
-        done,
     })
 }
 

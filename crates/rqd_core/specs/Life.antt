@@ -48,7 +48,7 @@ abbrev pub boot_of : RqdConfig → BootLine
 boot_of config = record { host = config.name; nonce = config.nonce; alloc = config.alloc; tags = []; cores = config.cores; memory = config.memory }
 
 abbrev pub report_of : Life → ℕ → Report
-report_of l boot = record { host = l.config.name; boot = boot; seq = l.seq + 1; running = attempts_of l.running; done = l.finished }
+report_of l boot = record { heard = record { host = l.config.name; boot = boot; seq = l.seq + 1; done = l.finished }; running = attempts_of l.running }
 
 abbrev pub request_from : Life → Option ℕ → Request
 request_from l None = request.Boot (boot_of l.config)

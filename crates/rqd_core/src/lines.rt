@@ -12,7 +12,7 @@ use crate::rqd::Rqd;
 use crate::sent_line::SentLine;
 use client_codec::write_request;
 use farm_lines::{Report, Request};
-use farm_types::{BootLine, Items, Text};
+use farm_types::{BootLine, HeardAct, Items, Text};
 use std::alloc::{AllocError, Global};
 
 impl Rqd {
@@ -67,11 +67,13 @@ impl Rqd {
         ensures { IfOk result (λ report. report ≡ report_of self.now boot) }
     {
         Ok(Report {
-            host: self.config.name.copy(alloc)?,
-            boot,
-            seq: self.seq + 1,
+            heard: HeardAct {
+                host: self.config.name.copy(alloc)?,
+                boot,
+                seq: self.seq + 1,
+                done: Items::from_vec(Vec::from_slice(alloc, self.finished.as_slice())?),
+            },
             running: self.attempts.copy(alloc)?,
-            done: Items::from_vec(Vec::from_slice(alloc, self.finished.as_slice())?),
         })
     }
 }

@@ -23,7 +23,7 @@ pub fn expected_of(
     lines: &[u8],
     failing: &[u64],
 ) -> Result<Expected, AllocError> {
-    let (told, keeper) = run(alloc, keeper_of(alloc, rows, failing)?, lines);
+    let (told, keeper) = run(alloc, keeper_of(alloc, rows, failing)?, None, lines);
     let told = told?;
     let (without, with) = rows_of(alloc, keeper)?;
     Ok(Expected {

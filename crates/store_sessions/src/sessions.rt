@@ -7,6 +7,7 @@ use farm_keeper::Keeper;
 use farm_types::{Items, Text};
 use session::run_cuebot;
 use std::alloc::{AllocError, Global};
+use store_work::Work;
 
 // How many bytes a read gives and a write takes at most.
 const MOST: usize = 4096;
@@ -28,6 +29,44 @@ pub struct Told {
     pub failed: Vec<u64>,
 }
 
+/// A session of these lines, whose keeper's call of the number `failing`, counted from 1, fails.
+#[derive(Drop)]
+pub struct Session<'a> {
+    lines: &'a [u8],
+    failing: Option<u64>,
+    told: Option<Result<Told, AllocError>>,
+}
+
+impl<'a> Session<'a> {
+    pub fn of(lines: &'a [u8], failing: Option<u64>) -> Session<'a> {
+        Session {
+            lines,
+            failing,
+            told: None,
+        }
+    }
+
+    /// What it told, or where it wasn't run what one tells over a store that can't be opened.
+    pub fn into_told(self, alloc: Global) -> Result<Told, AllocError> {
+        match self.told {
+            Some(told) => told,
+            None => Ok(Told {
+                status: Status::StoreFailed,
+                written: Vec::new(alloc),
+                failed: Vec::new(alloc),
+            }),
+        }
+    }
+}
+
+impl Work for Session<'_> {
+    fn work<K: Keeper>(&mut self, alloc: Global, keeper: K) -> K {
+        let (told, keeper) = run(alloc, keeper, self.failing, self.lines);
+        self.told = Some(told);
+        keeper
+    }
+}
+
 // What a session reads, writes and is told, but for its keeper.
 #[derive(Drop)]
 struct Edges {
@@ -37,10 +76,15 @@ struct Edges {
     words: Items<Text>,
 }
 
-/// Runs a session of these lines over a keeper, and hands the keeper back.
-pub fn run<K: Keeper>(alloc: Global, keeper: K, lines: &[u8]) -> (Result<Told, AllocError>, K) {
+/// Runs a session of these lines over a keeper, whose call of the number `failing` fails, and hands the keeper back.
+pub fn run<K: Keeper>(
+    alloc: Global,
+    keeper: K,
+    failing: Option<u64>,
+    lines: &[u8],
+) -> (Result<Told, AllocError>, K) {
     match make_edges(alloc, lines) {
-        Ok(edges) => run_between(alloc, edges, keeper),
+        Ok(edges) => run_between(alloc, edges, keeper, failing),
         Err(fault) => (Err(fault), keeper),
     }
 }
@@ -59,13 +103,14 @@ fn run_between<K: Keeper>(
     alloc: Global,
     mut edges: Edges,
     keeper: K,
+    failing: Option<u64>,
 ) -> (Result<Told, AllocError>, K) {
     let (status, watched) = run_cuebot(
         alloc,
         edges.words.as_slice(),
         &mut edges.source,
         &mut edges.sink,
-        Watched::over(alloc, keeper),
+        Watched::over(alloc, keeper, failing),
         &mut edges.clock,
     );
     let (keeper, failed) = watched.into_parts();

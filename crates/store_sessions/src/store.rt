@@ -1,12 +1,11 @@
 //! Stores on disks in memory: sessions over them, and the rows that they hold.
 
 use crate::fault::{Fault, wrong};
-use crate::sessions::{Told, run};
-use command_line::Status;
+use crate::sessions::{Session, Told};
 use farm_keeper::{Keeper, KeeperFault, Row};
 use farm_types::Items;
 use sqlite::Files;
-use std::alloc::{AllocError, Global};
+use std::alloc::Global;
 use store_work::{
     Contents, DiskFault, Reached, Stop, StoppingDisk, Work, Worked, bytes_of, work_over_disks,
 };
@@ -17,21 +16,6 @@ pub struct Ran {
     pub is_opened: bool,
     pub told: Told,
     pub files: Files<StoppingDisk>,
-}
-
-// A session of these lines, and what it told where there was a keeper.
-#[derive(Drop)]
-struct Session<'a> {
-    lines: &'a [u8],
-    told: Option<Result<Told, AllocError>>,
-}
-
-impl Work for Session<'_> {
-    fn work<K: Keeper>(&mut self, alloc: Global, keeper: K) -> K {
-        let (told, keeper) = run(alloc, keeper, self.lines);
-        self.told = Some(told);
-        keeper
-    }
 }
 
 // The rows of a keeper, where there was one.
@@ -54,11 +38,11 @@ pub fn run_over(
     stop: Stop,
     lines: &[u8],
 ) -> Result<Ran, Fault> {
-    let mut session = Session { lines, told: None };
+    let mut session = Session::of(lines, None);
     let Worked { reached, files } = worked(alloc, contents, stop, &mut session)?;
     Ok(Ran {
         is_opened: reached == Reached::Keeper,
-        told: told_by(alloc, session)?,
+        told: session.into_told(alloc)?,
         files,
     })
 }
@@ -73,18 +57,6 @@ fn worked<W: Work>(
         Ok(worked) => Ok(worked),
         Err(DiskFault::Failed) => Err(Fault::Disk),
         Err(DiskFault::StoppedElsewhere) => Err(wrong(alloc, "disks stopped at another call")),
-    }
-}
-
-// What a session told, or what one tells over a store that can't be opened.
-fn told_by(alloc: Global, session: Session<'_>) -> Result<Told, AllocError> {
-    match session.told {
-        Some(told) => told,
-        None => Ok(Told {
-            status: Status::StoreFailed,
-            written: Vec::new(alloc),
-            failed: Vec::new(alloc),
-        }),
     }
 }
 

@@ -26,13 +26,14 @@ use Rattle.farm_types.proofs.Lists.{and_both, slice_get_below}
 use Rattle.farm_rows.specs.declared.farm_row.FarmRow.TheVariants as row
 use Rattle.farm_rows.specs.declared.frame_row.FrameRow.{FrameRow}
 use Rattle.farm_rows.specs.Recovery.{comes_after, slot_fits, slot_row, unused_slot, with_slot}
-use Rattle.stored_rows.specs.Known.{HasRoom, HostsKnown, JobsKnown, KnowsHosts, KnowsJobs, KnowsLayers, KnowsSlots, KnowsTold, LayerKnown, Rises, found_from, found_with, has_left, layer_known, left_at, slot_stands, with_attempt, with_found, with_left}
+use Rattle.row_index.specs.Index.{HostsKnown, JobsKnown, LayerKnown, found_with}
+use Rattle.stored_rows.specs.Known.{HasRoom, KnowsHosts, KnowsJobs, KnowsLayers, KnowsSlots, KnowsTold, Rises, found_from, has_left, layer_known, left_at, slot_stands, with_attempt, with_found, with_left}
 use Rattle.stored_rows.specs.Told.{Told, told_with}
-use Rattle.farm_rows.proofs.FrameFits.{slot_parts}
-use Rattle.farm_rows.proofs.OneSlotMore.{slots_long, sum_with}
 use Rattle.stored_rows.proofs.FrameFits.{FreeAt, OnHost, free_at, host_of}
 use Rattle.stored_rows.proofs.Once.{changed_mapped, once_rising}
 use Rattle.stored_rows.proofs.Until.{rises_kept, until_id}
+use Rattle.farm_rows.proofs.FrameFits.{slot_parts}
+use Rattle.farm_rows.proofs.OneSlotMore.{slots_long, sum_with}
 
 -- ---- totals
 

@@ -21,7 +21,8 @@ use Rattle.farm_types.specs.Rising.{job_key, layer_key}
 use Rattle.farm_rows.specs.declared.head_row.HeadRow.{HeadRow}
 use Rattle.farm_rows.specs.declared.farm_row.FarmRow.TheVariants as row
 use Rattle.farm_rows.specs.Recovery.{StoredKey, comes_after, end_fits, host_fits, is_new, job_fits}
-use Rattle.stored_rows.specs.Known.{HostsKnown, JobsKnown, KnowsHosts, KnowsSlots, KnowsSubs, KnowsTold, LayerKnown, has_left, known_with}
+use Rattle.row_index.specs.Index.{HostsKnown, JobsKnown, LayerKnown, known_with}
+use Rattle.stored_rows.specs.Known.{KnowsHosts, KnowsSlots, KnowsSubs, KnowsTold, has_left}
 use Rattle.stored_rows.specs.Told.{Told, told_with}
 use Rattle.stored_rows.proofs.Until.{rises_kept, rises_more, rises_none, until_kept, until_none}
 

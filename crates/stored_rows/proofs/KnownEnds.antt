@@ -12,7 +12,8 @@ use Rattle.farm_types.specs.Finish.{finishes}
 use Rattle.farm_types.specs.Ranges.{range_numbers}
 use Rattle.farm_types.specs.Rising.{layer_key}
 use Rattle.farm_rows.specs.Recovery.{StoredKey, first_job, first_layer, lacks_number, lacks_slots}
-use Rattle.stored_rows.specs.Known.{LayerKnown, first_ending, found_from, has_left, lacks_any, layer_known}
+use Rattle.row_index.specs.Index.{LayerKnown, lacks_any}
+use Rattle.stored_rows.specs.Known.{first_ending, found_from, has_left, layer_known}
 
 lacks_from : (f : Farm) (l : LayerRow) (position : ℕ) (ns : List ℤ) → list_any (λ slot. not (is_some slot)) (found_from f.slots l position ns) ≡ lacks_number f l position ns
 lacks_from f l position [] = refl

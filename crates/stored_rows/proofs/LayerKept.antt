@@ -18,8 +18,9 @@ use Rattle.farm_types.specs.Rising.{job_key, layer_key}
 use Rattle.farm_types.proofs.Lists.{and_both}
 use Rattle.farm_rows.specs.declared.farm_row.FarmRow.TheVariants as row
 use Rattle.farm_rows.specs.Recovery.{comes_after, layer_fits}
-use Rattle.stored_rows.specs.Known.{HostsKnown, JobsKnown, KnowsTold, LayerKnown, found_from, has_few_numbers, is_placed_below, layer_known, slot_stands}
-use Rattle.stored_rows.specs.Ranges.{IsRangeOf}
+use Rattle.row_index.specs.Index.{HostsKnown, JobsKnown, LayerKnown, is_placed_below}
+use Rattle.row_index.specs.Ranges.{IsRangeOf}
+use Rattle.stored_rows.specs.Known.{KnowsTold, found_from, has_few_numbers, layer_known, slot_stands}
 use Rattle.stored_rows.specs.Told.{Told, told_with}
 use Rattle.stored_rows.proofs.Kept.{all_push, slots_none}
 use Rattle.stored_rows.proofs.Until.{rises_kept, rises_more, until_kept}

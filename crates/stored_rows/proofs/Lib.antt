@@ -1,16 +1,13 @@
+pub use Rattle.row_index.proofs.Frames
 pub mod Finishes
 pub mod FoundFrames
 pub mod FrameFits
 pub mod FrameKept
-pub mod Frames
 pub mod Kept
 pub mod KnownEnds
 pub mod LayerKept
-pub mod Layers
-pub mod Named
 pub mod Numbers
 pub mod Once
-pub mod RangeTexts
 pub mod Shapes
 pub mod SubNumbers
 pub mod Until

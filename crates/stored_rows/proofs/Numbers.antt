@@ -12,7 +12,8 @@ use Rattle.farm_types.specs.Farm.{for_some, is_placed, slot_from}
 use Rattle.farm_types.specs.Ranges.{range_numbers}
 use Rattle.farm_types.proofs.Lists.{and_both, found_is}
 use Rattle.farm_rows.specs.Recovery.{numbers_in}
-use Rattle.stored_rows.specs.Known.{LayerKnown, found_at, found_from, is_free, is_free_at, layer_known, place_or}
+use Rattle.row_index.specs.Index.{LayerKnown, found_at}
+use Rattle.stored_rows.specs.Known.{found_from, is_free, is_free_at, layer_known, place_or}
 
 -- what a number's place says: it is the first that is the number
 abbrev pub Places : ℤ → List ℤ → Option ℕ → Type 0

@@ -1,5 +1,6 @@
 -- What is kept beside the lists, so that a row is judged without a walk over them.
-use Rattle.std.specs.Prelude.{ℕ, ℤ, ◌≡◌, ◌≤◌, ◌<◌, ◌==◌, ◌&&◌, ◌+◌, ◌^◌, ◌++◌, Bool, true, false, not, List, [], ◌∷◌, map, filter, length, is_some, nat_le, nat_lt, slice_get, if◌then◌else◌, Option, None, Some}
+use Rattle.std.specs.Prelude.{ℕ, ℤ, ◌≡◌, ◌≤◌, ◌<◌, ◌==◌, ◌&&◌, ◌+◌, ◌^◌, Bool, true, false, not}
+use Rattle.std.specs.Prelude.{List, [], ◌∷◌, map, filter, length, is_some, nat_le, if◌then◌else◌, Option, None, Some}
 use Rattle.std.specs.List.{list_all, list_any, position_or_len, sum_by}
 use Rattle.std.specs.Ordering.{int_eq}
 use Rattle.frame_range.specs.Places.{place_of}
@@ -20,41 +21,12 @@ use Rattle.farm_types.specs.Operators.{is_left_of}
 use Rattle.farm_types.specs.Ranges.{range_numbers}
 use Rattle.farm_types.specs.Rising.{IsRising, job_key, layer_key}
 use Rattle.farm_types.specs.Sums.{cores_on, memory_on, total_at, used_cores, used_memory}
-use Rattle.farm_types.specs.declared.limits.TheConstants.{MOST_FRAMES, MOST_LAYERS, MOST_SHOWS, SLOT_LIMIT, SUB_NUMBERS}
+use Rattle.farm_types.specs.declared.limits.TheConstants.{MOST_FRAMES, MOST_SHOWS, SLOT_LIMIT}
 use Rattle.farm_rows.specs.Recovery.{StoredKey, comes_after, numbers_in}
+use Rattle.row_index.specs.Index.{HostsKnown, JobsKnown, LayerKnown, found_at, found_with, is_numbered_sub, is_placed_below, with_frame_left, with_used}
 use Rattle.stored_rows.specs.Told.{Told}
 
 -- ---- what is known
-
--- the hosts' names, and how many cores and how much memory the attempts on each use
-pub record HostsKnown : Type 0 where
-  pub names : List (List ℕ)
-  pub cores : List ℕ
-  pub memory : List ℕ
-
--- the jobs' names, the numbers of the finished ones' finishes, and for each job whether a frame of it is left
-pub record JobsKnown : Type 0 where
-  pub names : List (List ℕ)
-  pub finished : List ℕ
-  pub left : List Bool
-
--- with one more job
-abbrev pub known_with : JobRow → JobsKnown → JobsKnown
-known_with j k =
-    record { names = k.names ++ j.name ∷ []; finished = if is_finished j then k.finished ++ j.finish ∷ [] else k.finished; left = k.left ++ false ∷ [] }
-
--- the slot at a position
-abbrev pub found_in : Option (Option ℕ) → Option ℕ
-found_in None = None
-found_in (Some slot) = slot
-
-abbrev pub found_at : List (Option ℕ) → ℕ → Option ℕ
-found_at slots position = found_in (slice_get slots position)
-
--- a layer's numbers, and the slot of each
-pub record LayerKnown : Type 0 where
-  pub numbers : List ℤ
-  pub slots : List (Option ℕ)
 
 -- the slots of a layer's numbers, counted from a position
 abbrev pub found_from : List SlotRow → LayerRow → ℕ → List ℤ → List (Option ℕ)
@@ -85,23 +57,17 @@ abbrev pub place_or : ℕ → Option ℕ → ℕ
 place_or count None = count
 place_or count (Some position) = position
 
--- a number has no slot
-abbrev pub lacks_any : LayerKnown → Bool
-lacks_any k = list_any (λ slot. not (is_some slot)) k.slots
-
 -- ---- with one more slot
-
-abbrev pub found_with : ℕ → ℕ → LayerKnown → LayerKnown
-found_with position slot k = record { numbers = k.numbers; slots = changed_at k.slots position (λ _. Some slot) }
 
 -- the number of the slot's frame has it
 abbrev pub with_found : List LayerRow → ℕ → Option Frame → List LayerKnown → List LayerKnown
 with_found layers slot None ks = ks
-with_found layers slot (Some x) ks = changed_at ks (position_or_len (λ (l : LayerRow). l.job == x.job && l.place == x.layer) layers) (found_with x.position slot)
+with_found layers slot (Some x) ks =
+    changed_at ks (position_or_len (λ (l : LayerRow). l.job == x.job && l.place == x.layer) layers) (found_with x.position slot)
 
 -- of the job of a frame that isn't done one is left
 abbrev pub left_at : List JobRow → Frame → JobsKnown → JobsKnown
-left_at jobs x k = record { names = k.names; finished = k.finished; left = changed_at k.left (position_or_len (λ (j : JobRow). j.job == x.job) jobs) (λ _. true) }
+left_at jobs x k = with_frame_left (position_or_len (λ (j : JobRow). j.job == x.job) jobs) k
 
 abbrev pub with_left : List JobRow → Option Frame → JobsKnown → JobsKnown
 with_left jobs None k = k
@@ -110,8 +76,7 @@ with_left jobs (Some x) k = if not (is_done_state x.state) then left_at jobs x k
 -- the attempt's amounts are used on its host
 abbrev pub with_attempt : Option ProcRow → HostsKnown → HostsKnown
 with_attempt None k = k
-with_attempt (Some p) k =
-    record { names = k.names; cores = changed_at k.cores p.host (λ n. n + p.cores); memory = changed_at k.memory p.host (λ n. n + p.memory) }
+with_attempt (Some p) k = with_used p.host p.cores p.memory k
 
 -- the sums of what attempts use stay numbers of 64 bits with the attempt
 abbrev pub HasRoom : Farm → Option ProcRow → Type 0
@@ -153,9 +118,6 @@ pub record KnowsJobs (k : JobsKnown) (jobs : List JobRow) (slots : List SlotRow)
   pub finishes : list_all (has_its_finish next_finish) jobs ≡ true
   pub left : k.left ≡ map (has_left slots) jobs
 
-abbrev pub is_placed_below : LayerRow → Bool
-is_placed_below l = nat_lt l.place MOST_LAYERS
-
 abbrev pub has_few_numbers : LayerRow → Bool
 has_few_numbers l = nat_le (length (range_numbers l.range)) MOST_FRAMES
 
@@ -177,10 +139,6 @@ pub record KnowsSlots (slots : List SlotRow) (layers : List LayerRow) (last : Op
   pub few : length slots ≤ SLOT_LIMIT
   pub until : IsUntil last 8 (length slots)
   pub stand : list_all (slot_stands layers) slots ≡ true
-
--- the subscription's number is one of a show and an allocation
-abbrev pub is_numbered_sub : SubRow → Bool
-is_numbered_sub s = nat_lt s.sub SUB_NUMBERS
 
 pub record KnowsSubs (shows : List ShowRow) (subs : List SubRow) : Type 0 where
   pub few : length shows ≤ MOST_SHOWS

@@ -1,5 +1,4 @@
 pub mod Inside
 pub mod Known
-pub mod Ranges
 pub mod SoFar
 pub mod Told

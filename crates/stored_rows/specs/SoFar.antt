@@ -5,7 +5,8 @@ use Rattle.farm_types.specs.declared.depend.LayerShape.{LayerShape}
 use Rattle.farm_types.specs.declared.rows.LayerRow.{LayerRow}
 use Rattle.farm_types.specs.Farm.{Farm}
 use Rattle.farm_rows.specs.Recovery.{slot_or}
-use Rattle.stored_rows.specs.Known.{LayerKnown, has_few_numbers}
+use Rattle.row_index.specs.Index.{LayerKnown}
+use Rattle.stored_rows.specs.Known.{has_few_numbers}
 
 -- a layer with its numbers and their slots, and that number for each that has none
 abbrev pub shape_with : ℕ → LayerRow → LayerKnown → LayerShape

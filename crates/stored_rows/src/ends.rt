@@ -6,13 +6,13 @@ ghost use Rattle.farm_types.specs.Finish.{finishes};
 ghost use Rattle.farm_types.specs.Kept.{is_pending_job};
 ghost use Rattle.farm_types.specs.Rising.{layer_key};
 ghost use Rattle.farm_rows.specs.Recovery.{first_job, first_layer, head_ends, lacks_frames, lacks_slots};
-ghost use Rattle.stored_rows.specs.Known.{first_ending, lacks_any};
+ghost use Rattle.row_index.specs.Index.{lacks_any};
+ghost use Rattle.stored_rows.specs.Known.{first_ending};
 ghost use Rattle.stored_rows.specs.Told.{early_fault};
 
-use crate::known_layer::KnownLayer;
-use crate::lookups::layer_key;
 use crate::stored_rows::StoredRows;
 use farm_types::{JobRow, LayerRow};
+use row_index::{KnownLayer, layer_key};
 
 impl StoredRows {
     /// The kind and the id of the first row at fault after the last one, but for the faults of depends: the farm's own row, a job whose layers aren't

@@ -4,7 +4,8 @@ ghost use Rattle.std.specs.Prelude.{◌≡◌, ◌^◌, length, nat_lt};
 ghost use Rattle.std.specs.List.{list_all};
 ghost use Rattle.farm_types.specs.Forms.{is_between, is_command_byte, is_command_text, is_name_or_empty, is_tag_text};
 ghost use Rattle.farm_types.specs.Kept.{are_tags, is_formed_alloc, is_formed_host, is_formed_job, is_formed_show};
-ghost use Rattle.farm_types.specs.declared.limits.TheConstants.{LAST_BOOT, LEAST_CORES, LEAST_MEMORY, MOST_COMMAND, MOST_CORES, MOST_FRAMES, MOST_MEMORY, MOST_PRIORITY};
+ghost use Rattle.farm_types.specs.declared.limits.TheConstants.{LAST_BOOT, LEAST_CORES, LEAST_MEMORY};
+ghost use Rattle.farm_types.specs.declared.limits.TheConstants.{MOST_COMMAND, MOST_CORES, MOST_FRAMES, MOST_MEMORY, MOST_PRIORITY};
 
 use farm_types::{
     AllocRow, Cores, HostRow, Items, JobRow, Kb, LAST_BOOT, LEAST_CORES, LEAST_MEMORY,

@@ -11,20 +11,21 @@ ghost use Rattle.farm_types.specs.Farm.{changed_at, for_some, is_placed, job_at,
 ghost use Rattle.farm_types.specs.Rising.{IsRising, job_key, layer_key};
 ghost use Rattle.farm_types.specs.Sums.{total_at, used_cores, used_memory};
 ghost use Rattle.farm_rows.specs.declared.farm_row.FarmRow.TheVariants as kind;
-ghost use Rattle.farm_rows.specs.Recovery.{attempt_at, attempt_fits, comes_after, frame_fits, frame_of, host_takes, key_of, numbers_at, position_of, room_on, slot_fits, slot_row, taken_fits, with_slot};
-ghost use Rattle.stored_rows.specs.Known.{HasRoom, found_with, is_free, is_placed_below, layer_known, place_or, with_attempt, with_found, with_left};
+ghost use Rattle.farm_rows.specs.Recovery.{attempt_at, attempt_fits, comes_after, frame_fits, frame_of, host_takes, key_of};
+ghost use Rattle.farm_rows.specs.Recovery.{numbers_at, position_of, room_on, slot_fits, slot_row, taken_fits, with_slot};
+ghost use Rattle.row_index.specs.Index.{found_with, is_placed_below};
+ghost use Rattle.stored_rows.specs.Known.{HasRoom, is_free, layer_known, place_or, with_attempt, with_found, with_left};
 ghost use Rattle.stored_rows.specs.Told.{Accepts, told_with};
 
-use crate::known_hosts::KnownHosts;
-use crate::known_jobs::KnownJobs;
-use crate::known_layer::KnownLayer;
-use crate::lookups::{job_in, layer_at, layer_in, place_of_job, row_at};
 use crate::stored_rows::StoredRows;
-use crate::subs::{has_sub, sub_between};
 use farm_rows::{FrameRow, StoredFrame, StoredState};
 use farm_types::{
     Frame, FrameState, HostNo, HostRow, JobNo, JobRow, LAST_VERSION, LayerRow, MOST_RETRIES,
     ProcRow, SLOT_LIMIT, Slot, SlotRow, Version,
+};
+use row_index::{
+    KnownHosts, KnownJobs, KnownLayer, has_sub, job_in, layer_at, layer_in, place_of_job, row_at,
+    sub_between,
 };
 
 impl StoredRows {
@@ -68,7 +69,8 @@ impl StoredRows {
 
     // Whether the layer has the number, and it has no slot yet.
     fn has_place(&self, frame: &StoredFrame) -> bool
-        ensures { result ≡ (list_any (λ number. int_eq number frame.now.number) (numbers_at self.now.farm frame.now.job frame.now.layer) && not (is_some (slot_from 0 (is_placed frame.now.job frame.now.layer (position_of self.now.farm frame.now)) self.now.farm.slots))) }
+        ensures { result ≡ (list_any (λ number. int_eq number frame.now.number) (numbers_at self.now.farm frame.now.job frame.now.layer)
+            && not (is_some (slot_from 0 (is_placed frame.now.job frame.now.layer (position_of self.now.farm frame.now)) self.now.farm.slots))) }
     {
         match self.known_at(frame.job, frame.layer) {
             None => false,
@@ -99,7 +101,8 @@ impl StoredRows {
 
     // Whether the host takes the attempt at a running frame of that boot of it.
     fn is_taken(&self, boot: u32, host: HostNo, frame: &StoredFrame) -> bool
-        ensures { result ≡ for_some (job_at self.now.farm frame.now.job) (λ job. for_some (layer_at self.now.farm frame.now.job frame.now.layer) (λ layer. for_some (slice_get self.now.farm.hosts host) (host_takes self.now.farm boot host job layer))) }
+        ensures { result ≡ for_some (job_at self.now.farm frame.now.job) (λ job. for_some (layer_at self.now.farm frame.now.job frame.now.layer)
+            (λ layer. for_some (slice_get self.now.farm.hosts host) (host_takes self.now.farm boot host job layer))) }
     {
         let Some(job) = job_in(self.lists.jobs.as_slice(), frame.job) else {
             return false;

@@ -6,17 +6,15 @@ ghost use Rattle.farm_types.specs.Farm.{layers_of};
 ghost use Rattle.farm_types.specs.Kept.{frames_said, is_formed_layer, is_of_pending, layer_label};
 ghost use Rattle.farm_rows.specs.declared.farm_row.FarmRow.TheVariants as kind;
 ghost use Rattle.farm_rows.specs.Recovery.{comes_after, frames_fit, key_of, layer_fits};
+ghost use Rattle.row_index.specs.Ranges.{IsRangeOf};
 ghost use Rattle.stored_rows.specs.Known.{layer_known};
-ghost use Rattle.stored_rows.specs.Ranges.{IsRangeOf};
 ghost use Rattle.stored_rows.specs.Told.{Accepts, told_with};
 
 use crate::forms::{are_cores, are_memory, are_tags, is_command, is_short_command};
-use crate::known_layer::KnownLayer;
-use crate::lookups::{job_in, layer_bounds, layer_key};
-use crate::ranges::range_of;
 use crate::stored_rows::StoredRows;
 use farm_types::{JobNo, LayerRow, MOST_LAYERS, Text, is_name};
 use frame_range::FrameSet;
+use row_index::{KnownLayer, job_in, layer_bounds, layer_key, range_of};
 use std::alloc::{AllocError, Global};
 
 impl StoredRows {

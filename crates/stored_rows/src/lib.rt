@@ -8,18 +8,11 @@ mod frame_row;
 mod head_row;
 mod host_row;
 mod job_row;
-mod known_hosts;
-mod known_jobs;
-mod known_layer;
 mod layer_row;
-mod lookups;
-mod names;
-mod ranges;
 mod readers;
 mod show_row;
 mod stored_rows;
 mod sub_row;
-mod subs;
 mod within;
 
 pub use stored_rows::StoredRows;

@@ -8,10 +8,9 @@ ghost use Rattle.farm_rows.specs.Recovery.{end_is_there, is_part_in, shape_so_fa
 ghost use Rattle.stored_rows.specs.Known.{is_found, layer_known};
 ghost use Rattle.stored_rows.specs.SoFar.{shape_with, shapes_with};
 
-use crate::known_layer::KnownLayer;
-use crate::lookups::row_at;
 use crate::stored_rows::StoredRows;
 use farm_types::{DependEnd, Items, JobNo, LayerRow, LayerShape, Shape, Slot, Text};
+use row_index::{KnownLayer, row_at};
 use std::alloc::{AllocError, Global};
 
 impl StoredRows {
@@ -38,7 +37,8 @@ impl StoredRows {
 
     // What is known of the job's layer of that name.
     fn known_named(&self, job: JobNo, name: &Text) -> Option<&KnownLayer>
-        ensures { option_copied result ≡ option_map (layer_known self.now.farm.slots) (find (λ l. bytes_eq l.name name.now) (layers_of self.now.farm.layers job)) }
+        ensures { option_copied result
+            ≡ option_map (layer_known self.now.farm.slots) (find (λ l. bytes_eq l.name name.now) (layers_of self.now.farm.layers job)) }
     {
         let place = place_named(self.layers_of(job), name);
         row_at(self.known_of(job), place)

@@ -9,11 +9,9 @@ ghost use Rattle.farm_rows.specs.Recovery.{comes_after, key_of};
 ghost use Rattle.farm_rows.specs.Rows.{row_kind};
 ghost use Rattle.stored_rows.specs.Told.{Accepts, farm_of, none_told};
 
-use crate::known_hosts::KnownHosts;
-use crate::known_jobs::KnownJobs;
-use crate::known_layer::KnownLayer;
 use farm_rows::{BookLists, FarmRow};
 use farm_types::SLOT_LIMIT;
+use row_index::{KnownHosts, KnownJobs, KnownLayer};
 use std::alloc::{AllocError, Global};
 use std::marker::Model;
 

@@ -25,7 +25,7 @@ use Rattle.farm_lines.specs.Asked.{entry_at, heard_entry}
 
 -- a report of the demonstration's host
 abbrev pub report : ℕ → List Attempt → List DoneItem → Report
-report seq running done = record { host = codes "h1"; boot = 1; seq = seq; running = running; done = done }
+report seq running done = record { heard = record { host = codes "h1"; boot = 1; seq = seq; done = done }; running = running }
 
 -- the farm after a report and its round
 abbrev pub after_report : Farm → Report → Farm

@@ -23,9 +23,9 @@ pub fn burst_stops_at_four()
 /// A report that comes again is stale, whatever it says is done. One of a host or a boot that isn't there is refused too.
 pub fn stale_reports_are_refused()
     ensures again { refusal_of farm_two (heard_entry first 0) ≡ Some (Stale 1) }
-    ensures older { refusal_of farm_three (heard_entry (record first { done = done 1 1 0 ∷ [] }) 0) ≡ Some (Stale 2) }
-    ensures unknown { refusal_of farm_one (heard_entry (record first { host = codes "h9" }) 0) ≡ Some (Unknown (codes "h9")) }
-    ensures wrong_boot { refusal_of farm_two (heard_entry (record second { boot = 2 }) 0) ≡ Some (WrongBoot 1) }
+    ensures older { refusal_of farm_three (heard_entry (record first { heard = record first.heard { done = done 1 1 0 ∷ [] } }) 0) ≡ Some (Stale 2) }
+    ensures unknown { refusal_of farm_one (heard_entry (record first { heard = record first.heard { host = codes "h9" } }) 0) ≡ Some (Unknown (codes "h9")) }
+    ensures wrong_boot { refusal_of farm_two (heard_entry (record second { heard = record second.heard { boot = 2 } }) 0) ≡ Some (WrongBoot 1) }
 {}
 
 /// What is used and booked follows the attempts: four of 100 hundredths and 3,355,443 KB each.

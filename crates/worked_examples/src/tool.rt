@@ -32,11 +32,13 @@ pub fn requests_are_texts()
     ensures boot { request_text (request.Boot (record { host = codes "h1"; nonce = 7; alloc = codes "farm.general"; tags = []; cores = 100; memory = 4194304 }))
         ≡ codes "{\"alloc\":\"farm.general\",\"cores\":100,\"host\":\"h1\",\"memory\":4194304,\"nonce\":7,\"op\":\"boot\",\"tags\":[]}" }
     ensures report { request_text (request.Report (record {
-      host = codes "h1";
-      boot = 1;
-      seq = 2;
+      heard = record {
+        host = codes "h1";
+        boot = 1;
+        seq = 2;
+        done = record { attempt = record { slot = 0; version = 1 }; exit = record { status = 0; signal = 0 }; free = None } ∷ [];
+      };
       running = [];
-      done = record { attempt = record { slot = 0; version = 1 }; exit = record { status = 0; signal = 0 }; free = None } ∷ [];
     }))
         ≡ codes "{\"boot\":1,\"done\":[{\"signal\":0,\"slot\":0,\"status\":0,\"version\":1}],\"host\":\"h1\",\"op\":\"report\",\"running\":[],\"seq\":2}" }
     ensures list { request_text (request.List (record { what = listed.Frames (codes "b"); from = 0 })) ≡ codes "{\"from\":0,\"job\":\"b\",\"op\":\"list\",\"what\":\"frames\"}" }

@@ -3,7 +3,7 @@ use Rattle.std.specs.List.{list_any}
 use Rattle.std.proofs.lemmas.Bool.{eq-eqb, ne_eqb}
 use Rattle.depend_graph.specs.MetAt.{is_met_at}
 use Rattle.depend_graph.specs.Watches.{watched_with}
-use Rattle.depend_graph.proofs.AllMet.{marked_is}
+use Rattle.depend_graph.proofs.ProgressLemmas.AllMet.{marked_is}
 use Rattle.depend_graph.proofs.group_marks.has_mark_in.Goals as goal
 
 pub returns-then-unmet-eq0 : goal.returns-then-unmet-eq0

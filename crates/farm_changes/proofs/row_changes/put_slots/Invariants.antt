@@ -3,5 +3,5 @@ use Rattle.std.proofs.Common.{◌≡◌, ◌++◌, drop, map}
 use Rattle.farm_changes.specs.RowChanges.{slot_put}
 use Rattle.farm_changes.proofs.row_changes.put_slots.Given as goal
 
-abbrev pub invariant-loop-entry : goal.invariant-loop-entry
-invariant-loop-entry l = l.into.items ++ map slot_put (drop l.entry-index l.slots) ≡ l.fn.into.items ++ map slot_put l.slots
+abbrev pub invariant-loop-change : goal.invariant-loop-change
+invariant-loop-change l = l.into.items ++ map slot_put (drop l.change-index l.slots) ≡ l.fn.into.items ++ map slot_put l.slots

@@ -5,9 +5,9 @@ use Rattle.farm_types.specs.declared.job.LayerSpec.{LayerSpec}
 use Rattle.farm_types.specs.Jobs.{frames_from, frames_in, frames_of}
 use Rattle.farm_rows.specs.declared.row_change.RowChange.{RowChange}
 use Rattle.job_book.specs.Lowest.{lowest_free}
-use Rattle.job_book.proofs.FreePlaces.{cut, frames_more, piece_long}
-use Rattle.job_book.proofs.FreeSlots.{length-lowest_free}
-use Rattle.job_book.proofs.Putting.{enough_for, length-frames_from, length-frames_of}
+use Rattle.job_book.proofs.PlacementLemmas.FreePlaces.{cut, frames_more, piece_long}
+use Rattle.job_book.proofs.PlacementLemmas.FreeSlots.{length-lowest_free}
+use Rattle.job_book.proofs.PlacementLemmas.Putting.{enough_for, length-frames_from, length-frames_of}
 use Rattle.farm_changes.specs.RowChanges.{rows_put}
 use Rattle.farm_changes.proofs.FramesPut.{rows_all, rows_put-append}
 use Rattle.farm_changes.proofs.row_job.put_frames.Goals as goal

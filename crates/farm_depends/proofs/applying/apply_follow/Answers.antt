@@ -3,7 +3,7 @@ use Rattle.depend_book.specs.Book.{all_done_in}
 use Rattle.farm_books.specs.Books.{FarmBooks, depends_of, with_depends, with_farm}
 use Rattle.farm_depends.specs.Follow.{HasDrop, IsMovable, drop_from, drop_in, put_blocked, put_opened, reopened_from, reopened_in, with_new_all}
 use Rattle.farm_depends.proofs.BooksTaken.{drop_is, reopened_is}
-use Rattle.farm_depends.proofs.MovedSlots.{still_movable}
+use Rattle.farm_depends.proofs.MovingLemmas.MovedSlots.{still_movable}
 use Rattle.farm_depends.proofs.applying.apply_follow.Goals as goal
 
 pub drop_one-requires : goal.drop_one-requires

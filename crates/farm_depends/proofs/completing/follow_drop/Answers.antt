@@ -8,7 +8,8 @@ use Rattle.depend_book.specs.Book.{DependLists}
 use Rattle.farm_books.specs.Books.{depends_of}
 use Rattle.farm_books.proofs.WholeBooks.{whole_beside, whole_farm}
 use Rattle.farm_depends.specs.Completing.{blocked_among}
-use Rattle.farm_depends.proofs.Undepended.{drop_follows, drop_in_graph, dropping_few}
+use Rattle.farm_depends.proofs.CompletionLemmas.NoneMet.{none_met}
+use Rattle.farm_depends.proofs.CompletionLemmas.Undepended.{drop_follows, drop_in_graph, dropping_few}
 use Rattle.farm_depends.proofs.Wholes.{follows_of}
 use Rattle.farm_depends.proofs.completing.follow_drop.Goals as goal
 
@@ -29,8 +30,8 @@ overflow_cast-count c =
     let few : length c.in_ok-opened.opened ≤ SLOT_LIMIT = subst (λ (list : List ℕ). length list ≤ SLOT_LIMIT) (sym opened) (dropping_few f (depends_of v) depend) in
     omega (arith, few, c.len-count.ensures)
 
-pub returns : goal.returns
-returns c =
+pub returns-clause-prepares : goal.returns-clause-prepares
+returns-clause-prepares c =
     let v = c.args.books.now in
     let depend = c.args.depend in
     let f = v.farm in
@@ -41,3 +42,6 @@ returns c =
     follows_of v c.requires.whole f (act.DropDepend depend) _ (whole_farm v c.requires.whole)
     (drop_follows f b depend (whole_beside v c.requires.whole) c.kept.ensures.book c.in-Some.row.now found c.if-row.false _
     c.new.ensures c.new-2.ensures refl c.new-3.ensures refl opened c.new-4.ensures c.len-count.ensures)
+
+pub returns-clause-marks : goal.returns-clause-marks
+returns-clause-marks c = none_met c.args.books.now.graph _ _ c.new-3.ensures c.none.ensures

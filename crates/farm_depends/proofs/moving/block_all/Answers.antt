@@ -1,7 +1,7 @@
 use Rattle.std.proofs.Common.{arith}
 use Rattle.farm_books.specs.Books.{with_farm}
 use Rattle.farm_depends.specs.Follow.{put_blocked}
-use Rattle.farm_depends.proofs.MovedSlots.{books_blocked}
+use Rattle.farm_depends.proofs.MovingLemmas.MovedSlots.{books_blocked}
 use Rattle.farm_depends.proofs.moving.block_all.Goals as goal
 
 pub loop-slot-preserved : goal.loop-slot-preserved

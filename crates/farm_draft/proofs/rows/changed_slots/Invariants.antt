@@ -1,8 +1,10 @@
-use Rattle.farm_draft.specs.Laid.{whole}
-use Rattle.farm_draft.specs.Rows.{IsChanged}
-use Rattle.farm_draft.proofs.PutRows.{IsPicked}
+use Rattle.std.proofs.Common.{List, nat_eq}
+use Rattle.indexmap.specs.IndexMap.{get}
+use Rattle.farm_types.specs.declared.slot_row.SlotRow.{SlotRow}
+use Rattle.farm_draft.specs.Rows.{AreChangesOf}
+use Rattle.farm_draft.proofs.PutRows.{Picks}
 use Rattle.farm_draft.proofs.rows.changed_slots.Given as goal
 
--- the rows that were kept, with those that are left, come to what all come to
+-- the changes that were kept, with those that are left, come to what all come to
 abbrev pub invariant-loop-slot : goal.invariant-loop-slot
-invariant-loop-slot l = IsPicked whole l.books.farm.slots (IsChanged l.books.farm.slots) l.fn.over.entries l.entries.items l.slot-iterator
+invariant-loop-slot l = (slots : List SlotRow) (changes : AreChangesOf slots (get nat_eq l.fn.over)) → Picks slots l.fn.over.entries changes l.changes.items l.slot-iterator

@@ -1,6 +1,6 @@
 use Rattle.std.proofs.Common.{◌∙◌, ap, ◌+◌, arith}
 use Rattle.job_entries.specs.declared.counts.Counts.{Counts}
-use Rattle.farm_finish.proofs.LeftFrames.{left_sum}
+use Rattle.farm_finish.proofs.CountLemmas.LeftFrames.{left_sum}
 use Rattle.farm_finish.proofs.counting.left_of.Goals as goal
 
 pub returns : goal.returns

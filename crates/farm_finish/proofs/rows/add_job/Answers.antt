@@ -2,7 +2,7 @@ use Rattle.std.proofs.Common.{◌∙◌, ◌++◌, List, map, nat_eq, ap}
 use Rattle.farm_types.specs.declared.rows.LayerRow.{LayerRow}
 use Rattle.indexmap.specs.IndexMap.{get}
 use Rattle.farm_finish.specs.Gone.{layer_gone}
-use Rattle.farm_finish.proofs.AddedJob.{adds_job}
+use Rattle.farm_finish.proofs.RowLemmas.AddedJob.{adds_job}
 use Rattle.farm_finish.proofs.rows.add_job.Goals as goal
 
 pub returns : goal.returns

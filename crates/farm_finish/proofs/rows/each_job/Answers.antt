@@ -7,7 +7,7 @@ use Rattle.farm_rows.specs.declared.row_change.RowChange.{RowChange}
 use Rattle.farm_rows.specs.Changes.{MakesRows, row_after, row_at}
 use Rattle.job_book.specs.Book.{has_job}
 use Rattle.farm_draft.specs.Rows.{put_slots}
-use Rattle.farm_finish.proofs.EachTurn.{finished_more}
+use Rattle.farm_finish.proofs.TurnLemmas.EachTurn.{finished_more}
 use Rattle.farm_finish.proofs.rows.each_job.Goals as goal
 
 pub loop-place-init : goal.loop-place-init

@@ -1,5 +1,5 @@
 use Rattle.farm_draft.specs.Rows.{put_slots}
-use Rattle.farm_finish.proofs.EachTurn.{MakesFinished}
+use Rattle.farm_finish.proofs.TurnLemmas.EachTurn.{MakesFinished}
 use Rattle.farm_finish.proofs.rows.each_job.Given as goal
 
 -- as far as the jobs have finished

@@ -2,7 +2,6 @@ use Rattle.std.proofs.Common.{◌≡◌, ◌∙◌, ◌<◌, ◌^◌, ℕ, eqb, 
 use Rattle.std.specs.List.{list_all}
 use Rattle.std.proofs.lemmas.Bool.{false≢true}
 use Rattle.std.proofs.lemmas.Result.{IfOk-weaker}
-use Rattle.farm_types.specs.declared.slot_row.SlotRow.{SlotRow}
 use Rattle.farm_types.specs.Jobs.{JobLists}
 use Rattle.farm_types.specs.Kept.{EachOnce, is_kept_slot}
 use Rattle.farm_types.specs.Step.{lists_of}
@@ -17,19 +16,20 @@ use Rattle.farm_depends.specs.declared.follow.Follow.{Follow}
 use Rattle.farm_depends.proofs.Wholes.{changed_farm, follows_beside}
 use Rattle.farm_finish.specs.Closing.{closing}
 use Rattle.job_book.specs.Book.{has_job}
+use Rattle.farm_draft.specs.declared.slot_change.SlotChange.{SlotChange}
 use Rattle.farm_draft.specs.Rows.{put_slots}
 use Rattle.farm_changes.specs.Change.{after_change}
 use Rattle.farm_depends.specs.Follow.{Follows, after_follow}
 use Rattle.farm_finish.specs.AfterAct.{IsAfter}
 use Rattle.farm_finish.specs.Versions.{AreSet}
-use Rattle.farm_finish.proofs.ToFinish.{after, all_there, are_set, number_left}
+use Rattle.farm_finish.proofs.TurnLemmas.ToFinish.{after, all_there, are_set, number_left}
 use Rattle.farm_finish.proofs.rows.finish_rows.Goals as goal
 
 pub each_job-requires-clause-rows : goal.each_job-requires-clause-rows
 each_job-requires-clause-rows c =
     let f = c.args.books.now.farm in
     let set = are_set f c.args.change.now c.requires.made.ready.rows in
-    subst (λ (b : JobLists). AreSet b.slots c.slot_rows.result.now) (sym c.jobs.ensures) (subst (λ (es : List (ℕ × SlotRow)). AreSet f.slots es) (sym c.slot_rows.ensures) set)
+    subst (λ (b : JobLists). AreSet b.slots c.slot_rows.result.now) (sym c.jobs.ensures) (subst (λ (es : List SlotChange). AreSet f.slots es) (sym c.slot_rows.ensures) set)
 
 pub each_job-requires-clause-kept : goal.each_job-requires-clause-kept
 each_job-requires-clause-kept c = subst (λ (b : JobLists). list_all (is_kept_slot b.layers) b.slots ≡ true) (sym c.jobs.ensures) c.requires.whole.kept.rows.jobs.slots_kept
@@ -101,6 +101,6 @@ returns c =
     let read : IsAfter c.jobs.result.now (put_slots c.jobs.result.now.slots c.slot_rows.result.now) c.depends.result.now last =
     subst (λ (d : DependLists). IsAfter c.jobs.result.now (put_slots c.jobs.result.now.slots c.slot_rows.result.now) d last) (sym c.depends.ensures)
     (subst (λ (b : JobLists). IsAfter b (put_slots b.slots c.slot_rows.result.now) (depends_of v) last) (sym c.jobs.ensures)
-    (subst (λ (es : List (ℕ × SlotRow)). IsAfter (lists_of f) (put_slots f.slots es) (depends_of v) last) (sym c.slot_rows.ensures) here))
+    (subst (λ (es : List SlotChange). IsAfter (lists_of f) (put_slots f.slots es) (depends_of v) last) (sym c.slot_rows.ensures) here))
     in
     IfOk-weaker c.each_job.result _ _ (λ changes makes. makes last read c.requires.ends) c.each_job.ensures

@@ -1,6 +1,6 @@
 use Rattle.std.proofs.Common.{◌∙◌, sym, arith}
-use Rattle.job_book.proofs.PlacedLayers.{slice_get-front}
-use Rattle.farm_finish.proofs.LeavingAt.{slice_get-behind}
+use Rattle.job_book.proofs.PlacementLemmas.PlacedLayers.{slice_get-front}
+use Rattle.farm_finish.proofs.TurnLemmas.LeavingAt.{slice_get-behind}
 use Rattle.farm_finish.proofs.rows.in_order.Goals as goal
 
 pub returns-then-place-before : goal.returns-then-place-before

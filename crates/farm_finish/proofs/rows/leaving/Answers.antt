@@ -1,5 +1,5 @@
 use Rattle.std.proofs.Common.{◌∙◌, sym, arith}
-use Rattle.farm_finish.proofs.LeavingAt.{leaves_at, none_leaves}
+use Rattle.farm_finish.proofs.TurnLemmas.LeavingAt.{leaves_at, none_leaves}
 use Rattle.farm_finish.proofs.rows.leaving.Goals as goal
 
 pub returns-then-count-most : goal.returns-then-count-most

@@ -1,7 +1,7 @@
 use Rattle.std.proofs.Common.{◌∙◌}
 use Rattle.std.proofs.lemmas.Result.{on_ok_weaker}
 use Rattle.depend_graph.specs.Graph.{groups_at}
-use Rattle.farm_finish.proofs.AddedJob.{gone_then}
+use Rattle.farm_finish.proofs.RowLemmas.AddedJob.{gone_then}
 use Rattle.farm_finish.proofs.rows_gone.depend_goes.Goals as goal
 
 pub returns : goal.returns

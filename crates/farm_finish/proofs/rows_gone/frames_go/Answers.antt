@@ -4,7 +4,7 @@ use Rattle.farm_types.specs.declared.rows.LayerRow.{LayerRow}
 use Rattle.indexmap.specs.IndexMap.{get}
 use Rattle.farm_finish.specs.Adding.{is_of_job}
 use Rattle.farm_books.specs.Cleared.{is_in_layers}
-use Rattle.farm_finish.proofs.AddedFrames.{adds_as}
+use Rattle.farm_finish.proofs.RowLemmas.AddedFrames.{adds_as}
 use Rattle.farm_books.proofs.ClearedFlags.{all_in}
 use Rattle.farm_finish.proofs.rows_gone.frames_go.Goals as goal
 

@@ -4,7 +4,7 @@ use Rattle.farm_types.specs.declared.rows.LayerRow.{LayerRow}
 use Rattle.indexmap.specs.IndexMap.{get}
 use Rattle.farm_finish.specs.Adding.{AddsFrames}
 use Rattle.farm_books.specs.Cleared.{is_in_layer, is_in_layers}
-use Rattle.farm_finish.proofs.AddedFrames.{adds_none, adds_then}
+use Rattle.farm_finish.proofs.RowLemmas.AddedFrames.{adds_none, adds_then}
 use Rattle.farm_books.proofs.Clears.{layers_more, layers_none}
 use Rattle.farm_finish.proofs.rows_gone.layers_free.Goals as goal
 

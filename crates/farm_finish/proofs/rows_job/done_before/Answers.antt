@@ -1,6 +1,6 @@
 use Rattle.std.proofs.Common.{◌∙◌, ap}
 use Rattle.job_entries.specs.declared.counts.Counts.{Counts}
-use Rattle.job_book.proofs.FreedJob.{eaten_is, succeeded_is}
+use Rattle.job_book.proofs.EndingLemmas.FreedJob.{eaten_is, succeeded_is}
 use Rattle.farm_finish.proofs.rows_job.done_before.Goals as goal
 
 pub returns : goal.returns

@@ -3,7 +3,7 @@ use Rattle.farm_types.specs.declared.rows.JobRow.{JobRow}
 use Rattle.farm_rows.specs.declared.farm_row.FarmRow.TheVariants as row
 use Rattle.farm_rows.specs.declared.row_change.RowChange.TheVariants as change
 use Rattle.farm_draft.specs.Rows.{put_slots}
-use Rattle.farm_finish.proofs.RowOfJob.{row_finished}
+use Rattle.farm_finish.proofs.RowLemmas.RowOfJob.{row_finished}
 use Rattle.farm_finish.proofs.rows_job.put_job.Goals as goal
 
 pub returns : goal.returns

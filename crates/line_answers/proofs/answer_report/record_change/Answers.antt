@@ -1,17 +1,14 @@
 -- The change was recorded, or the store failed or memory ran out.
 use Rattle.farm_keeper.proofs.KeepingLaws.{Continues-as}
 use Rattle.recorder.specs.Faults.{is_store_refusal}
-use Rattle.line_answers.proofs.ReportLemmas.{made_told, store_told, unheard, was_heard}
+use Rattle.line_answers.proofs.ReportLemmas.{store_told, unheard, was_heard}
 use Rattle.recorder.proofs.Told.{told_at_fault}
 use Rattle.line_answers.proofs.answer_report.record_change.Goals as goal
-
-pub host_of-host-requires : goal.host_of-host-requires
-host_of-host-requires g c = made_told c.args.recorder.now.farm c.args.entry.now c.args.change c.requires.heard c.requires.of_entry.makes
 
 pub returns-in_err-record-clause-farm : goal.returns-in_err-record-clause-farm
 returns-in_err-record-clause-farm g c =
     unheard c.args.recorder.now.farm c.record.new.self.farm c.args.entry.now c.args.change _ c.from_residual.result c.from_residual.ensures.1
-    c.requires.of_entry.makes c.in_err-record.ensures.farm
+    c.requires.makes c.in_err-record.ensures.farm
 
 pub returns-in_err-record-clause-keeper : goal.returns-in_err-record-clause-keeper
 returns-in_err-record-clause-keeper g c =
@@ -20,12 +17,12 @@ returns-in_err-record-clause-keeper g c =
 
 pub returns-clause-farm : goal.returns-clause-farm
 returns-clause-farm g c =
-    was_heard c.args.recorder.now.farm c.record.new.self.farm c.args.entry.now c.args.change c.host_of-host.result c.requires.of_entry.makes c.host_of-host.ensures
+    was_heard c.args.recorder.now.farm c.record.new.self.farm c.args.entry.now c.args.change c.heard-host.result c.requires.makes c.heard-host.ensures
     c.in_ok-record.ensures.farm
 
 pub returns-in_err-record-clause-told : goal.returns-in_err-record-clause-told
 returns-in_err-record-clause-told g c =
-    told_at_fault g.K.Keeper.commits c.args.recorder.now.farm c.args.entry.now c.args.recorder.now.keeper c.record.new.self.keeper c.requires.of_entry.legal.accepted _
+    told_at_fault g.K.Keeper.commits c.args.recorder.now.farm c.args.entry.now c.args.recorder.now.keeper c.record.new.self.keeper c.requires.legal.accepted _
     c.from_residual.result c.from_residual.ensures.1 c.in_err-record.ensures.told
 
 pub returns-clause-told : goal.returns-clause-told

@@ -3,16 +3,13 @@ use Rattle.std.proofs.Common.{false, sym}
 use Rattle.farm_keeper.proofs.KeepingLaws.{Continues-as, Continues-same}
 use Rattle.recorder.specs.Faults.{is_store_refusal}
 use Rattle.line_answers.proofs.AnswerLemmas.{entry_made}
-use Rattle.line_answers.proofs.ReportLemmas.{heard_condition, never_store, unprepared}
+use Rattle.line_answers.proofs.ReportLemmas.{never_store, unprepared}
 use Rattle.recorder.proofs.Told.{never_told}
 use Rattle.line_answers.proofs.answer_report.record_heard.Goals as goal
 
-pub prepare-requires-clause-condition : goal.prepare-requires-clause-condition
-prepare-requires-clause-condition g c = heard_condition c.args.recorder.now.farm c.args.entry.now.act c.requires.heard
-
-pub record_change-requires-clause-of_entry : goal.record_change-requires-clause-of_entry
-record_change-requires-clause-of_entry g c =
-    entry_made c.args.recorder.now.farm c.args.entry.now c.in_ok-change.change (heard_condition c.args.recorder.now.farm c.args.entry.now.act c.requires.heard) c.requires.formed
+pub record_change-requires : goal.record_change-requires
+record_change-requires g c =
+    entry_made c.args.recorder.now.farm c.args.entry.now c.in_ok-change.change c.requires.condition c.requires.formed
     c.in_ok-change.ensures
 
 pub returns-in_err-change-clause-farm : goal.returns-in_err-change-clause-farm

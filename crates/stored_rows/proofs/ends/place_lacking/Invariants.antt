@@ -1,6 +1,6 @@
 use Rattle.std.proofs.Common.{◌≡◌, ◌+◌, drop}
 use Rattle.std.specs.List.{position_or_len}
-use Rattle.stored_rows.specs.Known.{lacks_any}
+use Rattle.row_index.specs.Index.{lacks_any}
 use Rattle.stored_rows.proofs.ends.place_lacking.Given as goal
 
 abbrev pub invariant-loop-place : goal.invariant-loop-place

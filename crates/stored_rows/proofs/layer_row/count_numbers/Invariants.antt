@@ -1,6 +1,6 @@
 use Rattle.std.proofs.Common.{◌≡◌, ◌≤◌, ◌*◌, length, take}
 use Rattle.std.specs.List.{sum_by}
-use Rattle.stored_rows.specs.Known.{LayerKnown}
+use Rattle.row_index.specs.Index.{LayerKnown}
 use Rattle.stored_rows.proofs.layer_row.count_numbers.Given as goal
 
 abbrev pub invariant-loop-layer : goal.invariant-loop-layer

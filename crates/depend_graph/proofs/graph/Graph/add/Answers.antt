@@ -1,6 +1,6 @@
 use Rattle.std.proofs.Common.{◌++◌, ◌∷◌, [], map, ◌∙◌}
 use Rattle.depend_graph.specs.Graph.{watched}
-use Rattle.depend_graph.proofs.AddedDepend.{marked_none}
+use Rattle.depend_graph.proofs.ComingLemmas.AddedDepend.{marked_none}
 use Rattle.depend_graph.proofs.graph.Graph.add.Goals as goal
 
 pub returns : goal.returns

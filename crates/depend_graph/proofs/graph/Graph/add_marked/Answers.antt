@@ -15,9 +15,9 @@ use Rattle.depend_graph.specs.Graph.{CanAdd, GraphLists, Watch}
 use Rattle.depend_graph.specs.Inside.{KeepsDepends, KeepsSums, graph_of, there_of, watches}
 use Rattle.depend_graph.specs.Marked.{marked_counts, marked_watch, with_marked}
 use Rattle.depend_graph.specs.Spare.{SpareLists, spare_of}
-use Rattle.depend_graph.proofs.AddedDepend.{added, added_watch, counts_long, edge_lists_push, push_counts, push_depends, push_sums, there_long, there_push}
-use Rattle.depend_graph.proofs.Bared.{counts_bare, depends_bare, sums_bare, there_bare}
-use Rattle.depend_graph.proofs.Thinned.{there_left}
+use Rattle.depend_graph.proofs.ComingLemmas.AddedDepend.{added, added_watch, counts_long, edge_lists_push, push_counts, push_depends, push_sums, there_long, there_push}
+use Rattle.depend_graph.proofs.ProgressLemmas.Bared.{counts_bare, depends_bare, sums_bare, there_bare}
+use Rattle.depend_graph.proofs.GoingLemmas.Thinned.{there_left}
 use Rattle.depend_graph.proofs.graph.Graph.add_marked.Goals as goal
 
 groups_reserved : (s : SpareLists) (gs : List Group) → s ≡ spare_of gs → s.groups ≡ length gs

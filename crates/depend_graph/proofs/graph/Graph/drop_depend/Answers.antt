@@ -5,8 +5,8 @@ use Rattle.farm_types.proofs.Lists.{and_both, slice_get_below}
 use Rattle.depend_edges.specs.Listed.{ListedLists, has_number, is_there}
 use Rattle.depend_graph.specs.Graph.{GraphLists, HasOpened, Watch, has_depend, met_where, without_depend}
 use Rattle.depend_graph.specs.Inside.{there_of, watches}
-use Rattle.depend_graph.proofs.Thinned.{mapped_there, opened_there}
-use Rattle.depend_graph.proofs.Unchanged.{numbers_any}
+use Rattle.depend_graph.proofs.GoingLemmas.Thinned.{mapped_there, opened_there}
+use Rattle.depend_graph.proofs.ProgressLemmas.Unchanged.{numbers_any}
 use Rattle.depend_graph.proofs.graph.Graph.drop_depend.Goals as goal
 
 pub place_of-place-requires-clause-there : goal.place_of-place-requires-clause-there

@@ -3,8 +3,8 @@ use Rattle.std.specs.List.{list_any, slice_get}
 use Rattle.farm_types.proofs.Lists.{slice_get_below}
 use Rattle.depend_edges.specs.Listed.{ListedLists, has_number}
 use Rattle.depend_graph.specs.Graph.{GraphLists, forgotten}
-use Rattle.depend_graph.proofs.AddedDepend.{none_at}
-use Rattle.depend_graph.proofs.Forgotten.{none_named}
+use Rattle.depend_graph.proofs.ComingLemmas.AddedDepend.{none_at}
+use Rattle.depend_graph.proofs.GoingLemmas.Forgotten.{none_named}
 use Rattle.depend_graph.proofs.graph.Graph.forget.Goals as goal
 
 pub returns-in_default : goal.returns-in_default

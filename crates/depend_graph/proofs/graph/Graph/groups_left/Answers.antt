@@ -1,6 +1,6 @@
 use Rattle.std.proofs.Common.{ap, ◌∙◌}
 use Rattle.depend_graph.specs.Graph.{GraphLists, groups_left}
-use Rattle.depend_graph.proofs.Thinned.{there_left}
+use Rattle.depend_graph.proofs.GoingLemmas.Thinned.{there_left}
 use Rattle.depend_graph.proofs.graph.Graph.groups_left.Goals as goal
 
 pub returns-clause-value : goal.returns-clause-value

@@ -4,7 +4,7 @@ use Rattle.std.proofs.lemmas.Option.{slice_get_read}
 use Rattle.depend_edges.specs.Listed.{ListedLists, has_number}
 use Rattle.depend_graph.specs.Graph.{GraphLists, groups_at}
 use Rattle.depend_graph.specs.MetAt.{has_mark}
-use Rattle.depend_graph.proofs.Thinned.{groups_there, no_groups}
+use Rattle.depend_graph.proofs.GoingLemmas.Thinned.{groups_there, no_groups}
 use Rattle.depend_graph.proofs.graph.Graph.is_marked.Goals as goal
 
 pub returns-in-None : goal.returns-in-None

@@ -7,7 +7,7 @@ use Rattle.farm_types.proofs.Lists.{and_both}
 use Rattle.depend_edges.specs.Listed.{ListedLists, has_number, is_there}
 use Rattle.depend_graph.specs.Graph.{GraphLists, group_mark, groups_at}
 use Rattle.depend_graph.specs.Watches.{mark_for}
-use Rattle.depend_graph.proofs.Thinned.{groups_there, marks_watched, no_groups}
+use Rattle.depend_graph.proofs.GoingLemmas.Thinned.{groups_there, marks_watched, no_groups}
 use Rattle.depend_graph.proofs.graph.Graph.marks_of.Goals as goal
 
 pub returns-in_default : goal.returns-in_default

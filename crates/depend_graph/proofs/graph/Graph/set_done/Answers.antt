@@ -3,8 +3,8 @@ use Rattle.std.specs.List.{slice_get, slice_set}
 use Rattle.depend_edges.specs.declared.links.EdgeAt.{EdgeAt}
 use Rattle.depend_graph.specs.Graph.{GraphLists, HasOpened, Watch, completed_in, with_done}
 use Rattle.depend_graph.specs.Inside.{there_of, watches}
-use Rattle.depend_graph.proofs.Thinned.{mapped_there, opened_there, same_there}
-use Rattle.depend_graph.proofs.Unchanged.{done_there, opened_none}
+use Rattle.depend_graph.proofs.GoingLemmas.Thinned.{mapped_there, opened_there, same_there}
+use Rattle.depend_graph.proofs.ProgressLemmas.Unchanged.{done_there, opened_none}
 use Rattle.depend_graph.proofs.graph.Graph.set_done.Goals as goal
 
 pub returns-then-not-is_change-clause-graph : goal.returns-then-not-is_change-clause-graph

@@ -1,7 +1,7 @@
 use Rattle.std.proofs.Common.{ℕ, List, ap, ◌∙◌}
 use Rattle.farm_types.specs.Sums.{total_at}
 use Rattle.depend_graph.specs.Graph.{GraphLists, unmet_of}
-use Rattle.depend_graph.proofs.Thinned.{there_unmet}
+use Rattle.depend_graph.proofs.GoingLemmas.Thinned.{there_unmet}
 use Rattle.depend_graph.proofs.graph.Graph.unmet.Goals as goal
 
 pub returns : goal.returns

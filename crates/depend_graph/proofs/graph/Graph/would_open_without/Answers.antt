@@ -8,9 +8,9 @@ use Rattle.farm_types.proofs.Lists.{and_both}
 use Rattle.depend_edges.specs.Listed.{ListedLists, has_number, is_there}
 use Rattle.depend_graph.specs.Graph.{GraphLists, has_depend, unmet_of, without_depend}
 use Rattle.depend_graph.specs.Trial.{is_at, waiters_left}
-use Rattle.depend_graph.proofs.Thinned.{there_met, there_unmet}
-use Rattle.depend_graph.proofs.Unchanged.{numbers_any}
-use Rattle.depend_graph.proofs.WaitersLeft.{without_counted}
+use Rattle.depend_graph.proofs.GoingLemmas.Thinned.{there_met, there_unmet}
+use Rattle.depend_graph.proofs.ProgressLemmas.Unchanged.{numbers_any}
+use Rattle.depend_graph.proofs.GoingLemmas.WaitersLeft.{without_counted}
 use Rattle.depend_graph.proofs.graph.Graph.would_open_without.Goals as goal
 
 pub place_of-place-requires-clause-there : goal.place_of-place-requires-clause-there

@@ -3,11 +3,11 @@ use Rattle.depend_edges.specs.declared.links.EdgeAt.{EdgeAt}
 use Rattle.depend_graph.specs.Flow.{flow_in}
 use Rattle.depend_graph.specs.Graph.{OpenedLists}
 use Rattle.depend_graph.specs.Passing.{IsPassing}
-use Rattle.depend_graph.proofs.Finished.{completed_all, end_counted, opened_all, start_passing}
-use Rattle.depend_graph.proofs.Gone.{few_left}
-use Rattle.depend_graph.proofs.Still.{edge_lists-still, there_still}
+use Rattle.depend_graph.proofs.ProgressLemmas.Finished.{completed_all, end_counted, opened_all, start_passing}
+use Rattle.depend_graph.proofs.GoingLemmas.Gone.{few_left}
+use Rattle.depend_graph.proofs.ProgressLemmas.Still.{edge_lists-still, there_still}
 use Rattle.depend_graph.proofs.Tallied.{tally_kept}
-use Rattle.depend_graph.proofs.Walked.{place_there, room_at, step_falls, step_passed}
+use Rattle.depend_graph.proofs.ProgressLemmas.Walked.{place_there, room_at, step_falls, step_passed}
 use Rattle.depend_graph.proofs.tally.Tally.complete.Goals as goal
 
 pub loop-next-init : goal.loop-next-init

@@ -2,7 +2,7 @@ use Rattle.std.proofs.Common.{◌≡◌}
 use Rattle.std.specs.Vec.{vec_capacity}
 use Rattle.depend_graph.specs.Flow.{flow_in}
 use Rattle.depend_graph.specs.Passing.{IsPassing}
-use Rattle.depend_graph.proofs.Steps.{steps_left}
+use Rattle.depend_graph.proofs.ProgressLemmas.Steps.{steps_left}
 use Rattle.depend_graph.proofs.tally.Tally.complete.Given as goal
 
 abbrev pub invariant-loop-next : goal.invariant-loop-next

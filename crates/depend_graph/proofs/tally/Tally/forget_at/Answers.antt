@@ -13,8 +13,8 @@ use Rattle.depend_graph.specs.Added.{released_in}
 use Rattle.depend_graph.specs.Graph.{is_not_named}
 use Rattle.depend_graph.specs.Inside.{KeepsDepends, KeepsSums, there_of, watches}
 use Rattle.depend_graph.specs.Watches.{KeepsCounts}
-use Rattle.depend_graph.proofs.Bared.{counts_bare, depends_bare, sums_bare, there_bare}
-use Rattle.depend_graph.proofs.Forgotten.{forgotten_counts, forgotten_depends, forgotten_sums, forgotten_watches}
+use Rattle.depend_graph.proofs.ProgressLemmas.Bared.{counts_bare, depends_bare, sums_bare, there_bare}
+use Rattle.depend_graph.proofs.GoingLemmas.Forgotten.{forgotten_counts, forgotten_depends, forgotten_sums, forgotten_watches}
 use Rattle.depend_graph.proofs.tally.Tally.forget_at.Goals as goal
 
 pub release_at-requires-clause-counted : goal.release_at-requires-clause-counted

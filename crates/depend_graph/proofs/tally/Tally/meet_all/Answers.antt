@@ -5,11 +5,11 @@ use Rattle.depend_edges.specs.Listed.{ListedLists}
 use Rattle.depend_graph.specs.Flow.{flow_in}
 use Rattle.depend_graph.specs.Graph.{OpenedLists}
 use Rattle.depend_graph.specs.Passing.{IsDropping}
-use Rattle.depend_graph.proofs.Dropped.{dropped_all, group_place, start_dropping, step_dropped}
-use Rattle.depend_graph.proofs.Finished.{opened_all}
-use Rattle.depend_graph.proofs.Still.{edge_lists-still, there_still}
+use Rattle.depend_graph.proofs.GoingLemmas.Dropped.{dropped_all, group_place, start_dropping, step_dropped}
+use Rattle.depend_graph.proofs.ProgressLemmas.Finished.{opened_all}
+use Rattle.depend_graph.proofs.ProgressLemmas.Still.{edge_lists-still, there_still}
 use Rattle.depend_graph.proofs.Tallied.{tally_kept}
-use Rattle.depend_graph.proofs.Walked.{room_at}
+use Rattle.depend_graph.proofs.ProgressLemmas.Walked.{room_at}
 use Rattle.depend_graph.proofs.tally.Tally.meet_all.Goals as goal
 
 pub count_at-count-requires-clause-within : goal.count_at-count-requires-clause-within

@@ -8,7 +8,7 @@ use Rattle.depend_edges.specs.Listed.{ListedLists}
 use Rattle.depend_edges.specs.Places.{IsGroupAt}
 use Rattle.depend_edges.specs.declared.links.Edge.{Edge}
 use Rattle.depend_graph.specs.Flow.{Flow, due_flow, flow_in, flow_of, is_last_of, passed_flow}
-use Rattle.depend_graph.proofs.Lowered.{lowered_each, lowered_same, lowered_there}
+use Rattle.depend_graph.proofs.ProgressLemmas.Lowered.{lowered_each, lowered_same, lowered_there}
 use Rattle.depend_graph.proofs.tally.Tally.pass.Goals as goal
 
 pub meet_if_due-requires-clause-there : goal.meet_if_due-requires-clause-there

@@ -1,6 +1,6 @@
 use Rattle.std.proofs.Common.{◌∙◌, ◌++◌, ℕ, List, map, ap}
-use Rattle.farm_types.specs.declared.slot_row.SlotRow.{SlotRow}
 use Rattle.host_book.specs.declared.life.HostLife.{HostLife}
+use Rattle.farm_draft.specs.declared.slot_change.SlotChange.{SlotChange}
 use Rattle.farm_changes.specs.RowChanges.{lives_put, more_put, slot_put}
 use Rattle.farm_changes.proofs.RowsPut.{all_put, makes_books}
 use Rattle.farm_changes.proofs.change.Change.row_changes.Goals as goal
@@ -15,4 +15,4 @@ returns c =
     c.in_ok-put_lives.ensures c.in_ok-put_slots.ensures c.in_ok-put_more.ensures in
     makes_books f change left c.put_more.new.into.items c.requires.rows.hosts_there c.requires.rows.slots_ready c.leaving-left.ensures
     (all ∙ ap (λ (lives : List (ℕ × HostLife)). lives_put f.hosts lives ++ (map slot_put c.as_slice-2.result.now ++ rest)) c.as_slice.ensures.value
-    ∙ ap (λ (slots : List (ℕ × SlotRow)). lives_put f.hosts change.rows.hosts.items ++ (map slot_put slots ++ rest)) c.as_slice-2.ensures.value)
+    ∙ ap (λ (slots : List SlotChange). lives_put f.hosts change.rows.hosts.items ++ (map slot_put slots ++ rest)) c.as_slice-2.ensures.value)

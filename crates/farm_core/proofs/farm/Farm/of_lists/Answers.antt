@@ -2,7 +2,7 @@ use Rattle.std.proofs.Common.{◌≡◌, ◌∙◌, [], sym, ap, subst}
 use Rattle.farm_types.specs.Kept.{IsKeptFarm}
 use Rattle.farm_rows.specs.Changes.{beside}
 use Rattle.farm_books.specs.Books.{FarmBooks, depends_of}
-use Rattle.farm_depends.proofs.PlacedFollows.{rows_with}
+use Rattle.farm_depends.proofs.ComingLemmas.PlacedFollows.{rows_with}
 use Rattle.farm_core.specs.Restore.{whole_in}
 use Rattle.farm_core.proofs.farm.Farm.of_lists.Goals as goal
 

@@ -1,7 +1,9 @@
-use Rattle.std.proofs.Common.{sym, subst}
+use Rattle.std.proofs.Common.{◌≡◌, sym, subst}
 use Rattle.farm_types.specs.Farm.{Farm}
 use Rattle.farm_types.specs.Step.{HasCondition}
-use Rattle.farm_core.specs.Change.{Plans, Prepares}
+use Rattle.farm_rows.specs.declared.row_key.RowKey.{RowKey}
+use Rattle.farm_rows.specs.Changes.{row_after, row_at}
+use Rattle.farm_core.specs.Change.{Plans, Prepares, after_change}
 use Rattle.farm_core.proofs.Prepared.{act_fails, plan_fails}
 use Rattle.farm_core.proofs.farm.Farm.prepare.Goals as goal
 
@@ -16,7 +18,11 @@ returns-in_err-act c =
 pub returns-in_err-change : goal.returns-in_err-change
 returns-in_err-change c =
     let e = c.args.entry.now in
-    subst (λ (f : Farm). Prepares f e c.from_residual-in_err-change.result) c.self.view_is (plan_fails c.self.inside.books.farm e _ c.from_residual-in_err-change.result c.from_residual-in_err-change.ensures.1 c.in_err-change.ensures)
+    subst (λ (f : Farm). Prepares f e c.from_residual-in_err-change.result) c.self.view_is (plan_fails c.self.inside.books.farm e _ c.from_residual-in_err-change.result c.from_residual-in_err-change.ensures.1 c.in_err-change.ensures.prepared)
 
-pub with_rows-requires : goal.with_rows-requires
-with_rows-requires c = subst (λ (f : Farm). Plans f c.args.entry.now c.in_ok-change.change) c.self.view_is c.in_ok-change.ensures
+pub with_rows-requires-clause-planned : goal.with_rows-requires-clause-planned
+with_rows-requires-clause-planned c = subst (λ (f : Farm). Plans f c.args.entry.now c.in_ok-change.change) c.self.view_is c.in_ok-change.ensures.prepared
+
+pub with_rows-requires-clause-rows : goal.with_rows-requires-clause-rows
+with_rows-requires-clause-rows c =
+    subst (λ (f : Farm). (k : RowKey) → row_at (after_change f c.in_ok-change.change) k ≡ row_after c.in_ok-rows.rows.items k (row_at f k)) c.self.view_is c.in_ok-rows.ensures

@@ -6,8 +6,8 @@ use Rattle.farm_law.proofs.FinishedJobs.{finished_if, unchanged}
 use Rattle.job_index.specs.declared.ready_jobs.TheConstants.{JOB_NUMBERS}
 use Rattle.job_book.specs.Book.{count_in, without_job}
 use Rattle.job_book.specs.Finished.{finished_of, first_of_full, with_one_finished}
-use Rattle.job_book.proofs.FinishNumbers.{leaver_before, map_without, number_left}
-use Rattle.job_book.proofs.FinishOrder.{cut_is}
+use Rattle.job_book.proofs.EndingLemmas.FinishNumbers.{leaver_before, map_without, number_left}
+use Rattle.job_book.proofs.EndingLemmas.FinishOrder.{cut_is}
 use Rattle.job_book.proofs.jobs.Jobs.finish.Goals as goal
 
 pub finish_one-requires-clause-pending : goal.finish_one-requires-clause-pending

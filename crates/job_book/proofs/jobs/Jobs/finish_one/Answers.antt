@@ -19,11 +19,11 @@ use Rattle.job_book.specs.Inside.{book_of, counts_for}
 use Rattle.job_entries.specs.OneJob.{AllJobs}
 use Rattle.job_index.specs.Keys.{put_key}
 use Rattle.job_book.proofs.FoundAt.{found_at, found_then}
-use Rattle.job_book.proofs.FinishNumbers.{finished_finishes, number_left}
-use Rattle.job_book.proofs.FinishedBook.{finished_book}
-use Rattle.job_book.proofs.FinishedLayers.{finished_layers, finished_waiting}
-use Rattle.job_book.proofs.FinishedRows.{can_put_then, ended, finished_counts, finished_finished, finished_names, finished_ready, found_then as row_then, is_there, rows_are}
-use Rattle.job_book.proofs.FreedJob.{freed_is}
+use Rattle.job_book.proofs.EndingLemmas.FinishNumbers.{finished_finishes, number_left}
+use Rattle.job_book.proofs.EndingLemmas.FinishedBook.{finished_book}
+use Rattle.job_book.proofs.EndingLemmas.FinishedLayers.{finished_layers, finished_waiting}
+use Rattle.job_book.proofs.EndingLemmas.FinishedRows.{can_put_then, ended, finished_counts, finished_finished, finished_names, finished_ready, found_then as row_then, is_there, rows_are}
+use Rattle.job_book.proofs.EndingLemmas.FreedJob.{freed_is}
 use Rattle.job_book.proofs.JobPlaces.{at_place, counts_there}
 use Rattle.job_book.proofs.jobs.Jobs.finish_one.Goals as goal
 

@@ -6,7 +6,7 @@ use Rattle.farm_types.specs.Jobs.{JobLists, without_finished}
 use Rattle.job_book.specs.Book.{without_job}
 use Rattle.job_book.specs.Names.{as_list}
 use Rattle.job_index.specs.Names.{number_of}
-use Rattle.job_book.proofs.LeftJobs.{can_leave, finished_goes, none_goes, pending_stays}
+use Rattle.job_book.proofs.EndingLemmas.LeftJobs.{can_leave, finished_goes, none_goes, pending_stays}
 use Rattle.job_book.proofs.jobs.Jobs.finished_named.Goals as goal
 
 pub returns-in_err-job-clause-without : goal.returns-in_err-job-clause-without

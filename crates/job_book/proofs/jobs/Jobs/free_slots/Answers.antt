@@ -2,7 +2,7 @@ use Rattle.std.proofs.Common.{◌∙◌, ◌+◌, ◌≡◌, ℕ, List, drop, ap
 use Rattle.farm_types.specs.declared.slot_row.SlotRow.{SlotRow}
 use Rattle.farm_types.specs.Jobs.{JobLists}
 use Rattle.job_book.specs.Lowest.{lowest_free}
-use Rattle.job_book.proofs.FreeSlots.{skip_lowest}
+use Rattle.job_book.proofs.PlacementLemmas.FreeSlots.{skip_lowest}
 use Rattle.job_book.proofs.jobs.Jobs.free_slots.Goals as goal
 
 pub returns : goal.returns

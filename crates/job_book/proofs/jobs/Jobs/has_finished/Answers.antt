@@ -3,7 +3,7 @@ use Rattle.std.specs.List.{list_any}
 use Rattle.farm_types.specs.Jobs.{JobLists, is_finished_named}
 use Rattle.job_book.specs.Names.{as_list}
 use Rattle.job_index.specs.Names.{number_of}
-use Rattle.job_book.proofs.LeftJobs.{has_finished_is, none_finished_named}
+use Rattle.job_book.proofs.EndingLemmas.LeftJobs.{has_finished_is, none_finished_named}
 use Rattle.job_book.proofs.jobs.Jobs.has_finished.Goals as goal
 
 pub returns-in-None : goal.returns-in-None

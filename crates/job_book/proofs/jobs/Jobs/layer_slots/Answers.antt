@@ -1,7 +1,7 @@
 use Rattle.std.proofs.Common.{◌∙◌, sym, ap}
 use Rattle.farm_types.specs.Farm.{is_placed, slot_from}
 use Rattle.farm_types.specs.Jobs.{JobLists}
-use Rattle.job_book.proofs.LayerLists.{place_read}
+use Rattle.job_book.proofs.PlacementLemmas.LayerLists.{place_read}
 use Rattle.job_book.proofs.jobs.Jobs.layer_slots.Goals as goal
 
 pub returns : goal.returns

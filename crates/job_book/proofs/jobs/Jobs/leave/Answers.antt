@@ -23,9 +23,9 @@ use Rattle.job_index.specs.Names.{number_of}
 use Rattle.job_entries.specs.OneJob.{AllJobs}
 use Rattle.job_book.specs.Ready.{KeepsReady}
 use Rattle.job_index.specs.Keys.{drop_key}
-use Rattle.job_book.proofs.FinishNumbers.{left_finishes}
+use Rattle.job_book.proofs.EndingLemmas.FinishNumbers.{left_finishes}
 use Rattle.job_book.proofs.FoundAt.{found_at}
-use Rattle.job_book.proofs.LeftJobs.{book_left, counts_left, done_goes, finished_left, names_left, not_true, pending_remains, ready_left, remains}
+use Rattle.job_book.proofs.EndingLemmas.LeftJobs.{book_left, counts_left, done_goes, finished_left, names_left, not_true, pending_remains, ready_left, remains}
 use Rattle.job_book.proofs.jobs.Jobs.leave.Goals as goal
 
 pub finish_key-requires : goal.finish_key-requires

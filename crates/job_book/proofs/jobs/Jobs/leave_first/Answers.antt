@@ -11,10 +11,10 @@ use Rattle.job_book.specs.Book.{has_job, without_job}
 use Rattle.job_book.specs.Finished.{finished_of, first_of_full, without_done}
 use Rattle.job_book.specs.Inside.{book_of}
 use Rattle.job_index.specs.Keys.{job_of}
-use Rattle.job_book.proofs.CutJobs.{can_go}
-use Rattle.job_book.proofs.FinishNumbers.{first_full, none_full, one_leaves, pending_left}
-use Rattle.job_book.proofs.FinishOrder.{as_many}
-use Rattle.job_book.proofs.LeftJobs.{done_goes, done_idle, done_there}
+use Rattle.job_book.proofs.EndingLemmas.CutJobs.{can_go}
+use Rattle.job_book.proofs.EndingLemmas.FinishNumbers.{first_full, none_full, one_leaves, pending_left}
+use Rattle.job_book.proofs.EndingLemmas.FinishOrder.{as_many}
+use Rattle.job_book.proofs.EndingLemmas.LeftJobs.{done_goes, done_idle, done_there}
 use Rattle.job_book.proofs.jobs.Jobs.leave_first.Goals as goal
 
 pub returns-then-finished-clause-left : goal.returns-then-finished-clause-left

@@ -6,7 +6,7 @@ use Rattle.job_book.specs.Finished.{without_done}
 use Rattle.job_book.specs.Inside.{book_of}
 use Rattle.job_book.specs.Names.{as_list}
 use Rattle.job_index.specs.Names.{number_of}
-use Rattle.job_book.proofs.LeftJobs.{is_named_there, named_leaves, none_goes}
+use Rattle.job_book.proofs.EndingLemmas.LeftJobs.{is_named_there, named_leaves, none_goes}
 use Rattle.job_book.proofs.jobs.Jobs.leave_named.Goals as goal
 
 pub returns-in_default : goal.returns-in_default

@@ -2,7 +2,7 @@ use Rattle.std.proofs.Common.{◌∙◌, ◌&&◌, eqb, find, sym, ap}
 use Rattle.farm_types.specs.declared.rows.JobRow.{JobRow}
 use Rattle.farm_types.specs.declared.rows.LayerRow.{LayerRow}
 use Rattle.farm_types.specs.Jobs.{JobLists}
-use Rattle.job_book.proofs.NewNumber.{no_job_new, no_layer_new}
+use Rattle.job_book.proofs.PlacementLemmas.NewNumber.{no_job_new, no_layer_new}
 use Rattle.job_book.proofs.jobs.Jobs.next_number.Goals as goal
 
 pub returns-clause-no_job : goal.returns-clause-no_job

@@ -17,10 +17,10 @@ use Rattle.job_index.specs.Keys.{sorted}
 use Rattle.job_index.specs.Names.{NameList}
 use Rattle.job_book.specs.Restored.{keys_beside, lists_in}
 use Rattle.job_entries.specs.Restored.{all_in, noted_from, unplaced}
-use Rattle.job_book.proofs.RestoredBook.{few_jobs, finishes, layers_numbered, made_book, numbered, priorities, rise}
-use Rattle.job_book.proofs.OwnedLayers.{owned}
-use Rattle.job_book.proofs.RestoredIndex.{noted_count, noted_layers, noted_waiting}
-use Rattle.job_book.proofs.RestoredKeys.{beside_is}
+use Rattle.job_book.proofs.RestoringLemmas.RestoredBook.{few_jobs, finishes, layers_numbered, made_book, numbered, priorities, rise}
+use Rattle.job_book.proofs.RestoringLemmas.OwnedLayers.{owned}
+use Rattle.job_book.proofs.RestoringLemmas.RestoredIndex.{noted_count, noted_layers, noted_waiting}
+use Rattle.job_book.proofs.RestoringLemmas.RestoredKeys.{beside_is}
 use Rattle.job_book.proofs.jobs.Jobs.of_rows.Goals as goal
 
 pub counts_in-requires-clause-rise : goal.counts_in-requires-clause-rise

@@ -2,8 +2,8 @@ use Rattle.std.proofs.Common.{◌∙◌, ap}
 use Rattle.std.specs.List.{list_any}
 use Rattle.farm_types.specs.Jobs.{JobLists, job_refusal}
 use Rattle.job_book.specs.Names.{is_named}
-use Rattle.job_book.proofs.LeftJobs.{still_accepted, unnamed_left}
-use Rattle.job_book.proofs.Placed.{accepted_new}
+use Rattle.job_book.proofs.EndingLemmas.LeftJobs.{still_accepted, unnamed_left}
+use Rattle.job_book.proofs.PlacementLemmas.Placed.{accepted_new}
 use Rattle.job_book.proofs.jobs.Jobs.place.Goals as goal
 
 pub place_new-requires-clause-accepted : goal.place_new-requires-clause-accepted

@@ -11,7 +11,7 @@ use Rattle.farm_types.specs.Farm.{changed_at}
 use Rattle.farm_types.specs.Jobs.{JobLists, frames_in, free_among, job_refusal, job_row, layer_rows, place_frames, frames_of}
 use Rattle.job_entries.specs.declared.counts.Counts.{Counts}
 use Rattle.job_index.specs.declared.limits.TheConstants.{MOST_JOBS}
-use Rattle.job_book.specs.declared.placing.Placing.{Placing}
+use Rattle.job_book.specs.declared.placement.placing.Placing.{Placing}
 use Rattle.job_book.specs.Book.{placing_of, with_new_job}
 use Rattle.job_entries.specs.Counting.{new_counts}
 use Rattle.job_entries.specs.Entries.{are_layers, with_entry}
@@ -23,13 +23,13 @@ use Rattle.job_entries.specs.OneJob.{AllJobs, OneJob}
 use Rattle.job_book.specs.Lowest.{AreNext, behind, filled, lowest_free}
 use Rattle.job_book.specs.Ready.{has_priority, ready_key}
 use Rattle.job_index.specs.Keys.{put_key}
-use Rattle.job_book.proofs.FinishNumbers.{placed_finishes}
-use Rattle.job_book.proofs.FreePlaces.{put_lowest}
-use Rattle.job_book.proofs.FreeSlots.{behind_placed, filled_all, length-lowest_free, next_lowest}
+use Rattle.job_book.proofs.EndingLemmas.FinishNumbers.{placed_finishes}
+use Rattle.job_book.proofs.PlacementLemmas.FreePlaces.{put_lowest}
+use Rattle.job_book.proofs.PlacementLemmas.FreeSlots.{behind_placed, filled_all, length-lowest_free, next_lowest}
 use Rattle.job_book.proofs.NamedJobs.{keeps_more, unnamed}
-use Rattle.job_book.proofs.Placed.{accepted_fits, length-layer_rows, placed_book, placed_counts, placed_finished, placed_free, rows_few, rows_are_layers}
-use Rattle.job_book.proofs.PlacedWaiting.{more_layers, more_waiting}
-use Rattle.job_book.proofs.Putting.{length-frames_of}
+use Rattle.job_book.proofs.PlacementLemmas.Placed.{accepted_fits, length-layer_rows, placed_book, placed_counts, placed_finished, placed_free, rows_few, rows_are_layers}
+use Rattle.job_book.proofs.PlacementLemmas.PlacedWaiting.{more_layers, more_waiting}
+use Rattle.job_book.proofs.PlacementLemmas.Putting.{length-frames_of}
 use Rattle.job_book.proofs.ReadyKept.{placed_can, placed_ready}
 use Rattle.job_book.proofs.jobs.Jobs.place_new.Goals as goal
 

@@ -4,8 +4,8 @@ use Rattle.farm_types.specs.declared.job.LayerSpec.{LayerSpec}
 use Rattle.farm_types.specs.Jobs.{frames_in}
 use Rattle.job_book.specs.Inside.{is_below}
 use Rattle.job_book.specs.Lowest.{lowest_free}
-use Rattle.job_book.proofs.FreePlaces.{new_found}
-use Rattle.job_book.proofs.FreeSlots.{length-lowest_free}
+use Rattle.job_book.proofs.PlacementLemmas.FreePlaces.{new_found}
+use Rattle.job_book.proofs.PlacementLemmas.FreeSlots.{length-lowest_free}
 use Rattle.job_book.proofs.jobs.Jobs.places_for.Goals as goal
 
 pub layer_by_layer-requires : goal.layer_by_layer-requires

@@ -5,7 +5,7 @@ use Rattle.job_entries.specs.declared.entries.At.{At}
 use Rattle.job_book.specs.Inside.{book_of}
 use Rattle.job_entries.specs.OneJob.{AllJobs}
 use Rattle.job_book.proofs.FoundAt.{found_at}
-use Rattle.job_book.proofs.FinishNumbers.{paused_finishes}
+use Rattle.job_book.proofs.EndingLemmas.FinishNumbers.{paused_finishes}
 use Rattle.job_book.proofs.PausedJobs.{paused_book, paused_counts, paused_finished, paused_names, paused_ready}
 use Rattle.job_book.proofs.jobs.Jobs.set_paused.Goals as goal
 

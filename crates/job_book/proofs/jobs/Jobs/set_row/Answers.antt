@@ -21,7 +21,7 @@ use Rattle.job_book.specs.Ready.{CanChange, changed_ready}
 use Rattle.job_book.proofs.FoundAt.{found_at, found_then}
 use Rattle.job_book.proofs.InState.{begun_here, can_move, counts_in_state, in_state, in_state_book, in_state_free, with_row}
 use Rattle.job_book.proofs.LayerSlots.{kept_layers, marked_waiting}
-use Rattle.job_book.proofs.Placed.{rows_few}
+use Rattle.job_book.proofs.PlacementLemmas.Placed.{rows_few}
 use Rattle.job_book.proofs.ReadyKept.{can_change, in_state_ready, said}
 use Rattle.job_book.proofs.jobs.Jobs.set_row.Goals as goal
 

@@ -7,7 +7,7 @@ use Rattle.recorder.proofs.recorder.PlainRecorder.record_answered.Goals as goal
 
 pub returns-in_err-record-clause-farm : goal.returns-in_err-record-clause-farm
 returns-in_err-record-clause-farm g c =
-    answered_at_fault c.args.self.now.farm (after_change c.args.self.now.farm c.args.change) c.record.new.self.farm c.args.change.act.answer _ c.from_residual.result
+    answered_at_fault c.args.self.now.farm (after_change c.args.self.now.farm c.args.change) c.record.new.self.farm c.args.change.answer _ c.from_residual.result
     c.from_residual.ensures.1 c.in_err-record.ensures.farm
 
 pub returns-in_err-record-clause-keeper : goal.returns-in_err-record-clause-keeper

@@ -7,10 +7,10 @@ use Rattle.farm_types.specs.declared.rows.LayerRow.{LayerRow}
 use Rattle.farm_types.specs.Farm.{sub_of}
 use Rattle.farm_types.specs.Kept.{layer_in}
 use Rattle.farm_rows.specs.Recovery.{attempt_at, attempt_fits}
+use Rattle.row_index.proofs.SubNumbers.{sub_below}
 use Rattle.stored_rows.specs.Inside.{told_of}
 use Rattle.stored_rows.specs.Told.{Told}
 use Rattle.stored_rows.proofs.FrameFits.{running_attempt, running_sub}
-use Rattle.stored_rows.proofs.SubNumbers.{sub_below}
 use Rattle.stored_rows.proofs.stored_rows.StoredRows.attempt_at.Goals as goal
 
 pub sub_between-requires : goal.sub_between-requires

@@ -1,7 +1,7 @@
 use Rattle.std.proofs.Common.{◌∙◌, ap, length}
 use Rattle.std.specs.List.{sum_by}
 use Rattle.farm_types.specs.Farm.{layers_of}
-use Rattle.stored_rows.specs.Known.{LayerKnown}
+use Rattle.row_index.specs.Index.{LayerKnown}
 use Rattle.stored_rows.proofs.LayerKept.{sum_known}
 use Rattle.stored_rows.proofs.stored_rows.StoredRows.frames_said.Goals as goal
 

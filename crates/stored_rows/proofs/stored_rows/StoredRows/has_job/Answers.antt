@@ -3,8 +3,8 @@ use Rattle.std.specs.List.{list_any}
 use Rattle.std.specs.Str.{bytes_eq}
 use Rattle.farm_types.specs.declared.rows.JobRow.{JobRow}
 use Rattle.farm_types.specs.Kept.{job_label}
+use Rattle.row_index.proofs.Named.{any_labelled}
 use Rattle.stored_rows.specs.Told.{Told}
-use Rattle.stored_rows.proofs.Named.{any_labelled}
 use Rattle.stored_rows.proofs.stored_rows.StoredRows.has_job.Goals as goal
 
 pub returns : goal.returns

@@ -1,6 +1,7 @@
 use Rattle.std.proofs.Common.{◌∙◌, ap, refl, Option}
 use Rattle.farm_types.specs.Farm.{for_some, layer_at}
-use Rattle.stored_rows.specs.Known.{LayerKnown, is_free}
+use Rattle.row_index.specs.Index.{LayerKnown}
+use Rattle.stored_rows.specs.Known.{is_free}
 use Rattle.stored_rows.proofs.Numbers.{known_free}
 use Rattle.stored_rows.proofs.stored_rows.StoredRows.has_place.Goals as goal
 

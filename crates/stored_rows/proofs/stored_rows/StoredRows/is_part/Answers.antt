@@ -6,7 +6,8 @@ use Rattle.farm_types.specs.Farm.{for_some, layers_of}
 use Rattle.farm_types.specs.Kept.{for_any}
 use Rattle.farm_types.specs.Rising.{IsRising, layer_key}
 use Rattle.farm_rows.specs.Recovery.{is_part_in}
-use Rattle.stored_rows.specs.Known.{LayerKnown, is_found, slot_stands}
+use Rattle.row_index.specs.Index.{LayerKnown}
+use Rattle.stored_rows.specs.Known.{is_found, slot_stands}
 use Rattle.stored_rows.specs.Told.{Told}
 use Rattle.stored_rows.proofs.FoundFrames.{part_known}
 use Rattle.stored_rows.proofs.stored_rows.StoredRows.is_part.Goals as goal

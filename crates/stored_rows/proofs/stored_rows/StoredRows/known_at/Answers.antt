@@ -3,9 +3,10 @@ use Rattle.std.specs.List.{position_or_len, slice_get}
 use Rattle.std.proofs.lemmas.List.Folds.{find_at}
 use Rattle.farm_types.specs.declared.rows.LayerRow.{LayerRow}
 use Rattle.farm_types.specs.Farm.{layer_at}
-use Rattle.stored_rows.specs.Known.{LayerKnown, layer_known}
+use Rattle.row_index.specs.Index.{LayerKnown}
+use Rattle.row_index.proofs.Frames.{got_mapped}
+use Rattle.stored_rows.specs.Known.{layer_known}
 use Rattle.stored_rows.specs.Told.{Told}
-use Rattle.stored_rows.proofs.Frames.{got_mapped}
 use Rattle.stored_rows.proofs.stored_rows.StoredRows.known_at.Goals as goal
 
 pub returns : goal.returns

@@ -4,8 +4,9 @@ use Rattle.std.specs.Str.{bytes_eq}
 use Rattle.std.proofs.lemmas.List.Folds.{find_at}
 use Rattle.farm_types.specs.declared.rows.LayerRow.{LayerRow}
 use Rattle.farm_types.specs.Farm.{layers_of}
-use Rattle.stored_rows.specs.Known.{LayerKnown, layer_known}
-use Rattle.stored_rows.proofs.Frames.{got_mapped}
+use Rattle.row_index.specs.Index.{LayerKnown}
+use Rattle.row_index.proofs.Frames.{got_mapped}
+use Rattle.stored_rows.specs.Known.{layer_known}
 use Rattle.stored_rows.proofs.stored_rows.StoredRows.known_named.Goals as goal
 
 pub returns : goal.returns

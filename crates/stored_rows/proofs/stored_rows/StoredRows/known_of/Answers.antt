@@ -1,7 +1,8 @@
 use Rattle.std.proofs.Common.{◌≡◌, ◌∙◌, ap, drop, map, subst, take, List}
 use Rattle.farm_types.specs.declared.rows.LayerRow.{LayerRow}
 use Rattle.farm_types.specs.Farm.{layers_of}
-use Rattle.stored_rows.specs.Known.{LayerKnown, layer_known}
+use Rattle.row_index.specs.Index.{LayerKnown}
+use Rattle.stored_rows.specs.Known.{layer_known}
 use Rattle.stored_rows.specs.Told.{Told}
 use Rattle.stored_rows.proofs.LayerKept.{part_mapped}
 use Rattle.stored_rows.proofs.stored_rows.StoredRows.known_of.Goals as goal

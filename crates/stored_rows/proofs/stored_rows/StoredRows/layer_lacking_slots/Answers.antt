@@ -4,8 +4,8 @@ use Rattle.std.specs.List.{position_or_len}
 use Rattle.farm_types.specs.declared.rows.LayerRow.{LayerRow}
 use Rattle.farm_types.specs.Rising.{layer_key}
 use Rattle.farm_rows.specs.Recovery.{first_layer, lacks_slots}
+use Rattle.row_index.specs.Index.{lacks_any}
 use Rattle.stored_rows.specs.Inside.{told_of}
-use Rattle.stored_rows.specs.Known.{lacks_any}
 use Rattle.stored_rows.specs.Told.{Told}
 use Rattle.stored_rows.proofs.KnownEnds.{at_layer, lacking_known}
 use Rattle.stored_rows.proofs.stored_rows.StoredRows.layer_lacking_slots.Goals as goal

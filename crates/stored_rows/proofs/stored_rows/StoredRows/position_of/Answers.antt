@@ -2,7 +2,7 @@ use Rattle.std.proofs.Common.{◌∙◌, ap, Option, ℤ}
 use Rattle.std.specs.List.{position_or_len}
 use Rattle.std.specs.Ordering.{int_eq}
 use Rattle.farm_types.specs.Farm.{layer_at}
-use Rattle.stored_rows.specs.Known.{LayerKnown}
+use Rattle.row_index.specs.Index.{LayerKnown}
 use Rattle.stored_rows.proofs.Numbers.{known_numbers, numbers_known}
 use Rattle.stored_rows.proofs.stored_rows.StoredRows.position_of.Goals as goal
 

@@ -3,10 +3,10 @@ use Rattle.std.specs.List.{list_any}
 use Rattle.std.specs.Str.{bytes_eq}
 use Rattle.farm_types.specs.Kept.{host_label}
 use Rattle.farm_rows.specs.Recovery.{comes_after, host_fits}
+use Rattle.row_index.proofs.Named.{any_labelled}
 use Rattle.stored_rows.specs.Inside.{told_of}
 use Rattle.stored_rows.specs.Told.{Told}
 use Rattle.stored_rows.proofs.Kept.{host_is_new, host_kept}
-use Rattle.stored_rows.proofs.Named.{any_labelled}
 use Rattle.stored_rows.proofs.stored_rows.StoredRows.push_host.Goals as goal
 
 pub add-requires : goal.add-requires

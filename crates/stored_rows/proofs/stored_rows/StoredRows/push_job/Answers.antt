@@ -3,10 +3,10 @@ use Rattle.std.specs.List.{list_any}
 use Rattle.std.specs.Str.{bytes_eq}
 use Rattle.farm_types.specs.Kept.{job_label}
 use Rattle.farm_rows.specs.Recovery.{comes_after, job_fits}
+use Rattle.row_index.proofs.Named.{any_labelled}
 use Rattle.stored_rows.specs.Inside.{told_of}
 use Rattle.stored_rows.specs.Told.{Told}
 use Rattle.stored_rows.proofs.Kept.{job_finish, job_is_new, job_kept}
-use Rattle.stored_rows.proofs.Named.{any_labelled}
 use Rattle.stored_rows.proofs.stored_rows.StoredRows.push_job.Goals as goal
 
 pub add-requires : goal.add-requires

@@ -1,0 +1,4 @@
+-- A depend comes.
+pub mod AddedDepend
+pub mod Held
+pub mod Marked

@@ -1,0 +1,9 @@
+-- Depends go.
+pub mod Closed
+pub mod Dropped
+pub mod Fewer
+pub mod Forgotten
+pub mod Gone
+pub mod Released
+pub mod Thinned
+pub mod WaitersLeft

@@ -1,0 +1,19 @@
+-- Frames are done, or not any more: the way along their edges, and what is met on it.
+pub mod AllMet
+pub mod Bared
+pub mod Finished
+pub mod FlowKept
+pub mod Freed
+pub mod GroupMet
+pub mod Lowered
+pub mod OnWay
+pub mod Passed
+pub mod Pending
+pub mod Recounted
+pub mod Reopened
+pub mod Satisfied
+pub mod Steps
+pub mod Still
+pub mod Unchanged
+pub mod Walked
+pub mod Watches

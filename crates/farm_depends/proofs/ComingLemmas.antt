@@ -1,0 +1,19 @@
+-- Depends come, of themselves and with a job that is placed.
+pub mod Added
+pub mod AddedFollows
+pub mod Blocking
+pub mod ComingGroups
+pub mod ComingInTurn
+pub mod DependComes
+pub mod JobComes
+pub mod LeftNames
+pub mod OpenWith
+pub mod OwnFrames
+pub mod OwnNames
+pub mod PlacedBlocked
+pub mod PlacedEnds
+pub mod PlacedFarm
+pub mod PlacedFollows
+pub mod Roomy
+pub mod ToCome
+pub mod WithRow

@@ -1,0 +1,4 @@
+-- Depends that are put back.
+pub mod RestoredFlags
+pub mod RestoredMarks
+pub mod RestoredRows

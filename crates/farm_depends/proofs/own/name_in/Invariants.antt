@@ -1,6 +1,0 @@
-use Rattle.std.proofs.Common.{◌≡◌, drop}
-use Rattle.farm_depends.specs.Placed.{name_in}
-use Rattle.farm_depends.proofs.own.name_in.Given as goal
-
-abbrev pub invariant-loop-layer : goal.invariant-loop-layer
-invariant-loop-layer l = name_in (drop l.layer-index l.layers) l.slot ≡ name_in l.layers l.slot

@@ -1,0 +1,6 @@
+use Rattle.std.proofs.Common.{◌≡◌, ◌++◌, map, drop}
+use Rattle.farm_depends.specs.FollowRows.{put_mark}
+use Rattle.farm_depends.proofs.rows.changed.put_marks.Given as goal
+
+abbrev pub invariant-loop-mark : goal.invariant-loop-mark
+invariant-loop-mark l = l.rows.items ++ map put_mark (drop l.mark-index l.marks) ≡ l.fn.rows.items ++ map put_mark l.marks

@@ -1,0 +1,7 @@
+-- The slots so far and those of the changes that are left are those of all changes.
+use Rattle.std.proofs.Common.{◌≡◌, ◌++◌, drop}
+use Rattle.farm_depends.specs.Completing.{newly_eaten}
+use Rattle.farm_depends.proofs.rows.completed.newly_eaten.Given as goal
+
+abbrev pub invariant-loop-change : goal.invariant-loop-change
+invariant-loop-change l = l.eaten ++ newly_eaten (drop l.change-index l.rows) ≡ newly_eaten l.rows

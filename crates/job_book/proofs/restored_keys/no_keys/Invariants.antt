@@ -1,9 +1,0 @@
-use Rattle.std.proofs.Common.{◌≡◌, ℕ, List, Some, length}
-use Rattle.std.specs.List.{slice_get}
-use Rattle.job_book.proofs.restored_keys.no_keys.Given as goal
-
-abbrev pub invariant-loop-show : goal.invariant-loop-show
-invariant-loop-show l = record {
-  count : length l.lists.items ≡ l._show;
-  none : (show : ℕ) (ks : List ℕ) → slice_get l.lists.items show ≡ Some ks → length ks ≡ 0;
-}

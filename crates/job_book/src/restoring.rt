@@ -1,0 +1,5 @@
+//! The book of rows that are given.
+
+pub(crate) mod book;
+pub(crate) mod counts;
+pub(crate) mod keys;
