@@ -5,7 +5,8 @@ use Rattle.farm_types.specs.declared.attempt.ProcRow.{ProcRow}
 use Rattle.farm_types.specs.declared.limits.TheConstants.{MOST_HOSTS, SLOT_LIMIT}
 use Rattle.farm_types.specs.declared.rows.SubRow.{SubRow}
 use Rattle.farm_types.specs.declared.slot_row.SlotRow.{SlotRow}
-use Rattle.farm_types.specs.Kept.{for_any, is_subscribed}
+use Rattle.farm_types.specs.Farm.{for_any}
+use Rattle.farm_types.specs.Kept.{is_subscribed}
 use Rattle.attempt_book.specs.Book.{AttemptLists, cores_booked}
 
 -- each slot's live attempt, if it has one

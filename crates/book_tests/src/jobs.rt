@@ -1,7 +1,7 @@
 //! The book of jobs.
 
 use cue_json::object_of;
-use farm_types::{FrameState, JobNo, ShowNo, Slot, Version};
+use farm_types::{FrameState, Items, JobNo, ShowNo, Slot, Version};
 use job_book::Jobs;
 use job_spec::read_spec;
 use std::alloc::Global;
@@ -15,7 +15,7 @@ fn book_with(alloc: Global, spec: &str) -> Result<Jobs, Fail> {
     let mut book = Jobs::make(alloc)?;
     let object = object_of(alloc, spec.as_bytes())?;
     let spec = read_spec(alloc, &object)?;
-    let placing = book.check(alloc, &spec, ShowNo(0))?;
+    let placing = book.check(alloc, &spec, ShowNo(0), Items::new(alloc))?;
     let reserved = book.reserve(alloc, &spec)?;
     book.place(spec, reserved, placing);
     Ok(book)

@@ -8,7 +8,7 @@ use Rattle.farm_types.specs.declared.rows.HostRow.{HostRow}
 use Rattle.farm_types.specs.declared.rows.JobRow.{JobRow}
 use Rattle.farm_types.specs.declared.rows.LayerRow.{LayerRow}
 use Rattle.farm_types.specs.declared.slot_row.Frame.{Frame}
-use Rattle.farm_types.specs.Booking.{has_capacity, in_facility, is_pending, is_waiting, may_book, may_record, tags_match, takes_frames, within_burst}
+use Rattle.farm_types.specs.Booking.{has_capacity, in_facility, is_pending, is_waiting, may_book, may_record, tags_match, takes_frames, within_burst, within_limit}
 use Rattle.farm_types.specs.DependActs.{or_else}
 use Rattle.farm_types.specs.Depends.{is_open}
 use Rattle.farm_types.specs.Farm.{Farm, for_some, job_at, layer_at, sub_of}
@@ -28,32 +28,33 @@ none_passes (Some x) test fails = fails x
 -- ---- the tests of a place
 
 -- all of them hold where there is no reason
-all_hold : (a b c d e g h k : Bool) (whyA whyB whyC whyD whyE whyG whyH whyK : NotBooked)
-    → is_none (unless a whyA (unless b whyB (unless c whyC (unless d whyD (unless e whyE (unless g whyG (unless h whyH (unless k whyK None))))))))
-    ≡ ((((((((true && a) && b) && c) && d) && e) && g) && h) && k)
-all_hold false b c d e g h k _ _ _ _ _ _ _ _ = refl
-all_hold true false c d e g h k _ _ _ _ _ _ _ _ = refl
-all_hold true true false d e g h k _ _ _ _ _ _ _ _ = refl
-all_hold true true true false e g h k _ _ _ _ _ _ _ _ = refl
-all_hold true true true true false g h k _ _ _ _ _ _ _ _ = refl
-all_hold true true true true true false h k _ _ _ _ _ _ _ _ = refl
-all_hold true true true true true true false k _ _ _ _ _ _ _ _ = refl
-all_hold true true true true true true true false _ _ _ _ _ _ _ _ = refl
-all_hold true true true true true true true true _ _ _ _ _ _ _ _ = refl
+all_hold : (a b c d e g h k m : Bool) (whyA whyB whyC whyD whyE whyG whyH whyK whyM : NotBooked)
+    → is_none (unless a whyA (unless b whyB (unless c whyC (unless d whyD (unless e whyE (unless g whyG (unless h whyH (unless k whyK (unless m whyM None)))))))))
+    ≡ (((((((((true && a) && b) && c) && d) && e) && g) && h) && k) && m)
+all_hold false b c d e g h k m _ _ _ _ _ _ _ _ _ = refl
+all_hold true false c d e g h k m _ _ _ _ _ _ _ _ _ = refl
+all_hold true true false d e g h k m _ _ _ _ _ _ _ _ _ = refl
+all_hold true true true false e g h k m _ _ _ _ _ _ _ _ _ = refl
+all_hold true true true true false g h k m _ _ _ _ _ _ _ _ _ = refl
+all_hold true true true true true false h k m _ _ _ _ _ _ _ _ _ = refl
+all_hold true true true true true true false k m _ _ _ _ _ _ _ _ _ = refl
+all_hold true true true true true true true false m _ _ _ _ _ _ _ _ _ = refl
+all_hold true true true true true true true true false _ _ _ _ _ _ _ _ _ = refl
+all_hold true true true true true true true true true _ _ _ _ _ _ _ _ _ = refl
 
 -- whether the frame may be placed, by whether it waits
 abbrev placed_if : Bool → Farm → ℕ → ℕ → ℕ → JobRow → LayerRow → HostRow → Bool
 placed_if waits f slot host version job layer row =
-    (((((((waits && nat_lt version LAST_VERSION) && is_pending job.state) && not job.paused) && is_open f slot) && in_facility f row.alloc job.facility) && takes_frames row)
-    && has_capacity f host row layer) && within_burst f (sub_of job.show row.alloc) layer
+    ((((((((waits && nat_lt version LAST_VERSION) && is_pending job.state) && not job.paused) && is_open f slot) && in_facility f row.alloc job.facility) && takes_frames row)
+    && has_capacity f host row layer) && within_burst f (sub_of job.show row.alloc) layer) && within_limit f layer
 
 module _ (f : Farm) (slot host : ℕ) where
   place_same : (version : ℕ) (job : JobRow) (layer : LayerRow) (row : HostRow)
       → is_none (why_not_place f slot host version job layer row) ≡ placed_if true f slot host version job layer row
   place_same version job layer row =
       all_hold (nat_lt version LAST_VERSION) (is_pending job.state) (not job.paused) (is_open f slot) (in_facility f row.alloc job.facility) (takes_frames row)
-      (has_capacity f host row layer) (within_burst f (sub_of job.show row.alloc) layer)
-      reason.VersionSpent reason.JobFinished reason.JobPaused reason.NotOpen reason.OtherFacility reason.HostClosed reason.NoCapacity reason.PastBurst
+      (has_capacity f host row layer) (within_burst f (sub_of job.show row.alloc) layer) (within_limit f layer)
+      reason.VersionSpent reason.JobFinished reason.JobPaused reason.NotOpen reason.OtherFacility reason.HostClosed reason.NoCapacity reason.PastBurst reason.AtLimit
 
   -- the frame with its job, layer and host may be placed, by whether it waits
   abbrev joined_if : Bool → ℕ → Frame → Bool

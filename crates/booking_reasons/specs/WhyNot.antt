@@ -6,7 +6,7 @@ use Rattle.booking_reasons.specs.declared.not_booked.NotBooked.TheVariants as re
 use Rattle.farm_types.specs.declared.rows.HostRow.{HostRow}
 use Rattle.farm_types.specs.declared.rows.JobRow.{JobRow}
 use Rattle.farm_types.specs.declared.rows.LayerRow.{LayerRow}
-use Rattle.farm_types.specs.Booking.{has_capacity, in_facility, is_pending, is_waiting, tags_match, takes_frames, within_burst}
+use Rattle.farm_types.specs.Booking.{has_capacity, in_facility, is_pending, is_waiting, tags_match, takes_frames, within_burst, within_limit}
 use Rattle.farm_types.specs.DependActs.{or_else}
 use Rattle.farm_types.specs.Depends.{is_open}
 use Rattle.farm_types.specs.Farm.{Farm, job_at, layer_at, sub_of}
@@ -31,7 +31,8 @@ why_not_place f slot host version job layer row =
     (unless (in_facility f row.alloc job.facility) reason.OtherFacility
     (unless (takes_frames row) reason.HostClosed
     (unless (has_capacity f host row layer) reason.NoCapacity
-    (unless (within_burst f (sub_of job.show row.alloc) layer) reason.PastBurst None)))))))
+    (unless (within_burst f (sub_of job.show row.alloc) layer) reason.PastBurst
+    (unless (within_limit f layer) reason.AtLimit None))))))))
 
 -- why a booking of the slot's frame on the host may not be recorded (`may_record`): a frame that doesn't wait is seen first
 abbrev pub why_not_record : Farm → ℕ → ℕ → Option NotBooked

@@ -37,6 +37,8 @@ pub enum NotBooked {
     NoCapacity,
     /// The subscription isn't there, or its burst is passed.
     PastBurst,
+    /// As many frames run in the layer's limit as may, or the limit isn't there.
+    AtLimit,
     /// The layer and the host have no tag in common.
     NoSharedTag,
 }
@@ -57,6 +59,7 @@ impl fmt::Display for NotBooked {
             NotBooked::HostClosed => write!(f, "the host is down or locked"),
             NotBooked::NoCapacity => write!(f, "the host has no room for the layer"),
             NotBooked::PastBurst => write!(f, "the subscription's burst is passed"),
+            NotBooked::AtLimit => write!(f, "the layer's limit is reached"),
             NotBooked::NoSharedTag => write!(f, "the layer and the host share no tag"),
         }
     }

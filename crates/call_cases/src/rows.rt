@@ -1,7 +1,7 @@
 //! Bytes of rows of the store.
 
 use case_text::{LineFault, text_bytes, unquoted};
-use farm_rows::FarmRow;
+use farm_rows::{FarmRow, ROW_FORMAT};
 use row_codec::{RowFault, decode, encode};
 use std::alloc::Global;
 
@@ -11,8 +11,20 @@ pub fn row_bytes(alloc: Global, given: &str) -> Result<String, LineFault> {
         return Err(LineFault::Malformed);
     };
     let bytes = text_bytes(alloc, unquoted(text))?;
-    match decode(alloc, kind, id, bytes.as_slice()) {
+    match decode(alloc, ROW_FORMAT, kind, id, bytes.as_slice()) {
         Ok(row) => same_row(alloc, kind, id, &row, bytes.as_slice()),
+        Err(fault) => told(alloc, fault),
+    }
+}
+
+/// Whether bytes are those of a row of format 1: `row`, or the fault.
+pub fn old_row_bytes(alloc: Global, given: &str) -> Result<String, LineFault> {
+    let Some((kind, id, text)) = parts(given) else {
+        return Err(LineFault::Malformed);
+    };
+    let bytes = text_bytes(alloc, unquoted(text))?;
+    match decode(alloc, 1, kind, id, bytes.as_slice()) {
+        Ok(row) => row_if(alloc, is_named(&row, kind, id)),
         Err(fault) => told(alloc, fault),
     }
 }
@@ -35,7 +47,16 @@ fn same_row(
     bytes: &[u8],
 ) -> Result<String, LineFault> {
     let again = encode(alloc, row)?;
-    let is_same = row.kind() == kind && row.id() == id && again.as_slice() == bytes;
+    row_if(alloc, is_named(row, kind, id) && again.as_slice() == bytes)
+}
+
+// Whether the row is of that kind and id.
+fn is_named(row: &FarmRow, kind: u8, id: u64) -> bool {
+    row.kind() == kind && row.id() == id
+}
+
+// What is said of a row that is the one whose bytes were given, and of another.
+fn row_if(alloc: Global, is_same: bool) -> Result<String, LineFault> {
     let words = if is_same { "row" } else { "another row" };
     Ok(String::from_str(alloc, words)?)
 }

@@ -8,19 +8,26 @@ use std::alloc::Global;
 #[derive(Clone, Copy, Debug, PartialEq, Eq)]
 pub enum StoreCall {
     RowBytes,
+    OldRowBytes,
     Recover,
     Keeper,
 }
 
 impl StoreCall {
     /// All of them, in the order in which their files are read.
-    pub const ALL: [StoreCall; 3] = [StoreCall::RowBytes, StoreCall::Recover, StoreCall::Keeper];
+    pub const ALL: [StoreCall; 4] = [
+        StoreCall::RowBytes,
+        StoreCall::OldRowBytes,
+        StoreCall::Recover,
+        StoreCall::Keeper,
+    ];
 }
 
 impl Calls for StoreCall {
     fn file_name(&self) -> &'static str {
         match self {
             StoreCall::RowBytes => "row_bytes.rows",
+            StoreCall::OldRowBytes => "old_row_bytes.rows",
             StoreCall::Recover => "recover.rows",
             StoreCall::Keeper => "keeper.rows",
         }
@@ -29,6 +36,7 @@ impl Calls for StoreCall {
     fn answer(&self, alloc: Global, given: &str) -> Result<String, LineFault> {
         match self {
             StoreCall::RowBytes => rows::row_bytes(alloc, given),
+            StoreCall::OldRowBytes => rows::old_row_bytes(alloc, given),
             StoreCall::Recover => recoveries::recovered(alloc, given),
             StoreCall::Keeper => keeping::answers(alloc, given),
         }

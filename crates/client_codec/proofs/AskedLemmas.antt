@@ -6,6 +6,7 @@ pub mod AskedEnds
 pub mod AskedFields
 pub mod AskedFrames
 pub mod AskedLayers
+pub mod AskedLimit
 pub mod AskedList
 pub mod AskedNames
 pub mod AskedOptions

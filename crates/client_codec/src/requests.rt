@@ -3,6 +3,7 @@
 pub(crate) mod boot;
 pub(crate) mod depend;
 pub(crate) mod frame;
+pub(crate) mod limit;
 pub(crate) mod list;
 pub(crate) mod members;
 pub(crate) mod name;

@@ -5,6 +5,7 @@ pub mod HostsAt
 pub mod InTurn
 pub mod JobsAt
 pub mod LayersListed
+pub mod LimitsAt
 pub mod Listed
 pub mod NoJob
 pub mod OwnSlots

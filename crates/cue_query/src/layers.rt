@@ -7,6 +7,7 @@ ghost use Rattle.cue_query.specs.Counts.{counts_among};
 ghost use Rattle.cue_query.specs.Queries.{IsLayerOf};
 ghost use Rattle.cue_query.specs.Pages.{offered, offered_all};
 
+use crate::names::limit_name;
 use crate::page::Page;
 use farm_core::Farm;
 use farm_lines::{ListRow, ShownLayer};
@@ -64,6 +65,7 @@ fn shown(alloc: Global, farm: &Farm, layer: &LayerRow) -> Result<ListRow, AllocE
         dead: counts.dead,
         depend: counts.depend,
         eaten: counts.eaten,
+        limit: limit_name(alloc, farm, layer.limit)?,
         memory: layer.memory,
         name: layer.name.copy(alloc)?,
         range: layer.range.copy(alloc)?,

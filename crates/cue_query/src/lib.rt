@@ -1,4 +1,4 @@
-//! Lists of the farm: its shows, allocations, subscriptions, hosts, jobs and live attempts, and the layers, frames and depends of a job.
+//! Lists of the farm: its shows, allocations, subscriptions, limits, hosts, jobs and live attempts, and the layers, frames and depends of a job.
 #![tactic(auto)]
 
 mod depends;
@@ -6,6 +6,7 @@ mod frames;
 mod hosts;
 mod jobs;
 mod layers;
+mod limits;
 mod names;
 mod page;
 mod procs;

@@ -1,13 +1,13 @@
-//! Names by numbers: of shows, allocations, hosts, jobs and frames.
+//! Names by numbers: of shows, allocations, limits, hosts, jobs and frames.
 
 ghost use Rattle.std.specs.Prelude.{◌≡◌, [], IfOk};
 ghost use Rattle.farm_types.specs.DependActs.{name_of_frame};
 ghost use Rattle.farm_types.specs.Farm.{alloc_name};
-ghost use Rattle.farm_lines.specs.Lists.{host_name, job_of_frame, name_at_alloc, show_name};
+ghost use Rattle.farm_lines.specs.Lists.{host_name, job_of_frame, limit_name, name_at_alloc, show_name};
 
 use command_text::frame_name;
 use farm_core::Farm;
-use farm_types::{AllocNo, AllocRow, Frame, HostNo, ShowNo, Text};
+use farm_types::{AllocNo, AllocRow, Frame, HostNo, LimitNo, ShowNo, Text};
 use std::alloc::{AllocError, Global};
 
 /// The name of the show of that number, empty where there is none.
@@ -38,6 +38,23 @@ pub(crate) fn name_of_alloc(alloc: Global, row: &AllocRow) -> Result<Text, Alloc
     name.push_str(".")?;
     name.push_str(row.tag.as_str())?;
     Ok(Text::from_string(name))
+}
+
+/// The name of the limit of that number, empty where there is none.
+pub(crate) fn limit_name(
+    alloc: Global,
+    farm: &Farm,
+    limit: Option<LimitNo>,
+) -> Result<Text, AllocError>
+    ensures { IfOk result (λ name. name ≡ limit_name farm.now limit) }
+{
+    let Some(limit) = limit else {
+        return Ok(no_name(alloc));
+    };
+    match farm.books().limits().row(limit) {
+        None => Ok(no_name(alloc)),
+        Some(row) => row.name.copy(alloc),
+    }
 }
 
 /// The name of the host of that number, empty where there is none.

@@ -9,6 +9,7 @@ use crate::frames::list_frames;
 use crate::hosts::list_hosts;
 use crate::jobs::list_jobs;
 use crate::layers::list_layers;
+use crate::limits::list_limits;
 use crate::page::Page;
 use crate::procs::list_procs;
 use crate::shows::{list_allocs, list_shows};
@@ -38,6 +39,7 @@ fn list_rows(alloc: Global, farm: &Farm, what: &Listed, page: &mut Page) -> Resu
         Listed::Shows => Ok(list_shows(alloc, farm, page)?),
         Listed::Allocs => Ok(list_allocs(alloc, farm, page)?),
         Listed::Subs => Ok(list_subs(alloc, farm, page)?),
+        Listed::Limits => Ok(list_limits(alloc, farm, page)?),
         Listed::Hosts => Ok(list_hosts(alloc, farm, page)?),
         Listed::Jobs => Ok(list_jobs(alloc, farm, page)?),
         Listed::Layers { job } => {

@@ -12,6 +12,7 @@ use Rattle.cue_tool.specs.Listings.{cells_of, have_keys, is_kind}
 pub same_kind : (keys other : RowKind) → is_kind keys other ≡ true → other ≡ keys
 same_kind kind.Name kind.Name is = refl
 same_kind kind.Sub kind.Sub is = refl
+same_kind kind.Limit kind.Limit is = refl
 same_kind kind.Host kind.Host is = refl
 same_kind kind.Job kind.Job is = refl
 same_kind kind.Layer kind.Layer is = refl
@@ -24,6 +25,7 @@ same_kind keys other is = absurd (true≢false (sym is))
 cells_fit : (r : ListRow) → length (cells_of r) ≡ length (row_keys (kind_of_row r))
 cells_fit (row.Name name) = refl
 cells_fit (row.Sub s) = refl
+cells_fit (row.Limit l) = refl
 cells_fit (row.Host h) = refl
 cells_fit (row.Job j) = refl
 cells_fit (row.Layer l) = refl

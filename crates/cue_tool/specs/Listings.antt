@@ -20,13 +20,15 @@ flag_text false = codes "false"
 abbrev pub cells_of : ListRow → List (List ℕ)
 cells_of (row.Name name) = name ∷ []
 cells_of (row.Sub s) = s.alloc ∷ decimal s.booked ∷ decimal s.burst ∷ s.show ∷ decimal s.size ∷ []
+cells_of (row.Limit l) = decimal l.most ∷ l.name ∷ decimal l.running ∷ []
 cells_of (row.Host h) =
     h.alloc ∷ decimal h.boot ∷ decimal h.cores ∷ decimal h.heard ∷ lock_word h.lock ∷ decimal h.memory ∷ h.name ∷ host_word h.state ∷ decimal h.used_cores ∷ decimal h.used_memory ∷ []
 cells_of (row.Job j) =
     decimal j.dead ∷ decimal j.depend ∷ decimal j.eaten ∷ j.name ∷ flag_text j.paused ∷ decimal j.priority ∷ decimal j.running ∷ j.show ∷ job_word j.state ∷ decimal j.succeeded
     ∷ decimal j.waiting ∷ []
 cells_of (row.Layer l) =
-    decimal l.cores ∷ decimal l.dead ∷ decimal l.depend ∷ decimal l.eaten ∷ decimal l.memory ∷ l.name ∷ l.range ∷ decimal l.running ∷ decimal l.succeeded ∷ decimal l.waiting ∷ []
+    decimal l.cores ∷ decimal l.dead ∷ decimal l.depend ∷ decimal l.eaten ∷ l.limit ∷ decimal l.memory ∷ l.name ∷ l.range ∷ decimal l.running ∷ decimal l.succeeded
+    ∷ decimal l.waiting ∷ []
 cells_of (row.Frame x) = x.frame ∷ decimal x.retries ∷ state_word x.state ∷ decimal x.version ∷ []
 cells_of (row.Depend d) = decimal d.depend ∷ kind_word d.kind ∷ flag_text d.satisfied ∷ []
 cells_of (row.Proc p) = decimal p.cores ∷ p.frame ∷ p.host ∷ p.job ∷ decimal p.memory ∷ decimal p.slot ∷ decimal p.version ∷ []
@@ -39,6 +41,7 @@ added before more = fold (λ cells cell. cells ++ cell ∷ []) before more
 abbrev pub is_kind : RowKind → RowKind → Bool
 is_kind kind.Name kind.Name = true
 is_kind kind.Sub kind.Sub = true
+is_kind kind.Limit kind.Limit = true
 is_kind kind.Host kind.Host = true
 is_kind kind.Job kind.Job = true
 is_kind kind.Layer kind.Layer = true

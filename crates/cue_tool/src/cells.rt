@@ -6,7 +6,8 @@ ghost use Rattle.cue_tool.specs.Listings.{added, cells_of};
 
 use crate::row::Row;
 use farm_lines::{
-    ListRow, ShownDepend, ShownFrame, ShownHost, ShownJob, ShownLayer, ShownProc, ShownSub,
+    ListRow, ShownDepend, ShownFrame, ShownHost, ShownJob, ShownLayer, ShownLimit, ShownProc,
+    ShownSub,
 };
 use farm_types::{Items, Text};
 use state_names::{host_word, job_word, kind_word, lock_word, state_word};
@@ -41,6 +42,7 @@ fn push_cells(cells: &mut Row, row: &ListRow) -> Result<(), AllocError>
     match row {
         ListRow::Name { name } => cells.text(name.as_str()),
         ListRow::Sub(sub) => push_sub(cells, sub),
+        ListRow::Limit(limit) => push_limit(cells, limit),
         ListRow::Host(host) => push_host(cells, host),
         ListRow::Job(job) => push_job(cells, job),
         ListRow::Layer(layer) => push_layer(cells, layer),
@@ -58,6 +60,14 @@ fn push_sub(cells: &mut Row, sub: &ShownSub) -> Result<(), AllocError>
     cells.cores(sub.burst)?;
     cells.text(sub.show.as_str())?;
     cells.cores(sub.size)
+}
+
+fn push_limit(cells: &mut Row, limit: &ShownLimit) -> Result<(), AllocError>
+    ensures { OnOk result (cells.new ≡ added cells.old (cells_of (list_row.Limit limit.now))) }
+{
+    cells.whole(u64::from(limit.most))?;
+    cells.text(limit.name.as_str())?;
+    cells.whole(u64::from(limit.running))
 }
 
 fn push_host(cells: &mut Row, host: &ShownHost) -> Result<(), AllocError>
@@ -98,6 +108,7 @@ fn push_layer(cells: &mut Row, layer: &ShownLayer) -> Result<(), AllocError>
     cells.whole(u64::from(layer.dead))?;
     cells.whole(u64::from(layer.depend))?;
     cells.whole(u64::from(layer.eaten))?;
+    cells.text(layer.limit.as_str())?;
     cells.memory(layer.memory)?;
     cells.text(layer.name.as_str())?;
     cells.text(layer.range.as_str())?;

@@ -66,6 +66,7 @@ fn kind_of_row(row: &ListRow) -> RowKind
     match row {
         ListRow::Name { .. } => RowKind::Name,
         ListRow::Sub(_) => RowKind::Sub,
+        ListRow::Limit(_) => RowKind::Limit,
         ListRow::Host(_) => RowKind::Host,
         ListRow::Job(_) => RowKind::Job,
         ListRow::Layer(_) => RowKind::Layer,
@@ -82,6 +83,7 @@ fn kind_of(what: What) -> RowKind
     match what {
         What::Shows | What::Allocs => RowKind::Name,
         What::Subs => RowKind::Sub,
+        What::Limits => RowKind::Limit,
         What::Hosts => RowKind::Host,
         What::Jobs => RowKind::Job,
         What::Layers => RowKind::Layer,
@@ -99,6 +101,7 @@ fn what_of(word: &str) -> Option<What>
         "shows" => Some(What::Shows),
         "allocs" => Some(What::Allocs),
         "subs" => Some(What::Subs),
+        "limits" => Some(What::Limits),
         "hosts" => Some(What::Hosts),
         "jobs" => Some(What::Jobs),
         "layers" => Some(What::Layers),

@@ -52,6 +52,7 @@ command_of name words =
     else (if bytes_eq name (codes "show") then Some (command (codes "show") (Named (codes "name") ∷ []))
     else (if bytes_eq name (codes "alloc") then Some (command (codes "alloc") (Named (codes "name") ∷ []))
     else (if bytes_eq name (codes "sub") then Some (command (codes "sub") (Named (codes "show") ∷ Named (codes "alloc") ∷ OfCores (codes "size") ∷ OfCores (codes "burst") ∷ []))
+    else (if bytes_eq name (codes "limit") then Some (command (codes "limit") (Named (codes "name") ∷ Numbered (codes "most") ∷ []))
     else (if bytes_eq name (codes "lock") then Some (lock_command (codes "LOCKED"))
     else (if bytes_eq name (codes "unlock") then Some (lock_command (codes "OPEN"))
     else (if bytes_eq name (codes "nimby") then Some (lock_command (codes "NIMBY_LOCKED"))
@@ -62,7 +63,7 @@ command_of name words =
     else (if bytes_eq name (codes "eat") then Some (command (codes "eat") frame_parts)
     else (if bytes_eq name (codes "retry") then Some (command (codes "retry") frame_parts)
     else (if bytes_eq name (codes "tick") then Some (command (codes "tick") [])
-    else None)))))))))))))
+    else None))))))))))))))
 
 -- ---- lines
 

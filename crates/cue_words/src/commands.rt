@@ -19,6 +19,8 @@ const SUB: [Part; 4] = [
     Part::OfCores("burst"),
 ];
 
+const LIMIT: [Part; 2] = [Part::Named("name"), Part::Numbered("most")];
+
 /// The line of the command of that name, with these words after it, but for `submit`, `depend` and `help`.
 pub fn ask(alloc: Global, name: &str, words: &[Text]) -> Result<ToolWords, WordsFault>
     ensures { IsWords result (asked (command_of name.now words.now) words.now) }
@@ -28,6 +30,7 @@ pub fn ask(alloc: Global, name: &str, words: &[Text]) -> Result<ToolWords, Words
         "show" => plain(alloc, "show", &[Part::Named("name")], words),
         "alloc" => plain(alloc, "alloc", &[Part::Named("name")], words),
         "sub" => plain(alloc, "sub", &SUB, words),
+        "limit" => plain(alloc, "limit", &LIMIT, words),
         "lock" => lock(alloc, "LOCKED", words),
         "unlock" => lock(alloc, "OPEN", words),
         "nimby" => lock(alloc, "NIMBY_LOCKED", words),

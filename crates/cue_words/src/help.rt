@@ -12,6 +12,7 @@ pub fn help_text() -> &'static str
      show NAME\n\
      alloc NAME\n\
      sub SHOW ALLOC SIZE BURST\n\
+     limit NAME MOST\n\
      lock HOST\n\
      unlock HOST\n\
      nimby HOST\n\

@@ -18,7 +18,8 @@ pub fn groups(
     waiter: &Shape,
     target: &Shape,
 ) -> Result<Items<Group>, AllocError>
-    ensures { IfOk result (λ groups. groups ≡ groups_by depend.now.kind depend.now.any (part_of depend.now.waiter) (part_of depend.now.target) waiter.now target.now) }
+    ensures { IfOk result (λ groups. groups ≡ groups_by depend.now.kind depend.now.any
+        (part_of depend.now.waiter) (part_of depend.now.target) waiter.now target.now) }
 {
     match depend.kind {
         DependKind::FrameByFrame => frame_by_frame(alloc, depend, waiter, target),
@@ -42,7 +43,9 @@ fn frame_by_frame(
     waiter: &Shape,
     target: &Shape,
 ) -> Result<Items<Group>, AllocError>
-    ensures { IfOk result (λ groups. groups ≡ groups_by_number 0 depend.now.any (layer_named_by waiter.now (part_of depend.now.waiter)).numbers (layer_named_by waiter.now (part_of depend.now.waiter)).slots (layer_named_by target.now (part_of depend.now.target))) }
+    ensures { IfOk result (λ groups. groups ≡ groups_by_number 0 depend.now.any
+        (layer_named_by waiter.now (part_of depend.now.waiter)).numbers (layer_named_by waiter.now (part_of depend.now.waiter)).slots
+        (layer_named_by target.now (part_of depend.now.target))) }
 {
     let targets = slots_by_number(
         alloc,
@@ -65,7 +68,8 @@ fn previous_frame(
     waiter: &Shape,
     target: &Shape,
 ) -> Result<Items<Group>, AllocError>
-    ensures { IfOk result (λ groups. groups ≡ groups_of_previous depend.now.any (layer_named_by waiter.now (part_of depend.now.waiter)).slots (layer_named_by target.now (part_of depend.now.target)).slots) }
+    ensures { IfOk result (λ groups. groups ≡ groups_of_previous depend.now.any
+        (layer_named_by waiter.now (part_of depend.now.waiter)).slots (layer_named_by target.now (part_of depend.now.target)).slots) }
 {
     groups_of_previous(
         alloc,
@@ -82,7 +86,12 @@ fn one_group(
     waiter: &Shape,
     target: &Shape,
 ) -> Result<Items<Group>, AllocError>
-    ensures { IfOk result (λ groups. groups ≡ record { position = 0; waiters = slots_at waiter.now (part_of depend.now.waiter); targets = slots_at target.now (part_of depend.now.target); any = depend.now.any } ∷ []) }
+    ensures { IfOk result (λ groups. groups ≡ record {
+      position = 0;
+      waiters = slots_at waiter.now (part_of depend.now.waiter);
+      targets = slots_at target.now (part_of depend.now.target);
+      any = depend.now.any;
+    } ∷ []) }
 {
     let mut groups = Items::new(alloc);
     groups.push(Group {

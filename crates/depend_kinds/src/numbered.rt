@@ -39,7 +39,8 @@ pub(crate) fn slots_by_number(
 
 // The slot goes under a number that has none yet.
 fn add_first(by_number: &mut IndexMap<i32, Slot>, number: i32, slot: Slot) -> Result<(), AllocError>
-    ensures { OnOk result ((other : ℤ) (later : List ℕ) → found_or (get int_eq by_number.new other) later ≡ found_or (get int_eq by_number.old other) (if int_eq number other then slot ∷ [] else later)) }
+    ensures { OnOk result ((other : ℤ) (later : List ℕ) → found_or (get int_eq by_number.new other) later
+        ≡ found_or (get int_eq by_number.old other) (if int_eq number other then slot ∷ [] else later)) }
 {
     if by_number.contains_key(&number) {
         return Ok(());

@@ -1,18 +1,18 @@
 -- Each act leaves depends and marks as they are, and of each depend that isn't satisfied the groups.
-use Rattle.std.proofs.Common.{◌≡◌, ℕ, true, Option, Some, None, refl, sym, subst}
+use Rattle.std.proofs.Common.{◌≡◌, ℕ, true, List, Option, Some, None, refl, sym, subst}
 use Rattle.farm_types.specs.declared.boot.BootLine.{BootLine}
 use Rattle.farm_types.specs.declared.entry.Act.{Act}
-use Rattle.farm_types.specs.declared.entry.Act.TheVariants.{Sub, Boot, Heard, Submit, Pause, KillJob, KillFrame, EatFrame, RetryFrame, Lock, Tick, Book}
+use Rattle.farm_types.specs.declared.entry.Act.TheVariants.{Sub, Limit, Boot, Heard, Submit, Pause, KillJob, KillFrame, EatFrame, RetryFrame, Lock, Tick, Book}
 use Rattle.farm_types.specs.declared.job.JobSpec.{JobSpec}
 use Rattle.farm_types.specs.declared.states.LockState.{LockState}
 use Rattle.farm_types.specs.declared.sub_line.SubLine.{SubLine}
 use Rattle.farm_types.specs.Booking.{may_record}
 use Rattle.farm_types.specs.DependActs.{pending_named}
-use Rattle.farm_types.specs.Farm.{Farm, alloc_named, changed_at, host_named, show_named}
+use Rattle.farm_types.specs.Farm.{Farm, alloc_named, changed_at, host_named, limit_named, show_named}
 use Rattle.farm_types.specs.Kept.{KeepsDepends, KeepsRows}
 use Rattle.farm_types.specs.Operators.{retried_row, slot_named, with_row_at}
 use Rattle.farm_types.specs.Run.{IsSound}
-use Rattle.farm_types.specs.Step.{HasCondition, act_refusal, after_act, after_boot, after_lock, after_sub, after_submit, booked_row, expire, new_proc, proc_of, sub_named, with_proc}
+use Rattle.farm_types.specs.Step.{HasCondition, act_refusal, after_act, after_boot, after_limit, after_lock, after_sub, after_submit, booked_row, expire, new_proc, proc_of, sub_named, with_proc}
 use Rattle.farm_law.proofs.Booked.{booking_makes}
 use Rattle.farm_law.proofs.CanBook.{can_book}
 use Rattle.farm_law.proofs.Lost.{expire_sound}
@@ -35,6 +35,10 @@ of_carries f g c = record { same = c.same; next = c.next }
 sub_same : (f : Farm) (line : SubLine) (o : Option ℕ) → Carries f (after_sub f line o)
 sub_same f line None = same_carries f
 sub_same f line (Some sub) = (all_same f (after_sub f line (Some sub)) refl refl refl refl refl refl).carries
+
+limit_same : (f : Farm) (name : List ℕ) (most : ℕ) (o : Option ℕ) → Carries f (after_limit f name most o)
+limit_same f name most None = (all_same f (after_limit f name most None) refl refl refl refl refl refl).carries
+limit_same f name most (Some limit) = (all_same f (after_limit f name most (Some limit)) refl refl refl refl refl refl).carries
 
 lock_same : (f : Farm) (lock : LockState) (o : Option ℕ) → Carries f (after_lock f lock o)
 lock_same f lock None = same_carries f
@@ -64,6 +68,7 @@ book_same f slot host moment allowed =
 
 pub act_same : (f : Farm) (moment : ℕ) (act : Act) → act_refusal f act ≡ None → HasCondition f act → KeepsRows f → KeepsDepends f → LeavesGroups f (after_act f moment act)
 act_same f moment (Sub line) accepted allowed rows k = of_carries f (after_act f moment (Sub line)) (sub_same f line (sub_named f line))
+act_same f moment (Limit name most) accepted allowed rows k = of_carries f (after_act f moment (Limit name most)) (limit_same f name most (limit_named f name))
 act_same f moment (Boot line) accepted allowed rows k =
     of_carries f (after_act f moment (Boot line))
     (carries_then f (expire f moment) (after_act f moment (Boot line)) (expire_carries f moment rows.sound).carries

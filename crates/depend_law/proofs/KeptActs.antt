@@ -2,9 +2,9 @@
 -- every other act the farm keeps its depends.
 use Rattle.std.proofs.Common.{◌≡◌, ℕ, None, refl}
 use Rattle.farm_types.specs.declared.entry.Act.{Act}
-use Rattle.farm_types.specs.declared.entry.Act.TheVariants.{Opened, Show, Alloc, Sub, Boot, Heard, Submit, AddDepend, DropDepend, Pause, KillJob, KillFrame, EatFrame, RetryFrame, Lock, Tick, Book}
+use Rattle.farm_types.specs.declared.entry.Act.TheVariants.{Opened, Show, Alloc, Sub, Limit, Boot, Heard, Submit, AddDepend, DropDepend, Pause, KillJob, KillFrame, EatFrame, RetryFrame, Lock, Tick, Book}
 use Rattle.farm_types.specs.DependActs.{pending_named}
-use Rattle.farm_types.specs.Farm.{Farm, alloc_named, host_named, show_named}
+use Rattle.farm_types.specs.Farm.{Farm, alloc_named, host_named, limit_named, show_named}
 use Rattle.farm_types.specs.Kept.{KeepsDepends, KeepsRows}
 use Rattle.farm_types.specs.Step.{HasCondition, act_refusal, after_act, expire, sub_named}
 use Rattle.farm_law.proofs.Lost.{expire_sound}
@@ -14,7 +14,7 @@ use Rattle.depend_law.proofs.NewJob.{submit_keeps}
 use Rattle.depend_law.proofs.Retried.{retry_leaves}
 use Rattle.depend_law.proofs.Settled.{Settled}
 use Rattle.depend_law.proofs.Stops.{eat_leaves, kill_keeps, kill_leaves, pause_keeps}
-use Rattle.depend_law.proofs.KeptTurns.{book_keeps, boot_keeps, expire_keeps, heard_leaves, heard_waiting, lock_keeps, sub_keeps}
+use Rattle.depend_law.proofs.KeptTurns.{book_keeps, boot_keeps, expire_keeps, heard_leaves, heard_waiting, limit_keeps, lock_keeps, sub_keeps}
 
 -- what the act alone leaves of depends
 abbrev pub LeavesDepends : Farm → Act → Type 0
@@ -30,6 +30,7 @@ act_leaves f moment (Show name) accepted allowed rows k = kept_by f (after_act f
 act_leaves f moment (Alloc facility tag) accepted allowed rows k =
     kept_by f (after_act f moment (Alloc facility tag)) k (all_same f (after_act f moment (Alloc facility tag)) refl refl refl refl refl refl)
 act_leaves f moment (Sub line) accepted allowed rows k = sub_keeps f line (sub_named f line) k
+act_leaves f moment (Limit name most) accepted allowed rows k = limit_keeps f name most (limit_named f name) k
 act_leaves f moment (Boot line) accepted allowed rows k =
     boot_keeps (expire f moment) line moment (alloc_named f line.alloc) (expire_sound f moment rows.sound) (expire_keeps f moment rows.sound k)
 act_leaves f moment (Heard heard) accepted allowed rows k =

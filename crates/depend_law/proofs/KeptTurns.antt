@@ -22,7 +22,7 @@ use Rattle.farm_types.specs.Kept.{KeepsDepends, KeepsRows}
 use Rattle.farm_types.specs.Lost.{lose_on}
 use Rattle.farm_types.specs.Run.{IsSound}
 use Rattle.farm_types.specs.Settle.{is_blocked}
-use Rattle.farm_types.specs.Step.{after_boot, after_heard, after_lock, after_sub, at_moment, booked_row, end_all, end_attempt, ended_row, expire, is_attempt, is_live, is_silent, lose_life, new_proc, proc_of, slots_at_boot, with_proc}
+use Rattle.farm_types.specs.Step.{after_boot, after_heard, after_limit, after_lock, after_sub, at_moment, booked_row, end_all, end_attempt, ended_row, expire, is_attempt, is_live, is_silent, lose_life, new_proc, proc_of, slots_at_boot, with_proc}
 use Rattle.farm_types.proofs.Changed.{changed_at_other, places}
 use Rattle.farm_types.proofs.Lists.{for_some_true}
 use Rattle.farm_types.proofs.Passes.{cond_each}
@@ -45,6 +45,10 @@ later_keeps f moment k = kept_by f (at_moment f moment) k (all_same f (at_moment
 pub sub_keeps : (f : Farm) (line : SubLine) (o : Option ℕ) → KeepsDepends f → KeepsDepends (after_sub f line o)
 sub_keeps f line None k = k
 sub_keeps f line (Some sub) k = kept_by f (after_sub f line (Some sub)) k (all_same f (after_sub f line (Some sub)) refl refl refl refl refl refl)
+
+pub limit_keeps : (f : Farm) (name : List ℕ) (most : ℕ) (o : Option ℕ) → KeepsDepends f → KeepsDepends (after_limit f name most o)
+limit_keeps f name most None k = kept_by f (after_limit f name most None) k (all_same f (after_limit f name most None) refl refl refl refl refl refl)
+limit_keeps f name most (Some limit) k = kept_by f (after_limit f name most (Some limit)) k (all_same f (after_limit f name most (Some limit)) refl refl refl refl refl refl)
 
 pub lock_keeps : (f : Farm) (lock : LockState) (o : Option ℕ) → KeepsDepends f → KeepsDepends (after_lock f lock o)
 lock_keeps f lock None k = k

@@ -19,7 +19,7 @@ use Rattle.farm_types.specs.Jobs.{frames_of, job_row, layer_rows}
 use Rattle.farm_types.specs.Kept.{KeepsDepends, KeepsRows, has_part, is_end_there, is_kept_depend, is_of_pending, is_pending_job}
 use Rattle.farm_types.specs.Rising.{job_key}
 use Rattle.farm_types.specs.Settle.{is_blocked}
-use Rattle.farm_types.specs.Step.{after_submit}
+use Rattle.farm_types.specs.Step.{after_submit, limits_of}
 use Rattle.farm_types.proofs.Lists.{and_both, for_some_true, found_is, list_all-at, list_all-from_at}
 use Rattle.farm_law.proofs.KeptJobsLayers.{none_of_other}
 use Rattle.farm_types.proofs.Passes.{for_some-there}
@@ -92,8 +92,8 @@ module _ (f : Farm) (rows : KeepsRows f) (k : KeepsDepends f) where
     -- another job keeps its layers
     own_layers : (job : ℕ) → is_of_pending f.jobs job ≡ true → layers_of with_it.layers job ≡ layers_of f.layers job
     own_layers job pending =
-        filter-append (λ (l : LayerRow). eqb l.job job) f.layers (layer_rows f.next_job 0 spec.layers)
-        ∙ (ap (λ (more : List LayerRow). layers_of f.layers job ++ more) (none_of_other f.next_job job 0 spec.layers (next_apart job pending)) ∙ append-nil (layers_of f.layers job))
+        filter-append (λ (l : LayerRow). eqb l.job job) f.layers (layer_rows f.next_job (limits_of f.limits spec.layers) 0 spec.layers)
+        ∙ (ap (λ (more : List LayerRow). layers_of f.layers job ++ more) (none_of_other f.next_job job (limits_of f.limits spec.layers) 0 spec.layers (next_apart job pending)) ∙ append-nil (layers_of f.layers job))
 
     own_slots : (job : ℕ) → is_of_pending f.jobs job ≡ true → SameSlots f.slots with_it.slots job
     own_slots job pending layer position =

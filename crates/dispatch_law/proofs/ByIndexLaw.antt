@@ -23,8 +23,8 @@ use Rattle.farm_types.specs.declared.states.FrameState.TheVariants as frame_stat
 use Rattle.farm_types.specs.declared.limits.TheConstants.{MOST_ALLOCS, LAST_VERSION, MOST_RETRIES}
 use Rattle.farm_types.specs.Booking.{is_waiting}
 use Rattle.farm_types.specs.Dispatch.{by_ratio, show_name, rank_cmp, rank_of, ranks_from, with_found, insert_rank, sorted_ranks}
-use Rattle.farm_types.specs.Farm.{Farm, for_some, layer_at, sub_at, sub_of, is_placed, layers_of}
-use Rattle.farm_types.specs.Kept.{KeepsRows, is_kept_slot, is_kept_frame, for_any, layer_in, is_setup}
+use Rattle.farm_types.specs.Farm.{Farm, for_some, layer_at, sub_at, sub_of, is_placed, layers_of, for_any, layer_in}
+use Rattle.farm_types.specs.Kept.{KeepsRows, is_kept_slot, is_kept_frame, is_setup}
 use Rattle.farm_types.specs.Ranges.{range_numbers}
 use Rattle.farm_types.specs.Step.{lists_of}
 use Rattle.farm_types.specs.Sums.{booked_in}

@@ -10,7 +10,7 @@ use Rattle.farm_types.specs.declared.rows.SubRow.{SubRow}
 use Rattle.farm_types.specs.declared.slot_row.Frame.{Frame}
 use Rattle.farm_types.specs.declared.slot_row.SlotRow.{SlotRow}
 use Rattle.std.specs.Prelude.{nat_lt, not}
-use Rattle.farm_types.specs.Booking.{may_book, may_record, may_place, share_tag, tags_match, tags_of, is_ready, is_waiting, is_pending, in_facility, takes_frames, has_capacity, within_burst}
+use Rattle.farm_types.specs.Booking.{may_book, may_record, may_place, share_tag, tags_match, tags_of, is_ready, is_waiting, is_pending, in_facility, takes_frames, has_capacity, within_burst, within_limit}
 use Rattle.farm_types.specs.Depends.{is_open}
 use Rattle.farm_types.specs.declared.limits.TheConstants.{LAST_VERSION}
 use Rattle.farm_types.specs.Dispatch.{rank_at, rank_in, rank_of, with_found, ranks_from}
@@ -37,6 +37,7 @@ pub record IsRanked (f : Farm) (host slot : ℕ) (s : SlotRow) (r : Rank) : Type
   pub takes : takes_frames row ≡ true
   pub capable : has_capacity f host row layer ≡ true
   pub burst : within_burst f (sub_of job.show row.alloc) layer ≡ true
+  pub limited : within_limit f layer ≡ true
   pub tagged : for_some (slice_get f.allocs row.alloc) (λ allocation. share_tag layer.tags (tags_of row allocation)) ≡ true
   pub rank_is : r ≡ rank_at f slot host s frame job row sub
 
@@ -58,20 +59,30 @@ waiting_of false b c d h = h
 pending_of : (a b c d : Bool) → (a && b && c && d) ≡ true → c ≡ true
 pending_of a b c d h = (and_both (a && b) c (and_both (a && b && c) d h).0).1
 
+-- all but the limit
+placed_parts : (f : Farm) (slot host version : ℕ) (frame : Frame) (job : JobRow) (layer : LayerRow) (row : HostRow) → may_place f slot host version frame job layer row ≡ true
+    → ((is_ready version frame job && is_open f slot && in_facility f row.alloc job.facility && takes_frames row && has_capacity f host row layer && within_burst f (sub_of job.show row.alloc) layer) ≡ true)
+    × (within_limit f layer ≡ true)
+placed_parts f slot host version frame job layer row h =
+    and_both (is_ready version frame job && is_open f slot && in_facility f row.alloc job.facility && takes_frames row && has_capacity f host row layer && within_burst f (sub_of job.show row.alloc) layer) (within_limit f layer) h
+
 placed_ready : (f : Farm) (slot host version : ℕ) (frame : Frame) (job : JobRow) (layer : LayerRow) (row : HostRow) → may_place f slot host version frame job layer row ≡ true → is_ready version frame job ≡ true
 placed_ready f slot host version frame job layer row h =
-    first_of (is_ready version frame job) (is_open f slot) (in_facility f row.alloc job.facility) (takes_frames row) (has_capacity f host row layer) (within_burst f (sub_of job.show row.alloc) layer) h
+    first_of (is_ready version frame job) (is_open f slot) (in_facility f row.alloc job.facility) (takes_frames row) (has_capacity f host row layer) (within_burst f (sub_of job.show row.alloc) layer)
+    (placed_parts f slot host version frame job layer row h).0
 
 placed_burst : (f : Farm) (slot host version : ℕ) (frame : Frame) (job : JobRow) (layer : LayerRow) (row : HostRow) → may_place f slot host version frame job layer row ≡ true → within_burst f (sub_of job.show row.alloc) layer ≡ true
 placed_burst f slot host version frame job layer row h =
-    last_of (is_ready version frame job) (is_open f slot) (in_facility f row.alloc job.facility) (takes_frames row) (has_capacity f host row layer) (within_burst f (sub_of job.show row.alloc) layer) h
+    last_of (is_ready version frame job) (is_open f slot) (in_facility f row.alloc job.facility) (takes_frames row) (has_capacity f host row layer) (within_burst f (sub_of job.show row.alloc) layer)
+    (placed_parts f slot host version frame job layer row h).0
 
 fifth_of : (a b c d e g : Bool) → (a && b && c && d && e && g) ≡ true → e ≡ true
 fifth_of a b c d e g h = (and_both (a && b && c && d) e (and_both (a && b && c && d && e) g h).0).1
 
 placed_capacity : (f : Farm) (slot host version : ℕ) (frame : Frame) (job : JobRow) (layer : LayerRow) (row : HostRow) → may_place f slot host version frame job layer row ≡ true → has_capacity f host row layer ≡ true
 placed_capacity f slot host version frame job layer row h =
-    fifth_of (is_ready version frame job) (is_open f slot) (in_facility f row.alloc job.facility) (takes_frames row) (has_capacity f host row layer) (within_burst f (sub_of job.show row.alloc) layer) h
+    fifth_of (is_ready version frame job) (is_open f slot) (in_facility f row.alloc job.facility) (takes_frames row) (has_capacity f host row layer) (within_burst f (sub_of job.show row.alloc) layer)
+    (placed_parts f slot host version frame job layer row h).0
 
 third_of : (a b c d e g : Bool) → (a && b && c && d && e && g) ≡ true → c ≡ true
 third_of a b c d e g h = (and_both (a && b) c (and_both (a && b && c) d (and_both (a && b && c && d) e (and_both (a && b && c && d && e) g h).0).0).0).1
@@ -81,11 +92,13 @@ fourth_of a b c d e g h = (and_both (a && b && c) d (and_both (a && b && c && d)
 
 placed_facility : (f : Farm) (slot host version : ℕ) (frame : Frame) (job : JobRow) (layer : LayerRow) (row : HostRow) → may_place f slot host version frame job layer row ≡ true → in_facility f row.alloc job.facility ≡ true
 placed_facility f slot host version frame job layer row h =
-    third_of (is_ready version frame job) (is_open f slot) (in_facility f row.alloc job.facility) (takes_frames row) (has_capacity f host row layer) (within_burst f (sub_of job.show row.alloc) layer) h
+    third_of (is_ready version frame job) (is_open f slot) (in_facility f row.alloc job.facility) (takes_frames row) (has_capacity f host row layer) (within_burst f (sub_of job.show row.alloc) layer)
+    (placed_parts f slot host version frame job layer row h).0
 
 placed_takes : (f : Farm) (slot host version : ℕ) (frame : Frame) (job : JobRow) (layer : LayerRow) (row : HostRow) → may_place f slot host version frame job layer row ≡ true → takes_frames row ≡ true
 placed_takes f slot host version frame job layer row h =
-    fourth_of (is_ready version frame job) (is_open f slot) (in_facility f row.alloc job.facility) (takes_frames row) (has_capacity f host row layer) (within_burst f (sub_of job.show row.alloc) layer) h
+    fourth_of (is_ready version frame job) (is_open f slot) (in_facility f row.alloc job.facility) (takes_frames row) (has_capacity f host row layer) (within_burst f (sub_of job.show row.alloc) layer)
+    (placed_parts f slot host version frame job layer row h).0
 
 ready_resumed : (version : ℕ) (frame : Frame) (job : JobRow) → is_ready version frame job ≡ true → not job.paused ≡ true
 ready_resumed version frame job h = (and_both (is_waiting frame.state && nat_lt version LAST_VERSION && is_pending job.state) (not job.paused) h).1
@@ -136,6 +149,7 @@ ranked_by f host slot s r true may at e =
       resumed = ready_resumed there.0.version frame.0 job.0 ready;
       in_place = placed_facility f slot host there.0.version frame.0 job.0 layer.0 row.0 row.2;
       takes = placed_takes f slot host there.0.version frame.0 job.0 layer.0 row.0 row.2;
+      limited = (placed_parts f slot host there.0.version frame.0 job.0 layer.0 row.0 row.2).1;
       capable = placed_capacity f slot host there.0.version frame.0 job.0 layer.0 row.0 row.2;
       burst = burst;
       tagged = tagged_by f slot host there.0 frame.0 layer.0 row.0 there.1 frame.1 layer.1 row.1 (and_both (may_record f slot host) (tags_match f slot host) may).1;

@@ -11,5 +11,6 @@ ghost use Rattle.dispatch_law.specs.ByIndex.{ranks_by_index};
 /// one that an index lists: the subscriptions to the host's allocation by their ratio, the ready jobs of each one's show by
 /// priority, the layers of each in order, and the waiting frames of each in range order.
 pub fn dispatch_follows_the_index()
-    ensures { (f : Farm) (host : ℕ) (row : host_row.HostRow) → KeepsRows f → slice_get f.hosts host ≡ Some row → ranks_by_index f host row.alloc ≡ sorted_ranks f (ranks_from f host 0 f.slots) }
+    ensures { (f : Farm) (host : ℕ) (row : host_row.HostRow) → KeepsRows f → slice_get f.hosts host ≡ Some row
+        → ranks_by_index f host row.alloc ≡ sorted_ranks f (ranks_from f host 0 f.slots) }
 {}

@@ -9,7 +9,7 @@ use Rattle.farm_types.specs.declared.rows.LayerRow.{LayerRow}
 use Rattle.farm_types.specs.declared.slot_row.Frame.{Frame}
 use Rattle.farm_types.specs.declared.slot_row.SlotRow.{SlotRow}
 use Rattle.farm_types.specs.declared.limits.TheConstants.{LAST_VERSION}
-use Rattle.farm_types.specs.Booking.{has_capacity, in_facility, is_pending, is_waiting, may_book, may_place, may_record, tags_match, takes_frames, within_burst}
+use Rattle.farm_types.specs.Booking.{has_capacity, in_facility, is_pending, is_waiting, may_book, may_place, may_record, tags_match, takes_frames, within_burst, within_limit}
 use Rattle.farm_types.specs.Depends.{is_open}
 use Rattle.farm_types.specs.Farm.{Farm, for_some, job_at, layer_at, sub_of}
 use Rattle.farm_types.specs.Kept.{KeepsRows}
@@ -26,22 +26,23 @@ use Rattle.dispatch_plan.proofs.Views.{seen}
 
 -- ---- tests of which all but two are passed
 
-passed_but : (v o : Bool) → ((true && v && true && true) && o && true && true && true && true) ≡ (v && o)
+passed_but : (v o : Bool) → ((true && v && true && true) && o && true && true && true && true && true) ≡ (v && o)
 passed_but true true = refl
 passed_but true false = refl
 passed_but false true = refl
 passed_but false false = refl
 
-left_two : (w v p n o i t c b : Bool) → w ≡ true → p ≡ true → n ≡ true → i ≡ true → t ≡ true → c ≡ true → b ≡ true → ((w && v && p && n) && o && i && t && c && b) ≡ (v && o)
-left_two w v p n o i t c b w_is p_is n_is i_is t_is c_is b_is =
-    ap (λ z. (z && v && p && n) && o && i && t && c && b) w_is
-    ∙ (ap (λ z. (true && v && z && n) && o && i && t && c && b) p_is
-    ∙ (ap (λ z. (true && v && true && z) && o && i && t && c && b) n_is
-    ∙ (ap (λ z. (true && v && true && true) && o && z && t && c && b) i_is
-    ∙ (ap (λ z. (true && v && true && true) && o && true && z && c && b) t_is
-    ∙ (ap (λ z. (true && v && true && true) && o && true && true && z && b) c_is
-    ∙ (ap (λ z. (true && v && true && true) && o && true && true && true && z) b_is
-    ∙ passed_but v o))))))
+left_two : (w v p n o i t c b m : Bool) → w ≡ true → p ≡ true → n ≡ true → i ≡ true → t ≡ true → c ≡ true → b ≡ true → m ≡ true → ((w && v && p && n) && o && i && t && c && b && m) ≡ (v && o)
+left_two w v p n o i t c b m w_is p_is n_is i_is t_is c_is b_is m_is =
+    ap (λ z. (z && v && p && n) && o && i && t && c && b && m) w_is
+    ∙ (ap (λ z. (true && v && z && n) && o && i && t && c && b && m) p_is
+    ∙ (ap (λ z. (true && v && true && z) && o && i && t && c && b && m) n_is
+    ∙ (ap (λ z. (true && v && true && true) && o && z && t && c && b && m) i_is
+    ∙ (ap (λ z. (true && v && true && true) && o && true && z && c && b && m) t_is
+    ∙ (ap (λ z. (true && v && true && true) && o && true && true && z && b && m) c_is
+    ∙ (ap (λ z. (true && v && true && true) && o && true && true && true && z && m) b_is
+    ∙ (ap (λ z. (true && v && true && true) && o && true && true && true && true && z) m_is
+    ∙ passed_but v o)))))))
 
 and_passed : (a b t : Bool) → a ≡ b → t ≡ true → (a && t) ≡ b
 and_passed a true t e passed = ap (λ z. z && t) e ∙ passed
@@ -61,6 +62,7 @@ record Fits (f : Farm) (host sub : ℕ) (l : LayerRow) : Type 0 where
   takes : takes_frames row ≡ true
   capable : has_capacity f host row l ≡ true
   burst : within_burst f (sub_of job.show row.alloc) l ≡ true
+  limited : within_limit f l ≡ true
   tagged : rows_share_tag f l row ≡ true
 
 fits : (f : Farm) (host sub : ℕ) (l : LayerRow) → KeepsRows f → IsPending f l.job → takes_job f host l.job ≡ true → takes_layer f host sub l ≡ true → IsBilled f host l.job sub → Fits f host sub l
@@ -72,8 +74,9 @@ fits f host sub l kept it job_taken layer_taken billed =
     let rows : b.0 ≡ row = same_Some b.0 row (sym b.1 ∙ a.1) in
     let tests = and_both (takes_frames b.0 && not j.0.paused) (in_facility f b.0.alloc j.0.facility) j.2 in
     let open_host = and_both (takes_frames b.0) (not j.0.paused) tests.0 in
-    let parts = and_both (has_capacity f host row l && within_burst f sub l) (rows_share_tag f l row) a.2 in
-    let amounts = and_both (has_capacity f host row l) (within_burst f sub l) parts.0 in
+    let parts = and_both (has_capacity f host row l && within_burst f sub l && within_limit f l) (rows_share_tag f l row) a.2 in
+    let counts = and_both (has_capacity f host row l && within_burst f sub l) (within_limit f l) parts.0 in
+    let amounts = and_both (has_capacity f host row l) (within_burst f sub l) counts.0 in
     let found : job_at f l.job ≡ Some it.job =
     ap (job_at f) (sym it.number_is) ∙ job_found f host (length f.shows) kept.jobs it.job (record { place = it.place; at = it.at }) in
     let same : j.0 ≡ it.job = same_Some j.0 it.job (sym j.1 ∙ found) in
@@ -88,6 +91,7 @@ fits f host sub l kept it job_taken layer_taken billed =
       takes = subst (λ (r : HostRow). takes_frames r ≡ true) rows open_host.0;
       capable = amounts.0;
       burst = subst (λ n. within_burst f n l ≡ true) (sym (billed j.0 row j.1 a.1)) amounts.1;
+      limited = counts.1;
       tagged = parts.1;
     }
 
@@ -105,7 +109,7 @@ record_is : (f : Farm) (host sub slot : ℕ) (l : LayerRow) (s : SlotRow) (x : F
 record_is f host sub slot l s x it at framed job_is layer_is waits =
     let placed : may_place f slot host s.version x it.job l it.row ≡ (nat_lt s.version LAST_VERSION && is_open f slot) =
     left_two (is_waiting x.state) (nat_lt s.version LAST_VERSION) (is_pending it.job.state) (not it.job.paused) (is_open f slot) (in_facility f it.row.alloc it.job.facility) (takes_frames it.row) (has_capacity f host it.row l)
-    (within_burst f (sub_of it.job.show it.row.alloc) l) waits it.pending it.resumed it.in_place it.takes it.capable it.burst in
+    (within_burst f (sub_of it.job.show it.row.alloc) l) (within_limit f l) waits it.pending it.resumed it.in_place it.takes it.capable it.burst it.limited in
     rows_are f slot host s x it.job l it.row at framed job_is layer_is it.row_is ∙ placed
 
 tags_are : (f : Farm) (host slot : ℕ) (l : LayerRow) (row : HostRow) (s : SlotRow) (x : Frame) → slice_get f.slots slot ≡ Some s → s.frame ≡ Some x → layer_at f x.job x.layer ≡ Some l → slice_get f.hosts host ≡ Some row

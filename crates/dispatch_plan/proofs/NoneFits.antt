@@ -12,7 +12,7 @@ use Rattle.farm_types.specs.declared.rows.JobRow.{JobRow}
 use Rattle.farm_types.specs.declared.rows.LayerRow.{LayerRow}
 use Rattle.farm_types.specs.declared.rows.SubRow.{SubRow}
 use Rattle.farm_types.specs.declared.limits.TheConstants.{CANDIDATES_EACH, LEAST_CORES}
-use Rattle.farm_types.specs.Booking.{has_capacity, in_facility, takes_frames, within_burst}
+use Rattle.farm_types.specs.Booking.{has_capacity, in_facility, takes_frames, within_burst, within_limit}
 use Rattle.farm_types.specs.Dispatch.{plan_for}
 use Rattle.farm_types.specs.Farm.{Farm, for_some, job_at, layer_at, sub_at, sub_of}
 use Rattle.farm_types.specs.Kept.{KeepsRows}
@@ -55,8 +55,9 @@ module _ (f : Farm) (host sub : ℕ) (l : LayerRow) (there : layer_at f l.job l.
       let capable : has_capacity f host has.row l ≡ true = subst (λ (m : LayerRow). has_capacity f host has.row m ≡ true) layer has.capable in
       let burst : within_burst f sub l ≡ true =
       subst (λ n. within_burst f n l ≡ true) billed_so (subst (λ (m : LayerRow). within_burst f (sub_of has.job.show has.row.alloc) m ≡ true) layer has.burst) in
+      let limited : within_limit f l ≡ true = subst (λ (m : LayerRow). within_limit f m ≡ true) layer has.limited in
       let tagged : rows_share_tag f l has.row ≡ true = subst (λ (m : LayerRow). rows_share_tag f m has.row ≡ true) layer has.tagged in
-      for_some-there (slice_get f.hosts host) (λ (row : HostRow). has_capacity f host row l && within_burst f sub l && rows_share_tag f l row) has.row has.row_is (both_true (both_true capable burst) tagged)
+      for_some-there (slice_get f.hosts host) (λ (row : HostRow). has_capacity f host row l && within_burst f sub l && within_limit f l && rows_share_tag f l row) has.row has.row_is (both_true (both_true (both_true capable burst) limited) tagged)
 
   pub layer_unoffered : (plan : List Candidate) → takes_layer f host sub l ≡ false → length plan ≤ CANDIDATES_EACH → plan ≡ offered plan (ranks_in_layer f host l)
   layer_unoffered plan refused few =

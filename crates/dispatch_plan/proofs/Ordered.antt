@@ -12,11 +12,12 @@ use Rattle.farm_types.specs.declared.dispatch.Candidate.{Candidate}
 use Rattle.farm_types.specs.declared.dispatch.Rank.{Rank}
 use Rattle.farm_types.specs.declared.rows.HostRow.{HostRow}
 use Rattle.farm_types.specs.declared.rows.JobRow.{JobRow}
+use Rattle.farm_types.specs.declared.rows.LayerRow.{LayerRow}
 use Rattle.farm_types.specs.declared.rows.SubRow.{SubRow}
 use Rattle.farm_types.specs.declared.slot_row.Frame.{Frame}
 use Rattle.farm_types.specs.declared.slot_row.SlotRow.{SlotRow}
 use Rattle.farm_types.specs.Farm.{Farm, sub_at, job_at, layer_at, sub_of}
-use Rattle.farm_types.specs.Booking.{may_book, may_record, tags_match, within_burst}
+use Rattle.farm_types.specs.Booking.{may_book, may_place, may_record, tags_match, within_burst, within_limit}
 use Rattle.farm_types.specs.Dispatch.{rank_cmp, rank_at, rank_in, with_found, ranks_from, insert_rank, sorted_ranks, order_for}
 use Rattle.dispatch_plan.specs.Order.{bookable_from, bookable, StandsBefore, AreInOrder, IsDispatchOrder}
 use Rattle.farm_types.proofs.Lists.{and_both, for_some_true}
@@ -75,6 +76,13 @@ IsRanked f host place s = (r : Rank) × (rank_in f host place s ≡ Some r) × (
 rank_is : (f : Farm) (host place : ℕ) (s : SlotRow) (frame : Frame) (job : JobRow) (row : HostRow) (sub : SubRow) → s.frame ≡ Some frame → job_at f frame.job ≡ Some job → slice_get f.hosts host ≡ Some row → sub_at f (sub_of job.show row.alloc) ≡ Some sub → rank_in f host place s ≡ Some (rank_at f place host s frame job row sub)
 rank_is f host place s frame job row sub frame_is job_is host_is sub_is = rw frame_is (rw job_is (rw host_is (rw sub_is refl)))
 
+-- a frame that may be placed fits into the burst
+room_in_burst : (f : Farm) (slot host version : ℕ) (frame : Frame) (job : JobRow) (layer : LayerRow) (row : HostRow) → may_place f slot host version frame job layer row ≡ true
+    → within_burst f (sub_of job.show row.alloc) layer ≡ true
+room_in_burst f slot host version frame job layer row may =
+    let counts = and_both _ (within_limit f layer) may in
+    (and_both _ (within_burst f (sub_of job.show row.alloc) layer) counts.0).1
+
 -- a frame that may be booked has a rank
 ranked : (f : Farm) (host place : ℕ) (s : SlotRow) → may_record f place host ≡ true → slice_get f.slots place ≡ Some s → IsRanked f host place s
 ranked f host place s may at =
@@ -83,7 +91,7 @@ ranked f host place s may at =
     let job = for_some_true (job_at f frame.0.job) _ frame.2 in
     let layer = for_some_true (layer_at f frame.0.job frame.0.layer) _ job.2 in
     let row = for_some_true (slice_get f.hosts host) _ layer.2 in
-    let burst = (and_both _ (within_burst f (sub_of job.0.show row.0.alloc) layer.0) row.2).1 in
+    let burst = room_in_burst f place host slot.0.version frame.0 job.0 layer.0 row.0 row.2 in
     let sub = for_some_true (sub_at f (sub_of job.0.show row.0.alloc)) _ burst in
     let is = rank_is f host place slot.0 frame.0 job.0 row.0 sub.0 frame.1 job.1 row.1 sub.1 in
     subst (IsRanked f host place) (same_Some slot.0 s (sym slot.1 ∙ at)) (rank_at f place host slot.0 frame.0 job.0 row.0 sub.0, is, refl)

@@ -13,7 +13,7 @@ use Rattle.farm_types.specs.declared.rows.SubRow.{SubRow}
 use Rattle.farm_types.specs.declared.slot_row.Frame.{Frame}
 use Rattle.farm_types.specs.declared.slot_row.SlotRow.{SlotRow}
 use Rattle.farm_types.specs.declared.states.FrameState.TheVariants.{Running}
-use Rattle.farm_types.specs.Booking.{may_place, may_record, within_burst}
+use Rattle.farm_types.specs.Booking.{may_place, may_record, within_burst, within_limit}
 use Rattle.farm_types.specs.Depends.{groups_of}
 use Rattle.farm_types.specs.Farm.{Farm, for_some, job_at, layer_at, sub_at, sub_of}
 use Rattle.farm_types.specs.Run.{live_at}
@@ -54,7 +54,8 @@ module _ (f : Farm) (slot host moment : ℕ) (p : ProcRow) (s : SlotRow) where
   placed_begins frame job layer None at h made = absurd (false≢true h)
   placed_begins frame job layer (Some row) at h made =
       let sub = sub_of job.show row.alloc in
-      let burst = and_both _ (within_burst f sub layer) h in
+      let parts = and_both _ (within_limit f layer) h in
+      let burst = and_both _ (within_burst f sub layer) parts.0 in
       subst (Begins f host) (same_Some (proc_of slot host moment s job layer row) p made)
       (record { host_is = refl; host_there = slice_get_within f.hosts host row at; within = burst_within (sub_at f sub) (booked_in f sub + layer.cores) burst.1 })
 

@@ -7,9 +7,9 @@ use Rattle.std.proofs.lemmas.Option.{same_Some}
 use Rattle.farm_types.specs.declared.rows.LayerRow.{LayerRow}
 use Rattle.farm_types.specs.declared.slot_row.Frame.{Frame}
 use Rattle.farm_types.specs.declared.slot_row.SlotRow.{SlotRow}
-use Rattle.farm_types.specs.Farm.{for_some, layers_of}
+use Rattle.farm_types.specs.Farm.{for_some, layers_of, for_any, layer_in}
 use Rattle.farm_types.specs.Finish.{is_frame_of}
-use Rattle.farm_types.specs.Kept.{for_any, is_kept_frame, is_kept_slot, layer_in}
+use Rattle.farm_types.specs.Kept.{is_kept_frame, is_kept_slot}
 use Rattle.farm_types.specs.Ranges.{range_numbers}
 use Rattle.farm_types.proofs.Lists.{and_both, list_all-at}
 use Rattle.depend_book.proofs.OneCleared.{and_one}

@@ -2,6 +2,7 @@ pub mod BookedRow
 pub mod ClearedFlags
 pub mod ClearedLayer
 pub mod Clears
+pub mod CountedLimits
 pub mod FreedProcs
 pub mod NumberedSubs
 pub mod PushedRows

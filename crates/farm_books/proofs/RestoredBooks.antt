@@ -1,6 +1,6 @@
 -- What the books of given lists need is what each farm keeps: of the live attempts that their hosts and subscriptions are there, and that what is booked of
 -- each subscription is a number of 32 bits.
-use Rattle.std.proofs.Common.{◌≡◌, ℕ, ◌<◌, ◌≤◌, ◌^◌, Bool, true, false, List, [], ◌∷◌, length, Option, Some, None, refl, sym, subst, arith}
+use Rattle.std.proofs.Common.{◌≡◌, ℕ, ◌<◌, ◌≤◌, ◌^◌, true, List, [], ◌∷◌, length, Option, Some, None, refl, sym, subst, arith}
 use Rattle.std.specs.Cmp.Derive.{both_true}
 use Rattle.std.specs.List.{list_all}
 use Rattle.std.proofs.lemmas.Bool.{lt-ltb}
@@ -9,9 +9,9 @@ use Rattle.farm_types.specs.declared.limits.TheConstants.{MOST_HOSTS, MOST_SHOWS
 use Rattle.farm_types.specs.declared.rows.HostRow.{HostRow}
 use Rattle.farm_types.specs.declared.rows.SubRow.{SubRow}
 use Rattle.farm_types.specs.declared.slot_row.SlotRow.{SlotRow}
-use Rattle.farm_types.specs.Farm.{Farm}
+use Rattle.farm_types.specs.Farm.{Farm, for_any}
 use Rattle.farm_types.specs.Jobs.{JobLists}
-use Rattle.farm_types.specs.Kept.{KeepsJobs, KeepsRows, for_any, is_on_host, is_subscribed}
+use Rattle.farm_types.specs.Kept.{KeepsJobs, KeepsRows, is_on_host, is_subscribed}
 use Rattle.farm_types.specs.Sums.{booked_in, cores_in}
 use Rattle.farm_types.proofs.Lists.{and_both}
 use Rattle.farm_law.proofs.BookedOnHosts.{booked_within, host_there}

@@ -45,4 +45,4 @@ pub record CanInstall (subs : List SubRow) (slots : List SlotRow) (slot : ℕ) (
 pub record IsPlacement (f : Farm) (placing : Placing) (spec : JobSpec) : Type 0 where
   pub limits : JobKeepsLimits spec
   pub accepted : job_refusal (lists_of f) spec ≡ None
-  pub placed : placing ≡ placing_of (lists_of f) placing.show spec
+  pub placed : placing ≡ placing_of (lists_of f) placing.show placing.limits spec

@@ -5,5 +5,6 @@ pub mod Coming
 pub mod Finish
 pub mod Inside
 pub mod Install
+pub mod Limits
 pub mod Reads
 pub mod Rows

@@ -3,7 +3,7 @@ use Rattle.std.specs.Prelude.{ℕ, ◌&&◌, Bool, not, Option, option_map, find
 use Rattle.farm_types.specs.declared.rows.HostRow.{HostRow}
 use Rattle.farm_types.specs.declared.rows.JobRow.{JobRow}
 use Rattle.farm_types.specs.declared.rows.LayerRow.{LayerRow}
-use Rattle.farm_types.specs.Booking.{has_capacity, in_facility, share_tag, tags_of, takes_frames, within_burst}
+use Rattle.farm_types.specs.Booking.{has_capacity, in_facility, share_tag, tags_of, takes_frames, within_burst, within_limit}
 use Rattle.farm_types.specs.Farm.{Farm, for_some, job_at}
 
 -- the tags of a layer and those of a host share a word
@@ -18,7 +18,7 @@ takes_job f host job =
 -- frames of the layer may be booked on the host of that subscription, as far as the layer decides it
 abbrev pub takes_layer : Farm → ℕ → ℕ → LayerRow → Bool
 takes_layer f host sub layer =
-    for_some (slice_get f.hosts host) (λ row. has_capacity f host row layer && within_burst f sub layer && rows_share_tag f layer row)
+    for_some (slice_get f.hosts host) (λ row. has_capacity f host row layer && within_burst f sub layer && within_limit f layer && rows_share_tag f layer row)
 
 -- the job with the least number above this one
 abbrev pub job_after : Farm → ℕ → Option ℕ

@@ -1,11 +1,12 @@
 //! When a frame may be booked on a host.
 
-ghost use Rattle.std.specs.Prelude.{ℕ, ◌≡◌, ◌<◌, ◌+◌, Some, is_ok, nat_le, true, IfOk};
+ghost use Rattle.std.specs.Prelude.{ℕ, ◌≡◌, ◌<◌, ◌+◌, Some, is_ok, nat_le, nat_lt, slice_get, true, IfOk};
 ghost use Rattle.std.specs.Result.{result_err};
-ghost use Rattle.farm_types.specs.Farm.{sub_of};
+ghost use Rattle.farm_types.specs.Farm.{for_some, sub_of};
+ghost use Rattle.farm_types.specs.Sums.{running_in};
 ghost use Rattle.farm_types.specs.Depends.{is_open};
 ghost use Rattle.farm_types.specs.declared.limits.TheConstants.{LAST_VERSION};
-ghost use Rattle.farm_types.specs.Booking.{in_facility, has_capacity, is_waiting, within_burst, may_place, may_record, may_book, tags_match};
+ghost use Rattle.farm_types.specs.Booking.{in_facility, has_capacity, is_waiting, within_burst, within_limit, may_place, may_record, may_book, tags_match};
 ghost use Rattle.booking_reasons.specs.WhyNot.{why_not, why_not_place, why_not_record};
 ghost use Rattle.farm_books.specs.Bookings.{IsAsked, IsBooking, booked_at, row_of_booking};
 ghost use Rattle.farm_books.specs.Books.{IsWhole};
@@ -16,9 +17,10 @@ use crate::books::Books;
 use alloc_tags::matches;
 use booking_reasons::NotBooked;
 use farm_types::{
-    AllocNo, Cores, Frame, HostNo, HostRow, JobNo, JobRow, LAST_VERSION, LayerRow, Slot, SubNo,
-    Text, Version,
+    AllocNo, Cores, Frame, HostNo, HostRow, JobNo, JobRow, LAST_VERSION, LayerRow, LimitNo, Slot,
+    SubNo, Text, Version,
 };
+use limit_book::LimitState;
 
 impl Books {
     /// The booking of the slot's frame on the host that is asked for at the moment (seconds), or the first reason why the frame may not be booked there.
@@ -62,7 +64,7 @@ impl Books {
     }
 
     /// Whether frames of the layer may be booked on the host of the subscription of that number, as far as the layer decides it: the host
-    /// has the capacity, the burst is not passed, and the tags match.
+    /// has the capacity, the burst is not passed, the layer's limit isn't reached, and the tags match.
     pub fn takes_layer(&self, host: HostNo, sub: SubNo, layer: &LayerRow) -> bool
         ensures { result ≡ takes_layer self.now.farm host sub layer.now }
     {
@@ -71,6 +73,7 @@ impl Books {
             Some(row) => {
                 self.has_capacity(host, row, layer)
                     && self.has_burst(sub, layer)
+                    && self.is_within_limit(layer)
                     && self.tags_match(layer, row)
             }
         }
@@ -163,6 +166,9 @@ impl Books {
         if !is_within(self.booked(sub.sub), layer, sub.burst) {
             return Err(NotBooked::PastBurst);
         }
+        if !self.is_within_limit(layer) {
+            return Err(NotBooked::AtLimit);
+        }
         Ok(sub.sub)
     }
 
@@ -204,6 +210,23 @@ impl Books {
         }
     }
 
+    // Whether fewer frames run in the layer's limit than may, where it has one.
+    fn is_within_limit(&self, layer: &LayerRow) -> bool
+        ensures { result ≡ within_limit self.now.farm layer.now }
+    {
+        match layer.limit {
+            None => true,
+            Some(limit) => self.has_place_in(limit),
+        }
+    }
+
+    // Whether the limit is there, and fewer frames run in it than may.
+    fn has_place_in(&self, limit: LimitNo) -> bool
+        ensures { result ≡ for_some (slice_get self.now.farm.limits limit) (λ row. nat_lt (running_in self.now.farm limit) row.most) }
+    {
+        has_place(self.limits().get(limit))
+    }
+
     // Whether the tags of the layer and those of the host share a word.
     pub(crate) fn tags_match(&self, layer: &LayerRow, host_row: &HostRow) -> bool
         ensures { result ≡ rows_share_tag self.now.farm layer.now host_row.now }
@@ -212,6 +235,16 @@ impl Books {
             None => false,
             Some(allocation) => matches(&host_row.tags, allocation.tag.as_str(), &layer.tags),
         }
+    }
+}
+
+// Whether the limit is there, and fewer frames run in it than may.
+fn has_place(state: Option<LimitState>) -> bool
+    ensures { result ≡ for_some state (λ s. nat_lt s.running s.most) }
+{
+    match state {
+        None => false,
+        Some(state) => state.running < state.most,
     }
 }
 

@@ -1,10 +1,10 @@
 //! The books, and the calls that read one of their rows.
 
-ghost use Rattle.std.specs.Prelude.{◌≡◌, ◌≤◌, length, slice_get, option_copied, option_map, All, IfOk, IfSome, IfNone};
+ghost use Rattle.std.specs.Prelude.{◌≡◌, ◌≤◌, ◌<◌, length, slice_get, option_copied, option_map, All, IfOk, IfSome, IfNone};
 ghost use Rattle.farm_types.specs.Farm.{job_at, layer_at, sub_at, sub_of};
 ghost use Rattle.farm_types.specs.Rising.{IsNextKey, job_key};
 ghost use Rattle.farm_types.specs.Step.{lists_of};
-ghost use Rattle.farm_types.specs.Sums.{booked_in, total_at};
+ghost use Rattle.farm_types.specs.Sums.{booked_in, running_in, total_at};
 ghost use Rattle.farm_books.specs.Books.{empty_books};
 ghost use Rattle.farm_books.specs.Reads.{job_after};
 ghost use Rattle.host_book.specs.Life.{life_of};
@@ -22,18 +22,20 @@ use farm_types::{
 };
 use host_book::{HostLife, Hosts};
 use job_book::Jobs;
+use limit_book::Limits;
 use std::alloc::{AllocError, Global};
 use std::marker::Model;
 use sub_ledger::Subs;
 
 /// The farm's books, and its counters, which contracts see as the farm and the graph of its depends. The live attempts stand twice, in the slots and in
-/// a book of their own, which keeps what they use and each host's own. Of a row that is put in it is known only what its book asks: what every farm keeps
+/// a book of their own, which keeps what they use and each host's own; the book of limits keeps how many of them run in each limit. Of a row that is put in it is known only what its book asks: what every farm keeps
 /// is the law of the layers above.
 #[derive(Drop)]
 pub struct Books {
     pub(crate) shows: Shows,
     pub(crate) allocs: Allocs,
     pub(crate) attempts: Attempts,
+    pub(crate) limits: Limits,
     pub(crate) hosts: Hosts,
     pub(crate) jobs: Jobs,
     pub(crate) depends: Depends,
@@ -62,6 +64,7 @@ impl Books {
             shows: Shows::make(alloc)?,
             allocs: Allocs::make(alloc)?,
             attempts: Attempts::make(alloc)?,
+            limits: Limits::make(alloc)?,
             hosts: Hosts::make(alloc)?,
             jobs: Jobs::make(alloc)?,
             depends: Depends::make(alloc)?,
@@ -105,6 +108,14 @@ impl Books {
         ensures booked { (sub : ℕ) → total_at result.now.booked sub ≡ booked_in self.now.farm sub }
     {
         self.attempts.subs()
+    }
+
+    /// The limits, and how many frames run in each.
+    pub fn limits(&self) -> &Limits
+        ensures rows { result.now.limits ≡ self.now.farm.limits }
+        ensures running { (limit : ℕ) → limit < length self.now.farm.limits → total_at result.now.running limit ≡ running_in self.now.farm limit }
+    {
+        &self.limits
     }
 
     /// The show of that number.

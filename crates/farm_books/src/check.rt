@@ -9,12 +9,14 @@ ghost use Rattle.farm_types.specs.Step.{is_silent, lists_of};
 ghost use Rattle.farm_types.specs.declared.limits.TheConstants.{MOST_HOSTS, MOST_SHOWS};
 ghost use Rattle.host_book.specs.Book.{heard_check, plan_of};
 ghost use Rattle.job_book.specs.Book.{Checks};
+ghost use Rattle.limit_book.specs.Book.{check_of as limit_check};
 
 use crate::books::Books;
 use alloc_tags::AllocRefusal;
-use farm_types::{AllocNo, BootLine, FarmFault, HostNo, JobSpec, ShowNo};
+use farm_types::{AllocNo, BootLine, FarmFault, HostNo, Items, JobSpec, LimitNo, ShowNo};
 use host_book::{BootPlan, HeardRefusal, HostRefusal};
 use job_book::Placing;
+use limit_book::{LimitPlan, LimitRefusal};
 use std::alloc::Global;
 
 impl Books {
@@ -41,6 +43,13 @@ impl Books {
         self.allocs.check(facility, tag)
     }
 
+    /// Where a limit of that name is set, or why it can't be.
+    pub fn check_limit(&self, name: &str) -> Result<LimitPlan, LimitRefusal>
+        ensures { result ≡ limit_check self.now.farm.limits name.now }
+    {
+        self.limits.check(name)
+    }
+
     /// What a boot comes to, or why it isn't taken.
     pub fn check_boot(&self, line: &BootLine, alloc: AllocNo) -> Result<BootPlan, HostRefusal>
         ensures { result ≡ plan_of self.now.farm.hosts line.now alloc }
@@ -56,17 +65,18 @@ impl Books {
         self.hosts.check_heard(host, boot, seq)
     }
 
-    /// Where a job would be placed, or why it can't be.
+    /// Where a job would be placed, its layers with these limits, or why it can't be.
     pub fn check_job(
         &self,
         alloc: Global,
         spec: &JobSpec,
         show: ShowNo,
+        limits: Items<Option<LimitNo>>,
     ) -> Result<Placing, FarmFault>
         requires { JobKeepsLimits spec.now }
-        ensures { Checks (lists_of self.now.farm) show spec.now result }
+        ensures { Checks (lists_of self.now.farm) show limits spec.now result }
     {
-        self.jobs.check(alloc, spec, show)
+        self.jobs.check(alloc, spec, show, limits)
     }
 
     /// How many hosts are silent at the moment (seconds). Where the book of hosts knows that none is, none is looked at.

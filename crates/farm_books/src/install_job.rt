@@ -16,8 +16,10 @@ impl Books {
     pub fn install_job(&mut self, spec: JobSpec, spare: JobSpare, placing: Placing)
         requires placed { IsPlacement self.old.farm placing spec }
         requires spare { spare ≡ spare_of spec }
-        ensures { self.new ≡ with_farm self.old (with_lists self.old.farm (with_job (lists_of self.old.farm) placing.show spec)) }
+        ensures { self.new ≡ with_farm self.old (with_lists self.old.farm (with_job (lists_of self.old.farm) placing.show placing.limits spec)) }
     {
+        // No frame is of the new job, or of a later one.
+        let _next = self.jobs.next_number();
         let before = self.jobs.slots().len();
         self.jobs.place(spec, spare, placing);
         let after = self.jobs.slots().len();

@@ -10,6 +10,7 @@ mod depending;
 mod finish;
 mod install;
 mod install_job;
+mod limits;
 mod look;
 mod reserve;
 mod restore;

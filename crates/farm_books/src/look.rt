@@ -1,11 +1,11 @@
-//! Hosts, shows and allocations by name, facilities, and whether an attempt is live.
+//! Hosts, shows, limits and allocations by name, facilities, and whether an attempt is live.
 
 ghost use Rattle.std.specs.Prelude.{◌≡◌, ◌<◌, length, IfSome};
-ghost use Rattle.farm_types.specs.Farm.{alloc_named, has_facility, host_named, show_named};
+ghost use Rattle.farm_types.specs.Farm.{alloc_named, has_facility, host_named, limit_named, show_named};
 ghost use Rattle.farm_types.specs.Step.{is_live, is_attempt};
 
 use crate::books::Books;
-use farm_types::{AllocNo, Attempt, HostNo, ProcRow, ShowNo, Text, Version};
+use farm_types::{AllocNo, Attempt, HostNo, LimitNo, ProcRow, ShowNo, Text, Version};
 
 impl Books {
     /// The number of the host of that name.
@@ -21,6 +21,13 @@ impl Books {
         ensures { result ≡ show_named self.now.farm name.now }
     {
         self.shows.find(name)
+    }
+
+    /// The number of the limit of that name.
+    pub fn limit_named(&self, name: &str) -> Option<LimitNo>
+        ensures { result ≡ limit_named self.now.farm name.now }
+    {
+        self.limits.find(name)
     }
 
     /// The number of the allocation of that name, `facility.tag`.

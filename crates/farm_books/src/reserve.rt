@@ -8,6 +8,7 @@ use alloc_tags::Spare;
 use farm_types::{BootLine, JobSpec};
 use host_book::HostSpare;
 use job_book::JobSpare;
+use limit_book::Spare as LimitSpare;
 use std::alloc::{AllocError, Global};
 
 impl Books {
@@ -22,6 +23,14 @@ impl Books {
         ensures reserved { IfOk result (λ spare. spare ≡ record { facility = facility.now; tag = tag.now }) }
     {
         self.allocs.reserve(alloc, facility, tag)
+    }
+
+    /// Takes the memory that a limit needs. The books are as before.
+    pub fn reserve_limit(&mut self, alloc: Global, name: &str) -> Result<LimitSpare, AllocError>
+        ensures books { self.new ≡ self.old }
+        ensures reserved { IfOk result (λ spare. spare ≡ name.now) }
+    {
+        self.limits.reserve(alloc, name)
     }
 
     /// Takes the memory that a boot needs. The books are as before.

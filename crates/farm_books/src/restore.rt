@@ -6,6 +6,7 @@ ghost use Rattle.farm_rows.specs.Lists.{farm_in};
 ghost use Rattle.farm_books.specs.Books.{empty_books, with_farm};
 
 use crate::books::Books;
+use crate::limits::limits_of;
 use crate::shows::Shows;
 use alloc_tags::Allocs;
 use attempt_book::Attempts;
@@ -17,7 +18,8 @@ use std::alloc::{AllocError, Global};
 
 impl Books {
     /// The books of these lists and no depends, with all the memory that books of no rows have. The rows are moved into them, and only the names of hosts
-    /// and jobs are copied, for their indexes. What is booked of a subscription may be more than its burst, as where an operator lowered it.
+    /// and jobs are copied, for their indexes. What is booked of a subscription may be more than its burst, and what
+    /// runs in a limit more than its most, as where an operator lowered it.
     pub fn of_lists(alloc: Global, lists: BookLists) -> Result<Books, AllocError>
         requires { KeepsRows (farm_in lists) }
         ensures { IfOk result (λ books. books ≡ with_farm empty_books (farm_in lists)) }
@@ -34,11 +36,13 @@ impl Books {
             lists.next_job,
             lists.next_finish,
         )?;
+        let limits = limits_of(alloc, lists.limits, &jobs)?;
         let depends = Depends::make(alloc)?;
         Ok(Books {
             shows,
             allocs,
             attempts,
+            limits,
             hosts,
             jobs,
             depends,

@@ -1,7 +1,7 @@
 //! The rows of the books, as the store has them.
 
 ghost use Rattle.std.specs.Prelude.{◌≡◌, ◌≤◌, ◌++◌, length, map, OnOk};
-ghost use Rattle.farm_types.specs.declared.limits.TheConstants.{MOST_ALLOCS, MOST_HOSTS, MOST_SHOWS, SLOT_LIMIT};
+ghost use Rattle.farm_types.specs.declared.limits.TheConstants.{MOST_ALLOCS, MOST_HOSTS, MOST_LIMITS, MOST_SHOWS, SLOT_LIMIT};
 ghost use Rattle.farm_rows.specs.Rows.{is_unused, numbered, slot_rows};
 ghost use Rattle.farm_rows.specs.declared.farm_row.FarmRow.TheVariants as row;
 ghost use Rattle.farm_books.specs.Rows.{book_rows};
@@ -9,13 +9,14 @@ ghost use Rattle.farm_books.specs.Rows.{book_rows};
 use crate::books::Books;
 use farm_rows::{FarmRow, FrameRow};
 use farm_types::{
-    AllocNo, AllocRow, HostNo, HostRow, JobRow, LayerRow, ShowNo, ShowRow, Slot, SlotRow, SubRow,
+    AllocNo, AllocRow, HostNo, HostRow, JobRow, LayerRow, LimitNo, LimitRow, ShowNo, ShowRow, Slot,
+    SlotRow, SubRow,
 };
 use std::alloc::{AllocError, Global};
 
 impl Books {
     /// Copies of the books' rows go behind the others, by kind, then number: shows, allocations, subscriptions, hosts, jobs, layers, and the slots
-    /// that were ever used. Without the farm's own row, and those of depends.
+    /// that were ever used. Without the farm's own row, and those of depends and limits.
     pub fn push_rows(&self, alloc: Global, rows: &mut Vec<FarmRow>) -> Result<(), AllocError>
         ensures { OnOk result (rows.new.items ≡ rows.old.items ++ book_rows self.now.farm) }
     {
@@ -26,6 +27,13 @@ impl Books {
         push_jobs(self.jobs.job_rows(alloc)?, rows)?;
         push_layers(self.jobs.layer_rows(alloc)?, rows)?;
         push_slots(self.jobs.slots(), rows)
+    }
+
+    /// Copies of the limits' rows go behind the others, by number.
+    pub fn push_limits(&self, alloc: Global, rows: &mut Vec<FarmRow>) -> Result<(), AllocError>
+        ensures { OnOk result (rows.new.items ≡ rows.old.items ++ numbered row.Limit 0 self.now.farm.limits) }
+    {
+        push_limit_rows(alloc, self.limits.rows(), rows)
     }
 }
 
@@ -69,6 +77,25 @@ fn push_subs(subs: Vec<SubRow>, rows: &mut Vec<FarmRow>) -> Result<(), AllocErro
 {
     for sub in subs {
         rows.push(FarmRow::Sub(sub))?;
+    }
+    Ok(())
+}
+
+// The rows of these limits go behind the others.
+fn push_limit_rows(
+    alloc: Global,
+    limits: &[LimitRow],
+    rows: &mut Vec<FarmRow>,
+) -> Result<(), AllocError>
+    requires { length limits.now ≤ MOST_LIMITS }
+    ensures { OnOk result (rows.new.items ≡ rows.old.items ++ numbered row.Limit 0 limits.now) }
+{
+    for (place, limit) in limits.iter().enumerate() {
+        let row = limit.copy(alloc)?;
+        rows.push(FarmRow::Limit {
+            limit: LimitNo(place as u8),
+            row,
+        })?;
     }
     Ok(())
 }

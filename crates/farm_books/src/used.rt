@@ -1,12 +1,12 @@
-//! What live attempts use of a host and of a subscription, as it is kept, and each host's own attempts.
+//! What live attempts use of a host, of a subscription and of a limit, as it is kept, and each host's own attempts.
 
-ghost use Rattle.std.specs.Prelude.{◌≡◌, ◌<◌, ◌^◌};
-ghost use Rattle.farm_types.specs.Sums.{booked_in, used_cores, used_memory};
+ghost use Rattle.std.specs.Prelude.{◌≡◌, ◌<◌, ◌^◌, length};
+ghost use Rattle.farm_types.specs.Sums.{booked_in, running_in, used_cores, used_memory};
 ghost use Rattle.attempt_book.specs.Book.{first_on, next_on};
 ghost use Rattle.farm_books.specs.Install.{procs_of};
 
 use crate::books::Books;
-use farm_types::{Cores, HostNo, Slot, SubNo};
+use farm_types::{Cores, HostNo, LimitNo, Slot, SubNo};
 
 impl Books {
     /// The cores (hundredths) that live attempts use on a host: none where there is no such host.
@@ -29,6 +29,13 @@ impl Books {
         ensures { result ≡ booked_in self.now.farm sub }
     {
         self.attempts.subs().booked(sub)
+    }
+
+    /// How many frames run in a limit that is there.
+    pub fn running(&self, limit: LimitNo) -> u32
+        ensures { limit < length self.now.farm.limits → result ≡ running_in self.now.farm limit }
+    {
+        self.limits().running(limit)
     }
 
     /// The first slot with a live attempt on the host.

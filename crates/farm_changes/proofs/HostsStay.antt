@@ -22,6 +22,7 @@ more_count f moment more.Nothing = omega arith
 more_count f moment (more.Show name) = omega arith
 more_count f moment (more.Alloc facility tag) = omega arith
 more_count f moment (more.Sub sub size burst) = omega arith
+more_count f moment (more.Limit planned name most) = omega arith
 more_count f moment (more.Boot planned line) = boot_count f line moment (alloc_of planned) (host_from 0 line.host f.hosts)
 more_count f moment (more.Paused job paused) = omega arith
 more_count f moment (more.Job placing spec) = omega arith

@@ -4,6 +4,8 @@ mod FramesPut
 mod HeardAlone
 mod HostsStay
 mod KilledAttempts
+mod JobsSet
+mod LimitsSet
 mod LostLives
 mod MadeChanges
 mod OperatedFrames

@@ -18,7 +18,7 @@ use Rattle.farm_types.specs.declared.slot_row.SlotRow.{SlotRow}
 use Rattle.farm_types.specs.declared.limits.TheConstants.{LAST_BOOT}
 use Rattle.farm_types.specs.Farm.{Farm, changed_at, changed_by, host_from, job_at, layer_at}
 use Rattle.farm_types.specs.Hosts.{booted, booted_at, booted_row, is_same_life, new_host}
-use Rattle.farm_types.specs.Jobs.{frames_in, frames_of, is_finished_named, job_row, layer_row, layer_rows, place_frames, with_job, without_finished}
+use Rattle.farm_types.specs.Jobs.{frames_in, frames_of, is_finished_named, job_row, layer_row, layer_rows, limit_in, place_frames, with_job, without_finished}
 use Rattle.farm_types.specs.Operators.{paused_row}
 use Rattle.farm_types.specs.Step.{at_moment, lists_of, with_lists}
 use Rattle.farm_types.proofs.Changed.{changed_at_is, changed_at_other, changed_at_same, length-changed_at, places}
@@ -46,6 +46,7 @@ use Rattle.farm_changes.specs.RowChanges.{HasBoots, HasBootsLeft, IsLeft, Leaves
 use Rattle.farm_changes.specs.declared.change.Change.{Change}
 use Rattle.farm_changes.specs.declared.change.More.{More}
 use Rattle.farm_changes.specs.declared.change.More.TheVariants as more
+use Rattle.farm_changes.proofs.LimitsSet.{SetsLimit, makes_limit}
 use Rattle.farm_changes.proofs.FramesPut.{frames_put-slots, lowest_free-slots, makes_frames}
 
 -- ---- lives of hosts
@@ -206,14 +207,14 @@ find-filter_none {X} test keeps (x ∷ xs) none = by (test x) (keeps x) refl (fi
     by false true is later = ap (λ (b : Bool). cond b (Some x) (find test (filter keeps xs))) is ∙ later (sym (ap (λ (b : Bool). cond b (Some x) (find test xs)) is) ∙ none)
     by false false is later = later (sym (ap (λ (b : Bool). cond b (Some x) (find test xs)) is) ∙ none)
 
-makes_layers : (ls : List LayerSpec) (f : Farm) (job place : ℕ) → ((p : ℕ) → place ≤ p → layer_at f job p ≡ None) → MakesRows f (record f { layers = f.layers ++ layer_rows job place ls }) (layers_put job place ls)
-makes_layers [] f job place none = subst (λ (ls : List LayerRow). MakesRows f (record f { layers = ls }) []) (sym (append-nil f.layers)) (λ k named. refl)
-makes_layers (l ∷ ls) f job place none =
-    let r = layer_row job place l in
+makes_layers : (ls : List LayerSpec) (f : Farm) (job : ℕ) (layer_limits : List (Option ℕ)) (place : ℕ) → ((p : ℕ) → place ≤ p → layer_at f job p ≡ None) → MakesRows f (record f { layers = f.layers ++ layer_rows job layer_limits place ls }) (layers_put job layer_limits place ls)
+makes_layers [] f job layer_limits place none = subst (λ (ls : List LayerRow). MakesRows f (record f { layers = ls }) []) (sym (append-nil f.layers)) (λ k named. refl)
+makes_layers (l ∷ ls) f job layer_limits place none =
+    let r = layer_row job place (limit_in layer_limits place) l in
     let more = record f { layers = f.layers ++ r ∷ [] } in
-    makes_then f more (record f { layers = f.layers ++ r ∷ layer_rows job (place + 1) ls }) (change.Put (row.Layer r) ∷ []) (layers_put job (place + 1) ls) (makes_new_layer f r (none place (omega arith)))
-    (subst (λ (rs : List LayerRow). MakesRows more (record f { layers = rs }) (layers_put job (place + 1) ls)) (append_assoc f.layers (r ∷ []) (layer_rows job (place + 1) ls))
-    (makes_layers ls more job (place + 1) (λ p le. find-not_last (λ (x : LayerRow). x.job == job && x.place == p) f.layers r (apart p le) ∙ none p (omega arith))))
+    makes_then f more (record f { layers = f.layers ++ r ∷ layer_rows job layer_limits (place + 1) ls }) (change.Put (row.Layer r) ∷ []) (layers_put job layer_limits (place + 1) ls) (makes_new_layer f r (none place (omega arith)))
+    (subst (λ (rs : List LayerRow). MakesRows more (record f { layers = rs }) (layers_put job layer_limits (place + 1) ls)) (append_assoc f.layers (r ∷ []) (layer_rows job layer_limits (place + 1) ls))
+    (makes_layers ls more job layer_limits (place + 1) (λ p le. find-not_last (λ (x : LayerRow). x.job == job && x.place == p) f.layers r (apart p le) ∙ none p (omega arith))))
   where
     apart : (p : ℕ) → place + 1 ≤ p → (eqb job job && eqb place p) ≡ false
     apart p le = ap (λ (b : Bool). eqb job job && b) (ne_eqb place p (λ e. absurd (omega (arith, e)))) ∙ none_of (eqb job job)
@@ -222,42 +223,43 @@ makes_layers (l ∷ ls) f job place none =
         none_of true = refl
         none_of false = refl
 
-makes_placed : (f : Farm) (left : Option ℕ) (show : ℕ) (spec : JobSpec) → Leaves (lists_of f) left spec → MakesRows f (with_lists f (with_job (lists_of f) show spec)) (job_put (lists_of f) left show spec)
-makes_placed f left show spec leaves =
+makes_placed : (f : Farm) (left : Option ℕ) (show : ℕ) (layer_limits : List (Option ℕ)) (spec : JobSpec) → Leaves (lists_of f) left spec → MakesRows f (with_lists f (with_job (lists_of f) show layer_limits spec)) (job_put (lists_of f) left show layer_limits spec)
+makes_placed f left show layer_limits spec leaves =
     let job = f.next_job in
     let r = job_row job show spec in
     let frames = frames_of job 0 spec.layers in
     let gone = record f { jobs = without_finished spec.name f.jobs } in
     let added = record gone { jobs = gone.jobs ++ r ∷ [] } in
-    let layered = record added { layers = f.layers ++ layer_rows job 0 spec.layers } in
+    let layered = record added { layers = f.layers ++ layer_rows job layer_limits 0 spec.layers } in
     let placed = record layered { slots = place_frames f.slots frames } in
     let after = record placed { next_job = job + 1 } in
-    makes_then f gone after (left_put left) (change.Put (row.Job r) ∷ (layers_put job 0 spec.layers ++ frames_put 0 f.slots frames))
+    makes_then f gone after (left_put left) (change.Put (row.Job r) ∷ (layers_put job layer_limits 0 spec.layers ++ frames_put 0 f.slots frames))
     (subst (λ (js : List JobRow). MakesRows f (record f { jobs = js }) (left_put left)) (sym leaves.without) (makes_left f left))
-    (makes_then gone added after (change.Put (row.Job r) ∷ []) (layers_put job 0 spec.layers ++ frames_put 0 f.slots frames)
+    (makes_then gone added after (change.Put (row.Job r) ∷ []) (layers_put job layer_limits 0 spec.layers ++ frames_put 0 f.slots frames)
     (makes_new_job gone r (find-filter_none (λ (j : JobRow). j.job == job) (λ (j : JobRow). not (is_finished_named spec.name j)) f.jobs leaves.no_job))
-    (makes_then added layered after (layers_put job 0 spec.layers) (frames_put 0 f.slots frames) (makes_layers spec.layers added job 0 (λ p le. leaves.no_layer p))
+    (makes_then added layered after (layers_put job layer_limits 0 spec.layers) (frames_put 0 f.slots frames) (makes_layers spec.layers added job layer_limits 0 (λ p le. leaves.no_layer p))
     (λ k named. makes_counters placed (job + 1) placed.next_depend placed.next_finish placed.moment placed.recorded k named ∙ makes_frames layered frames k named)))
 
 -- ---- the row that owns texts
 
 makes_more : (f g : Farm) (es : List (ℕ × HostLife)) (moment : ℕ) (left : Option ℕ) (m : More) → g.shows ≡ f.shows → g.allocs ≡ f.allocs → g.hosts ≡ put_lives f.hosts es → g.jobs ≡ f.jobs
-    → ((xs : List Frame) → frames_put 0 g.slots xs ≡ frames_put 0 f.slots xs) → g.next_job ≡ f.next_job → IsLeft g left m → MakesRows g (with_more g moment m) (more_put f es moment left m)
-makes_more f g es moment left more.Nothing shows allocs hosts jobs slots next is = λ k named. refl
-makes_more f g es moment left (more.Show name) shows allocs hosts jobs slots next is =
+    → ((xs : List Frame) → frames_put 0 g.slots xs ≡ frames_put 0 f.slots xs) → g.next_job ≡ f.next_job → IsLeft g left m → SetsLimit g.limits m → MakesRows g (with_more g moment m) (more_put f es moment left m)
+makes_more f g es moment left more.Nothing shows allocs hosts jobs slots next is sets = λ k named. refl
+makes_more f g es moment left (more.Show name) shows allocs hosts jobs slots next is sets =
     subst (λ (n : ℕ). MakesRows g (record g { shows = g.shows ++ record { name = name } ∷ [] }) (change.Put (row.Show n (record { name = name })) ∷ [])) (ap length shows) (makes_new_show g (record { name = name }))
-makes_more f g es moment left (more.Alloc facility tag) shows allocs hosts jobs slots next is =
+makes_more f g es moment left (more.Alloc facility tag) shows allocs hosts jobs slots next is sets =
     subst (λ (n : ℕ). MakesRows g (record g { allocs = g.allocs ++ record { facility = facility; tag = tag } ∷ [] }) (change.Put (row.Alloc n (record { facility = facility; tag = tag })) ∷ [])) (ap length allocs)
     (makes_new_alloc g (record { facility = facility; tag = tag }))
-makes_more f g es moment left (more.Sub sub size burst) shows allocs hosts jobs slots next is = makes_sub g (record { sub = sub; size = size; burst = burst })
-makes_more f g es moment left (more.Boot planned line) shows allocs hosts jobs slots next is = makes_boot g f.hosts es line (alloc_of planned) moment hosts
-makes_more f g es moment left (more.Paused job paused) shows allocs hosts jobs slots next is =
+makes_more f g es moment left (more.Sub sub size burst) shows allocs hosts jobs slots next is sets = makes_sub g (record { sub = sub; size = size; burst = burst })
+makes_more f g es moment left (more.Limit planned name most) shows allocs hosts jobs slots next is sets = makes_limit g name most planned sets
+makes_more f g es moment left (more.Boot planned line) shows allocs hosts jobs slots next is sets = makes_boot g f.hosts es line (alloc_of planned) moment hosts
+makes_more f g es moment left (more.Paused job paused) shows allocs hosts jobs slots next is sets =
     subst (λ (js : List JobRow). MakesRows g (record g { jobs = map (paused_row job paused) g.jobs }) (paused_put paused (find (λ (j : JobRow). j.job == job) js))) jobs (makes_paused g job paused (job_at g job) refl)
-makes_more f g es moment left (more.Job placing spec) shows allocs hosts jobs slots next is =
-    subst (λ (n : ℕ). MakesRows g (with_lists g (with_job (lists_of g) placing.show spec))
-    (left_put left ++ (change.Put (row.Job (job_row n placing.show spec)) ∷ (layers_put n 0 spec.layers ++ frames_put 0 f.slots (frames_of n 0 spec.layers))))) next
-    (subst (λ (cs : List RowChange). MakesRows g (with_lists g (with_job (lists_of g) placing.show spec))
-    (left_put left ++ (change.Put (row.Job (job_row g.next_job placing.show spec)) ∷ (layers_put g.next_job 0 spec.layers ++ cs)))) (slots (frames_of g.next_job 0 spec.layers)) (makes_placed g left placing.show spec is))
+makes_more f g es moment left (more.Job placing spec) shows allocs hosts jobs slots next is sets =
+    subst (λ (n : ℕ). MakesRows g (with_lists g (with_job (lists_of g) placing.show placing.limits spec))
+    (left_put left ++ (change.Put (row.Job (job_row n placing.show spec)) ∷ (layers_put n placing.limits 0 spec.layers ++ frames_put 0 f.slots (frames_of n 0 spec.layers))))) next
+    (subst (λ (cs : List RowChange). MakesRows g (with_lists g (with_job (lists_of g) placing.show placing.limits spec))
+    (left_put left ++ (change.Put (row.Job (job_row g.next_job placing.show spec)) ∷ (layers_put g.next_job placing.limits 0 spec.layers ++ cs)))) (slots (frames_of g.next_job 0 spec.layers)) (makes_placed g left placing.show placing.limits spec is))
 
 -- ---- the whole change
 
@@ -266,6 +268,7 @@ is_left f c left more.Nothing is = tt
 is_left f c left (more.Show name) is = tt
 is_left f c left (more.Alloc facility tag) is = tt
 is_left f c left (more.Sub sub size burst) is = tt
+is_left f c left (more.Limit planned name most) is = tt
 is_left f c left (more.Boot planned line) is = tt
 is_left f c left (more.Paused job paused) is = tt
 is_left f c left (more.Job placing spec) is = record { without = is.without; no_job = is.no_job; no_layer = is.no_layer }
@@ -275,12 +278,14 @@ is_left_beside f depends met next left more.Nothing is = tt
 is_left_beside f depends met next left (more.Show name) is = tt
 is_left_beside f depends met next left (more.Alloc facility tag) is = tt
 is_left_beside f depends met next left (more.Sub sub size burst) is = tt
+is_left_beside f depends met next left (more.Limit planned name most) is = tt
 is_left_beside f depends met next left (more.Boot planned line) is = tt
 is_left_beside f depends met next left (more.Paused job paused) is = tt
 is_left_beside f depends met next left (more.Job placing spec) is = is
 
-makes_changes : (f : Farm) (c : Change) (left : Option ℕ) → All (λ (e : ℕ × HostLife). e.0 < length f.hosts) c.rows.hosts.items → AreInstallable f.subs f.slots c.rows.slots.items → IsLeft f left c.more → MakesRows f (after_change f c) (changes_of f c left)
-makes_changes f c left hosts slots is =
+makes_changes : (f : Farm) (c : Change) (left : Option ℕ) → All (λ (e : ℕ × HostLife). e.0 < length f.hosts) c.rows.hosts.items → AreInstallable f.subs f.slots c.rows.slots.items → IsLeft f left c.more → SetsLimit f.limits c.more
+    → MakesRows f (after_change f c) (changes_of f c left)
+makes_changes f c left hosts slots is sets =
     let lives = c.rows.hosts.items in
     let rows = c.rows.slots.items in
     let later = at_moment f c.moment in
@@ -289,13 +294,14 @@ makes_changes f c left hosts slots is =
     makes_then f later (after_change f c) [] (changes_of f c left) (makes_counters f f.next_job f.next_depend f.next_finish c.moment true)
     (makes_then later lived (after_change f c) (lives_put f.hosts lives) (map slot_put rows ++ rest) (makes_lives lives later hosts)
     (makes_then lived (with_rows f c) (after_change f c) (map slot_put rows) rest (makes_slots rows lived slots)
-    (makes_more f (with_rows f c) lives c.moment left c.more refl refl refl refl (λ xs. frames_put-slots f.subs f.slots rows xs slots) refl (is_left f c left c.more is))))
+    (makes_more f (with_rows f c) lives c.moment left c.more refl refl refl refl (λ xs. frames_put-slots f.subs f.slots rows xs slots) refl (is_left f c left c.more is) sets)))
 
 with_more_beside : (f : Farm) (depends : List DependRow) (met : List MetRow) (next moment : ℕ) (m : More) → with_more (beside f depends met next) moment m ≡ beside (with_more f moment m) depends met next
 with_more_beside f depends met next moment more.Nothing = refl
 with_more_beside f depends met next moment (more.Show name) = refl
 with_more_beside f depends met next moment (more.Alloc facility tag) = refl
 with_more_beside f depends met next moment (more.Sub sub size burst) = refl
+with_more_beside f depends met next moment (more.Limit planned name most) = refl
 with_more_beside f depends met next moment (more.Boot planned line) = refl
 with_more_beside f depends met next moment (more.Paused job paused) = refl
 with_more_beside f depends met next moment (more.Job placing spec) = refl
@@ -308,26 +314,27 @@ changes_beside f depends met next c left = by c.more
     by (more.Show name) = refl
     by (more.Alloc facility tag) = refl
     by (more.Sub sub size burst) = refl
+    by (more.Limit planned name most) = refl
     by (more.Boot planned line) = refl
     by (more.Paused job paused) = refl
     by (more.Job placing spec) = refl
 
 -- the changes make the rows of the farm after the change, whatever the depends are
 pub makes_books : (f : Farm) (c : Change) (left : Option ℕ) (cs : List RowChange) → All (λ (e : ℕ × HostLife). e.0 < length f.hosts) c.rows.hosts.items → AreInstallable f.subs f.slots c.rows.slots.items → IsLeft f left c.more
-    → cs ≡ changes_of f c left → MakesBookRows f (after_change f c) cs
-makes_books f c left cs hosts slots is are depends met next =
+    → SetsLimit f.limits c.more → cs ≡ changes_of f c left → MakesBookRows f (after_change f c) cs
+makes_books f c left cs hosts slots is sets are depends met next =
     let other = beside f depends met next in
     subst (λ (g : Farm). MakesRows other g cs) (with_more_beside (with_rows f c) depends met next c.moment c.more)
     (subst (MakesRows other (after_change other c))
     (ap (λ (ds : List RowChange). lives_put f.hosts c.rows.hosts.items ++ (map slot_put c.rows.slots.items ++ ds)) (changes_beside f depends met next c left) ∙ sym are)
-    (makes_changes other c left hosts slots (is_left_beside f depends met next left c.more is)))
+    (makes_changes other c left hosts slots (is_left_beside f depends met next left c.more is) sets))
 
 -- where the books place the job
 pub places_job : (f : Farm) (c : Change) (placing : Placing) (spec : JobSpec) → AreInstallable f.subs f.slots c.rows.slots.items → IsPlacement (with_rows f c) placing spec → Places (lists_of f) placing spec
 places_job f c placing spec slots is =
     record {
       limits = is.limits;
-      placed = is.placed ∙ ap (λ (ns : List ℕ). record (placing_of (lists_of f) placing.show spec) { slots = ns }) (lowest_free-slots f.subs f.slots c.rows.slots.items (frames_in spec.layers) slots);
+      placed = is.placed ∙ ap (λ (ns : List ℕ). record (placing_of (lists_of f) placing.show placing.limits spec) { slots = ns }) (lowest_free-slots f.subs f.slots c.rows.slots.items (frames_in spec.layers) slots);
     }
 
 -- three lists of changes, one after the other

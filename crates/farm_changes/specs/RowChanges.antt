@@ -12,12 +12,13 @@ use Rattle.farm_types.specs.declared.slot_row.SlotRow.{SlotRow}
 use Rattle.farm_types.specs.declared.limits.TheConstants.{LAST_BOOT}
 use Rattle.farm_types.specs.Farm.{Farm, host_named, job_at}
 use Rattle.farm_types.specs.Hosts.{booted_row, is_same_life, new_host}
-use Rattle.farm_types.specs.Jobs.{JobLists, frames_of, fresh_slot, is_free, job_row, layer_row, slot_with, without_finished}
+use Rattle.farm_types.specs.Jobs.{JobLists, frames_of, fresh_slot, is_free, job_row, layer_row, limit_in, slot_with, without_finished}
 use Rattle.farm_types.specs.SpecLimits.{JobKeepsLimits}
-use Rattle.farm_types.specs.Step.{lists_of}
+use Rattle.farm_types.specs.Step.{limit_row, lists_of}
 use Rattle.host_book.specs.Book.{alloc_of}
 use Rattle.host_book.specs.Life.{with_life}
 use Rattle.host_book.specs.declared.life.HostLife.{HostLife}
+use Rattle.limit_book.specs.Book.{number_in}
 use Rattle.job_book.specs.Book.{placing_of, with_pause, without_job}
 use Rattle.job_book.specs.declared.placement.placing.Placing.{Placing}
 use Rattle.job_book.specs.Lowest.{slot_for}
@@ -86,10 +87,10 @@ abbrev pub left_put : Option ℕ → List RowChange
 left_put None = []
 left_put (Some job) = change.Delete (key.Job job) ∷ []
 
--- the layers of a job, from a place on
-abbrev pub layers_put : ℕ → ℕ → List LayerSpec → List RowChange
-layers_put job place [] = []
-layers_put job place (l ∷ ls) = change.Put (row.Layer (layer_row job place l)) ∷ layers_put job (place + 1) ls
+-- the layers of a job with these limits, from a place on
+abbrev pub layers_put : ℕ → List (Option ℕ) → ℕ → List LayerSpec → List RowChange
+layers_put job limits place [] = []
+layers_put job limits place (l ∷ ls) = change.Put (row.Layer (layer_row job place (limit_in limits place) l)) ∷ layers_put job limits (place + 1) ls
 
 -- a frame in the slot at a place
 abbrev pub frame_put : ℕ → SlotRow → RowChange
@@ -103,11 +104,11 @@ frames_put place (s ∷ ss) [] = []
 frames_put place (s ∷ ss) (x ∷ xs) = if is_free s then frame_put place (slot_with x s) ∷ frames_put (place + 1) ss xs else frames_put (place + 1) ss (x ∷ xs)
 
 -- a job of the next number, where that finished one leaves
-abbrev pub job_put : JobLists → Option ℕ → ℕ → JobSpec → List RowChange
-job_put b left show spec =
+abbrev pub job_put : JobLists → Option ℕ → ℕ → List (Option ℕ) → JobSpec → List RowChange
+job_put b left show limits spec =
     left_put left
     ++ (change.Put (row.Job (job_row b.next_job show spec))
-    ∷ (layers_put b.next_job 0 spec.layers ++ frames_put 0 b.slots (frames_of b.next_job 0 spec.layers)))
+    ∷ (layers_put b.next_job limits 0 spec.layers ++ frames_put 0 b.slots (frames_of b.next_job 0 spec.layers)))
 
 -- ---- the whole change
 
@@ -117,9 +118,10 @@ more_put f lives moment left more.Nothing = []
 more_put f lives moment left (more.Show name) = change.Put (row.Show (length f.shows) (record { name = name })) ∷ []
 more_put f lives moment left (more.Alloc facility tag) = change.Put (row.Alloc (length f.allocs) (record { facility = facility; tag = tag })) ∷ []
 more_put f lives moment left (more.Sub sub size burst) = change.Put (row.Sub (record { sub = sub; size = size; burst = burst })) ∷ []
+more_put f lives moment left (more.Limit planned name most) = change.Put (row.Limit (number_in planned) (limit_row name most)) ∷ []
 more_put f lives moment left (more.Boot planned line) = boot_put f.hosts lives line (alloc_of planned) moment (host_named f line.host)
 more_put f lives moment left (more.Paused job paused) = paused_put paused (job_at f job)
-more_put f lives moment left (more.Job placing spec) = job_put (lists_of f) left placing.show spec
+more_put f lives moment left (more.Job placing spec) = job_put (lists_of f) left placing.show placing.limits spec
 
 -- one after the other: lives of hosts, slots, and the row that owns texts
 abbrev pub changes_of : Farm → Change → Option ℕ → List RowChange
@@ -138,7 +140,7 @@ IsLeft f left other = Unit {0}
 -- the job keeps its limits, and is placed where these lists place it
 pub record Places (b : JobLists) (placing : Placing) (spec : JobSpec) : Type 0 where
   pub limits : JobKeepsLimits spec
-  pub placed : placing ≡ placing_of b placing.show spec
+  pub placed : placing ≡ placing_of b placing.show placing.limits spec
 
 -- ---- frames in slots that were found
 

@@ -10,9 +10,10 @@ ghost use Rattle.host_book.specs.Book.{alloc_of, plan_of};
 ghost use Rattle.job_book.specs.Layers.{spare_of};
 ghost use Rattle.farm_books.specs.Books.{with_farm};
 ghost use Rattle.farm_books.specs.Install.{IsPlacement};
+ghost use Rattle.farm_books.specs.Limits.{with_limit};
 ghost use Rattle.farm_draft.specs.Rows.{AreInstallable, put_lives, put_slots};
 ghost use Rattle.farm_changes.specs.declared.change.Reserved.TheVariants as taken;
-ghost use Rattle.farm_changes.specs.Change.{FitsMore, IsReady, IsReserved, after_change, memory_of, reserved_of, with_more};
+ghost use Rattle.farm_changes.specs.Change.{FitsLimit, FitsMore, IsReady, IsReserved, after_change, memory_of, reserved_of, with_more};
 
 use crate::change::{Change, More, Reserved};
 use farm_books::Books;
@@ -20,6 +21,7 @@ use farm_draft::Rows;
 use farm_types::{BootLine, HostNo, JobSpec, Text};
 use host_book::BootPlan;
 use job_book::Placing;
+use limit_book::LimitPlan;
 use std::alloc::{AllocError, Global};
 
 /// Takes the memory that the change needs, so that applying it takes none. The books are as before.
@@ -43,6 +45,9 @@ fn memory_for(books: &mut Books, alloc: Global, more: &More) -> Result<Reserved,
         More::Alloc { facility, tag } => {
             let spare = books.reserve_alloc(alloc, facility.as_str(), tag.as_str())?;
             Ok(Reserved::Alloc(spare))
+        }
+        More::Limit { name, .. } => {
+            Ok(Reserved::Limit(books.reserve_limit(alloc, name.as_str())?))
         }
         More::Boot { line, .. } => Ok(Reserved::Host(books.reserve_boot(alloc, line)?)),
         More::Job { spec, .. } => Ok(Reserved::Job(books.reserve_job(alloc, spec)?)),
@@ -105,6 +110,7 @@ fn install_more(books: &mut Books, moment: u64, more: More, memory: Reserved)
         More::Show { name } => books.install_show(name),
         More::Sub { sub, size, burst } => books.install_sub(sub, size, burst),
         More::Alloc { facility, tag } => alloc_in(books, memory, &facility, &tag),
+        More::Limit { plan, name, most } => limit_in(books, memory, plan, &name, most),
         More::Boot { plan, line } => boot_in(books, memory, plan, &line, moment),
         More::Paused { job, paused } => books.install_paused(job, paused),
         More::Job { placing, spec } => job_in(books, memory, placing, spec),
@@ -126,6 +132,18 @@ fn alloc_in(books: &mut Books, memory: Reserved, facility: &Text, tag: &Text)
     books.install_alloc(spare);
 }
 
+// A limit is set, in the memory that was taken for it.
+fn limit_in(books: &mut Books, memory: Reserved, plan: LimitPlan, name: &Text, most: u32)
+    requires fits { FitsLimit books.old.farm name.now plan }
+    requires memory { memory ≡ taken.Limit name.now }
+    ensures { books.new ≡ with_farm books.old (record books.old.farm { limits = with_limit books.old.farm.limits name.now plan most }) }
+{
+    let Reserved::Limit(spare) = memory else {
+        unreachable!()
+    };
+    books.install_limit(spare, plan, most);
+}
+
 // A host boots, in the memory that was taken for it.
 fn boot_in(books: &mut Books, memory: Reserved, plan: BootPlan, line: &BootLine, moment: u64)
     requires fits { plan_of books.old.farm.hosts line.now (alloc_of plan) ≡ Ok plan }
@@ -142,7 +160,7 @@ fn boot_in(books: &mut Books, memory: Reserved, plan: BootPlan, line: &BootLine,
 fn job_in(books: &mut Books, memory: Reserved, placing: Placing, spec: JobSpec)
     requires fits { IsPlacement books.old.farm placing spec }
     requires memory { memory ≡ taken.Job (spare_of spec) }
-    ensures { books.new ≡ with_farm books.old (with_lists books.old.farm (with_job (lists_of books.old.farm) placing.show spec)) }
+    ensures { books.new ≡ with_farm books.old (with_lists books.old.farm (with_job (lists_of books.old.farm) placing.show placing.limits spec)) }
 {
     let Reserved::Job(spare) = memory else {
         unreachable!()

@@ -9,6 +9,7 @@ use farm_draft::{Rows, SlotChange};
 use farm_types::{BootLine, Cores, HostNo, JobNo, JobSpec, SubNo, Text};
 use host_book::{BootPlan, HostSpare};
 use job_book::{JobSpare, Placing};
+use limit_book::{LimitPlan, Spare as LimitSpare};
 
 /// A change that was prepared for an entry, at its moment (seconds): the rows that it leaves, what is known of the farm's answer, and the host that a
 /// report is of. It is applied once its memory is reserved.
@@ -43,6 +44,12 @@ pub(crate) enum More {
         size: Cores,
         burst: Cores,
     },
+    /// A limit, added or set.
+    Limit {
+        plan: LimitPlan,
+        name: Text,
+        most: u32,
+    },
     /// A host, added or in a new boot.
     Boot {
         plan: BootPlan,
@@ -65,6 +72,7 @@ pub(crate) enum More {
 pub(crate) enum Reserved {
     None,
     Alloc(Spare),
+    Limit(LimitSpare),
     Host(HostSpare),
     Job(JobSpare),
 }

@@ -10,7 +10,7 @@ ghost use Rattle.farm_types.specs.declared.entry.Act.TheVariants as act;
 ghost use Rattle.farm_changes.specs.declared.act_answer.ActAnswer.TheVariants as known;
 ghost use Rattle.farm_changes.specs.declared.change.Reserved.TheVariants as taken;
 ghost use Rattle.farm_books.specs.Books.{IsWhole};
-ghost use Rattle.farm_changes.specs.Change.{Prepares};
+ghost use Rattle.farm_changes.specs.Change.{Prepares, RunsPlanned};
 
 use crate::act_answer::ActAnswer;
 use crate::change::{Change, More, Reserved};
@@ -25,9 +25,12 @@ use crate::refused::existing_alloc;
 use alloc_tags::AllocRefusal;
 use farm_books::Books;
 use farm_draft::Rows;
+use farm_places::{check_limits, limits_of};
 use farm_types::{
-    Act, Answer, Counted, Entry, FarmFault, JobSpec, MOST_ALLOCS, MOST_SHOWS, SubLine, SubNo, Text,
+    Act, Answer, Counted, Entry, FarmFault, JobSpec, MOST_ALLOCS, MOST_LIMITS, MOST_SHOWS, SubLine,
+    SubNo, Text,
 };
+use limit_book::{LimitPlan, LimitRefusal};
 use std::alloc::Global;
 
 /// Prepares what the entry's act does, and changes nothing. The books are whole, the entry is within its forms and limits, and an entry to book is one
@@ -44,6 +47,7 @@ pub fn prepare(alloc: Global, books: &Books, entry: &Entry) -> Result<Change, Fa
         Act::Show { name } => prepare_show(alloc, books, moment, name),
         Act::Alloc { facility, tag } => prepare_alloc(alloc, books, moment, facility, tag),
         Act::Sub(line) => prepare_sub(alloc, books, moment, line),
+        Act::Limit { name, most } => prepare_limit(alloc, books, moment, name, *most),
         Act::Boot(line) => prepare_boot(alloc, books, moment, line),
         Act::Heard(heard) => prepare_heard(alloc, books, moment, heard),
         Act::Submit(spec) => prepare_submit(alloc, books, moment, spec),
@@ -159,7 +163,44 @@ fn prepare_sub(
     Ok(change_of(moment, answer, Rows::none(alloc), more))
 }
 
-// Prepares that a job is placed, of the show and the facility that its spec names.
+// Prepares that a limit lets so many frames run.
+fn prepare_limit(
+    alloc: Global,
+    books: &Books,
+    moment: u64,
+    name: &Text,
+    most: u32,
+) -> Result<Change, FarmFault>
+    requires kept { KeepsRows books.now.farm }
+    requires ahead { books.now.farm.moment ≤ moment }
+    ensures { Prepares books.now.farm (record { moment = moment; act = act.Limit name.now most }) result }
+{
+    let plan = match books.check_limit(name.as_str()) {
+        Ok(plan) => plan,
+        Err(LimitRefusal::Full) => {
+            return Err(FarmFault::full(u64::from(MOST_LIMITS), Counted::Limits));
+        }
+    };
+    let answer = Answer::Limit {
+        most,
+        running: running_in(books, &plan),
+    };
+    let name = name.copy(alloc)?;
+    let more = More::Limit { plan, name, most };
+    Ok(change_of(moment, answer, Rows::none(alloc), more))
+}
+
+// How many frames run in the limit of the plan, none in a new one.
+fn running_in(books: &Books, plan: &LimitPlan) -> u32
+    ensures { RunsPlanned books.now.farm plan.now result }
+{
+    match plan {
+        LimitPlan::New { .. } => 0,
+        LimitPlan::Known { limit } => books.running(*limit),
+    }
+}
+
+// Prepares that a job is placed, of the show, the facility and the limits that its spec names.
 fn prepare_submit(
     alloc: Global,
     books: &Books,
@@ -176,7 +217,9 @@ fn prepare_submit(
     if !books.has_facility(&spec.facility) {
         return Err(FarmFault::unknown(alloc, &spec.facility));
     }
-    let placing = books.check_job(alloc, spec, show)?;
+    check_limits(alloc, books, &spec.layers)?;
+    let limits = limits_of(alloc, books, &spec.layers)?;
+    let placing = books.check_job(alloc, spec, show, limits)?;
     let spec = spec.copy(alloc)?;
     let answer = Answer::Submitted {
         frames: placing.frames,

@@ -3,11 +3,12 @@
 ghost use Rattle.std.specs.Prelude.{◌≡◌, ◌<◌, ◌++◌, ◌∷◌, [], map, length, slice_get, All, IfOk, OnOk, Ok};
 ghost use Rattle.alloc_tags.specs.Book.{check_of};
 ghost use Rattle.farm_types.specs.Farm.{alloc_name, job_at};
-ghost use Rattle.farm_types.specs.Step.{lists_of};
+ghost use Rattle.farm_types.specs.Step.{limit_row, lists_of};
 ghost use Rattle.farm_rows.specs.Changes.{MakesBookRows};
 ghost use Rattle.farm_rows.specs.declared.farm_row.FarmRow.TheVariants as row;
 ghost use Rattle.farm_rows.specs.declared.row_change.RowChange.TheVariants as change;
 ghost use Rattle.host_book.specs.Life.{with_life};
+ghost use Rattle.limit_book.specs.Book.{number_in};
 ghost use Rattle.farm_changes.specs.Change.{IsReady, after_change};
 ghost use Rattle.farm_changes.specs.RowChanges.{IsLeft, Leaves, life_put, lives_put, more_put, paused_put, slot_put};
 
@@ -18,9 +19,11 @@ use farm_books::Books;
 use farm_draft::SlotChange;
 use farm_rows::{FarmRow, RowChange};
 use farm_types::{
-    AllocRow, Cores, HostNo, HostRow, JobNo, JobSpec, ShowNo, ShowRow, SubNo, SubRow, Text,
+    AllocRow, Cores, HostNo, HostRow, JobNo, JobSpec, LimitNo, LimitRow, ShowNo, ShowRow, SubNo,
+    SubRow, Text,
 };
 use host_book::HostLife;
+use limit_book::LimitPlan;
 use std::alloc::{AllocError, Global};
 
 impl Change {
@@ -135,6 +138,7 @@ fn put_more(
         More::Show { name } => put_show(alloc, books, name, into),
         More::Alloc { facility, tag } => put_alloc(alloc, books, facility, tag, into),
         More::Sub { sub, size, burst } => put_sub(*sub, *size, *burst, into),
+        More::Limit { plan, name, most } => put_limit(alloc, plan, name, *most, into),
         More::Boot { plan, line } => put_boot(
             alloc,
             books,
@@ -200,6 +204,35 @@ fn put_sub(
 {
     into.push(RowChange::Put(FarmRow::Sub(SubRow { sub, size, burst })))?;
     Ok(())
+}
+
+// A limit is added or set.
+fn put_limit(
+    alloc: Global,
+    plan: &LimitPlan,
+    name: &Text,
+    most: u32,
+    into: &mut Vec<RowChange>,
+) -> Result<(), AllocError>
+    ensures { OnOk result (into.new.items ≡ into.old.items ++ change.Put (row.Limit (number_in plan.now) (limit_row name.now most)) ∷ []) }
+{
+    let limit = number_in(plan);
+    let row = LimitRow {
+        name: name.copy(alloc)?,
+        most,
+    };
+    into.push(RowChange::Put(FarmRow::Limit { limit, row }))?;
+    Ok(())
+}
+
+// The number at which the limit of the plan is set.
+fn number_in(plan: &LimitPlan) -> LimitNo
+    ensures { result ≡ number_in plan.now }
+{
+    match plan {
+        LimitPlan::New { limit } => *limit,
+        LimitPlan::Known { limit } => *limit,
+    }
 }
 
 // A job is paused, or resumed.

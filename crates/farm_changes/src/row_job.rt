@@ -1,7 +1,7 @@
 //! The rows of a job that is placed: its own, its layers', and its frames' slots.
 
 ghost use Rattle.std.specs.Prelude.{◌≡◌, ◌≤◌, ◌++◌, ◌∷◌, [], length, slice_get, IfOk, OnOk};
-ghost use Rattle.farm_types.specs.Jobs.{frames_from, frames_in, frames_of, job_row, layer_row, new_frame};
+ghost use Rattle.farm_types.specs.Jobs.{frames_from, frames_in, frames_of, job_row, layer_row, limit_in, new_frame};
 ghost use Rattle.farm_types.specs.Step.{lists_of};
 ghost use Rattle.farm_types.specs.declared.limits.TheConstants.{MOST_FRAMES, MOST_LAYERS};
 ghost use Rattle.job_book.specs.Lowest.{lowest_free, slot_for};
@@ -10,8 +10,8 @@ ghost use Rattle.farm_changes.specs.RowChanges.{Places, frame_put, frames_put, j
 use farm_books::Books;
 use farm_rows::{FarmRow, FrameRow, RowChange, RowKey};
 use farm_types::{
-    Frame, FrameState, JobNo, JobRow, JobSpec, JobState, LayerRow, LayerSpec, Slot, SlotRow,
-    Version,
+    Frame, FrameState, JobNo, JobRow, JobSpec, JobState, LayerRow, LayerSpec, LimitNo, Slot,
+    SlotRow, Version,
 };
 use job_book::Placing;
 use std::alloc::{AllocError, Global};
@@ -26,12 +26,13 @@ pub(crate) fn put_job(
     into: &mut Vec<RowChange>,
 ) -> Result<(), AllocError>
     requires { Places (lists_of books.now.farm) placing.now spec.now }
-    ensures { OnOk result (into.new.items ≡ into.old.items ++ job_put (lists_of books.now.farm) left placing.now.show spec.now) }
+    ensures { OnOk result (into.new.items ≡ into.old.items ++ job_put (lists_of books.now.farm) left placing.now.show placing.now.limits spec.now) }
 {
     put_left(left, into)?;
     let row = job_row(alloc, placing, spec)?;
     into.push(RowChange::Put(FarmRow::Job(row)))?;
-    put_layers(alloc, placing.job, spec.layers.as_slice(), into)?;
+    let limits = placing.limits.as_slice();
+    put_layers(alloc, placing.job, limits, spec.layers.as_slice(), into)?;
     put_frames(
         books.slots(),
         placing.slots.as_slice(),
@@ -78,21 +79,33 @@ fn job_row(alloc: Global, placing: &Placing, spec: &JobSpec) -> Result<JobRow, A
     })
 }
 
-// The rows of a job's layers.
+// The rows of a job's layers, with these limits.
 fn put_layers(
     alloc: Global,
     job: JobNo,
+    limits: &[Option<LimitNo>],
     layers: &[LayerSpec],
     into: &mut Vec<RowChange>,
 ) -> Result<(), AllocError>
     requires { length layers.now ≤ MOST_LAYERS }
-    ensures { OnOk result (into.new.items ≡ into.old.items ++ layers_put job 0 layers.now) }
+    ensures { OnOk result (into.new.items ≡ into.old.items ++ layers_put job limits.now 0 layers.now) }
 {
     for (place, layer) in layers.iter().enumerate() {
-        let row = layer_row(alloc, job, place as u32, layer)?;
+        let limit = limit_in(limits, place);
+        let row = layer_row(alloc, job, place as u32, limit, layer)?;
         into.push(RowChange::Put(FarmRow::Layer(row)))?;
     }
     Ok(())
+}
+
+// The limit of the layer at a place, none past the last.
+fn limit_in(limits: &[Option<LimitNo>], place: usize) -> Option<LimitNo>
+    ensures { result ≡ limit_in limits.now place }
+{
+    match limits.get(place) {
+        None => None,
+        Some(limit) => *limit,
+    }
 }
 
 // The row of a layer.
@@ -100,9 +113,10 @@ fn layer_row(
     alloc: Global,
     job: JobNo,
     place: u32,
+    limit: Option<LimitNo>,
     layer: &LayerSpec,
 ) -> Result<LayerRow, AllocError>
-    ensures { IfOk result (λ row. row ≡ layer_row job place layer.now) }
+    ensures { IfOk result (λ row. row ≡ layer_row job place limit layer.now) }
 {
     Ok(LayerRow {
         job,
@@ -113,6 +127,7 @@ fn layer_row(
         cores: layer.cores,
         memory: layer.memory,
         tags: layer.tags.copy(alloc)?,
+        limit,
     })
 }
 

@@ -8,6 +8,7 @@ use Rattle.farm_types.specs.Step.{finish_each, finish_one}
 use Rattle.farm_types.specs.declared.limits.TheConstants.{LAST_DEPEND, LAST_JOB}
 use Rattle.farm_rows.specs.Rows.{head_row}
 use Rattle.farm_rows.specs.declared.head_row.HeadRow.{HeadRow}
+use Rattle.farm_rows.specs.declared.head_row.TheConstants.{ROW_FORMAT}
 use Rattle.depend_book.specs.declared.new_depend.NewDepend.{NewDepend}
 use Rattle.farm_changes.specs.Change.{adds_job, with_more, with_rows}
 use Rattle.farm_changes.specs.declared.change.More.{More}
@@ -20,7 +21,7 @@ use Rattle.farm_core.specs.Change.{IsReady, after_act, after_change, followed_by
 
 -- what the farm's own row tells, and whether the farm has it
 record Owns (f : Farm) (moment jobs finishes depends : ℕ) (recorded : Bool) : Type 0 where
-  head : head_row f ≡ record { format = 1; moment = moment; jobs = jobs; finishes = finishes; depends = depends }
+  head : head_row f ≡ record { format = ROW_FORMAT; moment = moment; jobs = jobs; finishes = finishes; depends = depends }
   recorded_is : f.recorded ≡ recorded
 
 itself : (f : Farm) → Owns f f.moment f.next_job f.next_finish f.next_depend f.recorded
@@ -66,6 +67,7 @@ more_owns f moment more.Nothing = record { head = refl; recorded_is = refl }
 more_owns f moment (more.Show name) = record { head = refl; recorded_is = refl }
 more_owns f moment (more.Alloc facility tag) = record { head = refl; recorded_is = refl }
 more_owns f moment (more.Sub sub size burst) = record { head = refl; recorded_is = refl }
+more_owns f moment (more.Limit planned name most) = record { head = refl; recorded_is = refl }
 more_owns f moment (more.Boot planned line) = record { head = refl; recorded_is = refl }
 more_owns f moment (more.Paused job paused) = record { head = refl; recorded_is = refl }
 
@@ -73,7 +75,7 @@ more_owns f moment (more.Paused job paused) = record { head = refl; recorded_is 
 
 -- the farm's own row after the change
 pub head_is : (f : Farm) (change : Change) → head_row (after_change f change) ≡ record {
-  format = 1;
+  format = ROW_FORMAT;
   moment = change.act.moment;
   jobs = if adds_job change.act.more then f.next_job + 1 else f.next_job;
   finishes = f.next_finish + length change.finish;

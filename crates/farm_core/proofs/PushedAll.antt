@@ -6,7 +6,7 @@ use Rattle.farm_types.specs.Rising.{depend_key}
 use Rattle.farm_rows.specs.declared.farm_row.FarmRow.{FarmRow}
 use Rattle.farm_rows.specs.declared.farm_row.FarmRow.TheVariants as row
 use Rattle.farm_rows.specs.declared.head_row.HeadRow.{HeadRow}
-use Rattle.farm_rows.specs.Rows.{head_row, recorded_rows, rows_of}
+use Rattle.farm_rows.specs.Rows.{head_row, numbered, recorded_rows, rows_of}
 use Rattle.farm_books.specs.Rows.{book_rows}
 use Rattle.farm_books.proofs.PushedRows.{recorded_are, then_more}
 use Rattle.depend_book.specs.Book.{DependLists, IsBook, joined}
@@ -24,11 +24,13 @@ module _ (f : Farm) (b : DependLists) (book : IsBook b) (fits : Fits f b) where
       then_more old one both (rows_told b ns) (marks_told b.graph.depends ms) marks rows
       ∙ λ i. old ++ ((ap (rows_told b) all_rows ∙ all_told b b.next book.rise) i ++ (ap (marks_told b.graph.depends) all_marks ∙ marks_all f b book fits) i)
 
--- the farm's own row, then those of the books, then those of depends
-pub all_pushed : (f : Farm) (b : DependLists) (head : HeadRow) (one two three : List FarmRow) → head ≡ head_row (joined f b) → f.recorded ≡ true
-    → one ≡ row.Head head ∷ [] → two ≡ one ++ book_rows f → three ≡ two ++ depend_rows b
-    → three ≡ rows_of (joined f b)
-all_pushed f b head one two three own recorded first books depends =
-    then_more (row.Head head ∷ []) two three (book_rows f) (depend_rows b) depends (books ∙ ap (λ (rows : List FarmRow). rows ++ book_rows f) first)
-    ∙ (ap (λ (h : HeadRow). row.Head h ∷ (book_rows f ++ depend_rows b)) own
-    ∙ (recorded_are (joined f b) ∙ sym (ap (λ (c : Bool). if c then recorded_rows (joined f b) else []) recorded)))
+-- the farm's own row, then those of the books, then those of depends, then those of limits
+pub all_pushed : (f : Farm) (b : DependLists) (head : HeadRow) (one two three four : List FarmRow) → head ≡ head_row (joined f b) → f.recorded ≡ true
+    → one ≡ row.Head head ∷ [] → two ≡ one ++ book_rows f → three ≡ two ++ depend_rows b → four ≡ three ++ numbered row.Limit 0 f.limits
+    → four ≡ rows_of (joined f b)
+all_pushed f b head one two three four own recorded first books depends limits =
+    let rows = numbered row.Limit 0 f.limits in
+    let farm = then_more (row.Head head ∷ []) two three (book_rows f) (depend_rows b) depends (books ∙ ap (λ (rows : List FarmRow). rows ++ book_rows f) first) in
+    limits ∙ (ap (λ (rs : List FarmRow). rs ++ rows) farm
+    ∙ (ap (λ (h : HeadRow). row.Head h ∷ ((book_rows f ++ depend_rows b) ++ rows)) own
+    ∙ (recorded_are (joined f b) ∙ sym (ap (λ (c : Bool). if c then recorded_rows (joined f b) else []) recorded))))

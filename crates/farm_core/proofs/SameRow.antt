@@ -6,6 +6,7 @@ use Rattle.farm_types.specs.declared.rows.AllocRow.{AllocRow}
 use Rattle.farm_types.specs.declared.rows.HostRow.{HostRow}
 use Rattle.farm_types.specs.declared.rows.JobRow.{JobRow}
 use Rattle.farm_types.specs.declared.rows.LayerRow.{LayerRow}
+use Rattle.farm_types.specs.declared.rows.LimitRow.{LimitRow}
 use Rattle.farm_types.specs.declared.rows.ShowRow.{ShowRow}
 use Rattle.farm_types.specs.declared.rows.SubRow.{SubRow}
 use Rattle.farm_types.specs.declared.depend.DependRow.{DependRow}
@@ -29,6 +30,10 @@ alloc_in other = None
 abbrev pub sub_in : FarmRow → Option SubRow
 sub_in (row.Sub r) = Some r
 sub_in other = None
+
+abbrev pub limit_in : FarmRow → Option LimitRow
+limit_in (row.Limit limit r) = Some r
+limit_in other = None
 
 abbrev pub host_in : FarmRow → Option HostRow
 host_in (row.Host host r) = Some r

@@ -13,7 +13,7 @@ ghost use Rattle.farm_core.specs.Bookings.{IsBookingOf, rows_in};
 use crate::farm::Farm;
 use booking_reasons::NotBooked;
 use farm_books::Books;
-use farm_rows::{FarmRow, HeadRow, RowChange};
+use farm_rows::{FarmRow, HeadRow, ROW_FORMAT, RowChange};
 use farm_types::{HostNo, Slot};
 
 /// A booking that was decided: the slot's row that it leaves, and the rows of the store that change. It takes no memory.
@@ -95,7 +95,7 @@ fn head_at(books: &Books, moment: u64) -> HeadRow
     ensures { result ≡ record (head_row books.now.farm) { moment = moment } }
 {
     HeadRow {
-        format: 1,
+        format: ROW_FORMAT,
         moment,
         jobs: books.jobs().next_number(),
         finishes: books.jobs().next_finish(),

@@ -14,7 +14,7 @@ use crate::farm::Farm;
 use farm_books::Books;
 use farm_depends::follow_rows;
 use farm_finish::finish_rows;
-use farm_rows::{FarmRow, HeadRow, RowChange, exactly};
+use farm_rows::{FarmRow, HeadRow, ROW_FORMAT, RowChange, exactly};
 use farm_types::Entry;
 use std::alloc::{AllocError, Global};
 
@@ -87,7 +87,7 @@ fn head_after(books: &Books, change: &Change) -> HeadRow
     let finish = books.jobs().next_finish() + change.finish.len() as u64;
     let depend = books.depends().next_number() + change.follow.depends.len() as u64;
     HeadRow {
-        format: 1,
+        format: ROW_FORMAT,
         moment: change.act.moment(),
         jobs: next_job_after(books, change),
         finishes: finish,

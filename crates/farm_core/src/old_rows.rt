@@ -11,12 +11,12 @@ ghost use Rattle.farm_rows.specs.Rows.{frame_row, head_row, is_unused};
 use crate::farm::Farm;
 use farm_books::Books;
 use farm_rows::{
-    FarmRow, FrameRow, HeadRow, OldRows, RowKey, is_same_alloc, is_same_depend, is_same_frame,
-    is_same_host, is_same_job, is_same_layer, is_same_show,
+    FarmRow, FrameRow, HeadRow, OldRows, ROW_FORMAT, RowKey, is_same_alloc, is_same_depend,
+    is_same_frame, is_same_host, is_same_job, is_same_layer, is_same_limit, is_same_show,
 };
 use farm_types::{
-    AllocNo, AllocRow, DependNo, DependRow, HostNo, HostRow, JobRow, LayerRow, ShowNo, ShowRow,
-    Slot, SlotRow, SubRow,
+    AllocNo, AllocRow, DependNo, DependRow, HostNo, HostRow, JobRow, LayerRow, LimitNo, LimitRow,
+    ShowNo, ShowRow, Slot, SlotRow, SubRow,
 };
 
 impl OldRows for Farm {
@@ -62,6 +62,7 @@ fn has_row(books: &Books, row: &FarmRow) -> bool
         FarmRow::Frame(row) => is_frame(books, row),
         FarmRow::Depend(row) => is_depend(books, row),
         FarmRow::Met(row) => is_met(books, row.depend, row.position),
+        FarmRow::Limit { limit, row } => is_limit(books, *limit, row),
     }
 }
 
@@ -80,6 +81,7 @@ fn has_key(books: &Books, key: RowKey) -> bool
         RowKey::Frame { slot } => has_frame(books, slot),
         RowKey::Depend { depend } => books.depend(depend).is_some(),
         RowKey::Met { depend, position } => is_met(books, depend, position),
+        RowKey::Limit { limit } => has_limit(books, limit),
     }
 }
 
@@ -88,7 +90,7 @@ pub(crate) fn head(books: &Books) -> HeadRow
     ensures { result ≡ head_row books.now.farm }
 {
     HeadRow {
-        format: 1,
+        format: ROW_FORMAT,
         moment: books.moment(),
         jobs: books.jobs().next_number(),
         finishes: books.jobs().next_finish(),
@@ -131,6 +133,23 @@ fn is_sub(books: &Books, row: &SubRow) -> bool
         None => false,
         Some(old) => old == *row,
     }
+}
+
+// Whether the limit of that number is this one.
+fn is_limit(books: &Books, limit: LimitNo, row: &LimitRow) -> bool
+    ensures { IsTrue result ↔ (slice_get books.now.farm.limits limit ≡ Some row.now) }
+{
+    match books.limits().row(limit) {
+        None => false,
+        Some(old) => is_same_limit(old, row),
+    }
+}
+
+// Whether there is a limit of that number.
+fn has_limit(books: &Books, limit: LimitNo) -> bool
+    ensures { result ≡ is_some (slice_get books.now.farm.limits limit) }
+{
+    books.limits().row(limit).is_some()
 }
 
 // Whether the host of that number is this one.

@@ -28,6 +28,7 @@ impl Farm {
         rows.push(FarmRow::Head(head(&self.books)))?;
         self.books.push_rows(alloc, &mut rows)?;
         push_depends(alloc, &self.books, &mut rows)?;
+        self.books.push_limits(alloc, &mut rows)?;
         Ok(Items::from_vec(rows))
     }
 }

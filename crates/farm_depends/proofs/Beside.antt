@@ -1,7 +1,7 @@
 -- The books beside the book of depends: what the one says of the other's farm.
 use Rattle.std.proofs.Common.{◌≡◌, ℕ, Option, None, Some, refl}
 use Rattle.farm_types.specs.declared.entry.Act.{Act}
-use Rattle.farm_types.specs.declared.entry.Act.TheVariants.{Opened, Show, Alloc, Sub, Boot, Heard, Submit, AddDepend, DropDepend, Pause, KillJob, KillFrame, EatFrame, RetryFrame, Lock, Tick, Book}
+use Rattle.farm_types.specs.declared.entry.Act.TheVariants.{Opened, Show, Alloc, Sub, Limit, Boot, Heard, Submit, AddDepend, DropDepend, Pause, KillJob, KillFrame, EatFrame, RetryFrame, Lock, Tick, Book}
 use Rattle.farm_types.specs.Farm.{Farm}
 use Rattle.farm_types.specs.Kept.{KeepsAttempts, KeepsRows}
 use Rattle.farm_types.specs.Operators.{slot_named}
@@ -31,6 +31,7 @@ rows_apart f b k =
       shows = k.shows;
       allocs = k.allocs;
       subs = k.subs;
+      limits = k.limits;
       hosts = k.hosts;
       jobs = k.jobs;
       attempts = attempts_apart f b k.attempts;
@@ -44,6 +45,7 @@ with_more_joined f b moment more.Nothing = refl
 with_more_joined f b moment (more.Show name) = refl
 with_more_joined f b moment (more.Alloc facility tag) = refl
 with_more_joined f b moment (more.Sub sub size burst) = refl
+with_more_joined f b moment (more.Limit planned name most) = refl
 with_more_joined f b moment (more.Boot planned line) = refl
 with_more_joined f b moment (more.Paused job paused) = refl
 with_more_joined f b moment (more.Job placing spec) = refl
@@ -56,6 +58,7 @@ more_apart f b more.Nothing fits = fits
 more_apart f b (more.Show name) fits = fits
 more_apart f b (more.Alloc facility tag) fits = fits
 more_apart f b (more.Sub sub size burst) fits = fits
+more_apart f b (more.Limit planned name most) fits = record { check = fits.check; there = fits.there }
 more_apart f b (more.Boot planned line) fits = fits
 more_apart f b (more.Paused job paused) fits = fits
 more_apart f b (more.Job placing spec) fits = record { limits = fits.limits; accepted = fits.accepted; placed = fits.placed }
@@ -65,6 +68,7 @@ more_joined f b more.Nothing fits = fits
 more_joined f b (more.Show name) fits = fits
 more_joined f b (more.Alloc facility tag) fits = fits
 more_joined f b (more.Sub sub size burst) fits = fits
+more_joined f b (more.Limit planned name most) fits = record { check = fits.check; there = fits.there }
 more_joined f b (more.Boot planned line) fits = fits
 more_joined f b (more.Paused job paused) fits = fits
 more_joined f b (more.Job placing spec) fits = record { limits = fits.limits; accepted = fits.accepted; placed = fits.placed }
@@ -86,6 +90,7 @@ refusal_joined f b Opened = refl
 refusal_joined f b (Show name) = refl
 refusal_joined f b (Alloc facility tag) = refl
 refusal_joined f b (Sub line) = refl
+refusal_joined f b (Limit name most) = refl
 refusal_joined f b (Boot line) = refl
 refusal_joined f b (Heard heard) = refl
 refusal_joined f b (Submit spec) = refl
@@ -107,6 +112,7 @@ own_more f moment more.Nothing = refl
 own_more f moment (more.Show name) = refl
 own_more f moment (more.Alloc facility tag) = refl
 own_more f moment (more.Sub sub size burst) = refl
+own_more f moment (more.Limit planned name most) = refl
 own_more f moment (more.Boot planned line) = refl
 own_more f moment (more.Paused job paused) = refl
 own_more f moment (more.Job placing spec) = refl

@@ -4,7 +4,7 @@ use Rattle.farm_types.specs.declared.attempt.DoneItem.{DoneItem}
 use Rattle.farm_types.specs.declared.attempt.ProcRow.{ProcRow}
 use Rattle.farm_types.specs.declared.boot.BootLine.{BootLine}
 use Rattle.farm_types.specs.declared.entry.Act.{Act}
-use Rattle.farm_types.specs.declared.entry.Act.TheVariants.{Opened, Show, Alloc, Sub, Boot, Heard, Submit, AddDepend, DropDepend, Pause, KillJob, KillFrame, EatFrame, RetryFrame, Lock, Tick, Book}
+use Rattle.farm_types.specs.declared.entry.Act.TheVariants.{Opened, Show, Alloc, Sub, Limit, Boot, Heard, Submit, AddDepend, DropDepend, Pause, KillJob, KillFrame, EatFrame, RetryFrame, Lock, Tick, Book}
 use Rattle.farm_types.specs.declared.entry.Entry.{Entry}
 use Rattle.farm_types.specs.declared.entry.FramePlace.{FramePlace}
 use Rattle.farm_types.specs.declared.entry.HeardAct.{HeardAct}
@@ -15,10 +15,10 @@ use Rattle.farm_types.specs.declared.states.FrameState.TheVariants.{Dead, Eaten}
 use Rattle.farm_types.specs.declared.states.LockState.{LockState}
 use Rattle.farm_types.specs.declared.sub_line.SubLine.{SubLine}
 use Rattle.farm_types.specs.DependActs.{pending_named}
-use Rattle.farm_types.specs.Farm.{Farm, alloc_named, changed_at, host_named, show_named}
+use Rattle.farm_types.specs.Farm.{Farm, alloc_named, changed_at, host_named, limit_named, show_named}
 use Rattle.farm_types.specs.Hosts.{heard_row}
 use Rattle.farm_types.specs.Operators.{retried_row, slot_named, stopped_row, with_frame, with_killed, with_paused, with_row_at}
-use Rattle.farm_types.specs.Step.{acted, after_act, after_boot, after_heard, after_lock, after_sub, after_submit, at_moment, end_all, end_attempt, ended_row, expire, is_live, moment_of, new_proc, sub_named, with_proc}
+use Rattle.farm_types.specs.Step.{acted, after_act, after_boot, after_heard, after_limit, after_lock, after_sub, after_submit, at_moment, end_all, end_attempt, ended_row, expire, is_live, moment_of, new_proc, sub_named, with_proc}
 use Rattle.depend_book.specs.Book.{DependLists, joined}
 
 module _ (b : DependLists) where
@@ -29,6 +29,10 @@ module _ (b : DependLists) where
   joined_sub : (f : Farm) (line : SubLine) (o : Option ℕ) → joined (after_sub f line o) b ≡ after_sub (joined f b) line o
   joined_sub f line None = refl
   joined_sub f line (Some sub) = refl
+
+  joined_limit : (f : Farm) (name : List ℕ) (most : ℕ) (o : Option ℕ) → joined (after_limit f name most o) b ≡ after_limit (joined f b) name most o
+  joined_limit f name most None = refl
+  joined_limit f name most (Some limit) = refl
 
   joined_boot : (f : Farm) (line : BootLine) (moment : ℕ) (o : Option ℕ) → joined (after_boot f line moment o) b ≡ after_boot (joined f b) line moment o
   joined_boot f line moment None = refl
@@ -84,6 +88,7 @@ module _ (b : DependLists) where
   joined_act f moment (Show name) = refl
   joined_act f moment (Alloc facility tag) = refl
   joined_act f moment (Sub line) = joined_sub f line (sub_named f line)
+  joined_act f moment (Limit name most) = joined_limit f name most (limit_named f name)
   joined_act f moment (Boot line) = joined_boot (expire f moment) line moment (alloc_named f line.alloc)
   joined_act f moment (Heard heard) = joined_heard (expire f moment) heard moment (host_named f heard.host)
   joined_act f moment (Submit spec) = joined_submit f spec (show_named f spec.show)

@@ -4,7 +4,7 @@ use Rattle.std.specs.List.{IsDistinct}
 use Rattle.std.specs.Prelude.{nat_eq}
 use Rattle.std.proofs.lemmas.List.Elements.{All-nil}
 use Rattle.farm_types.specs.declared.entry.Act.{Act}
-use Rattle.farm_types.specs.declared.entry.Act.TheVariants.{Opened, Show, Alloc, Sub, Boot, Heard, Submit, AddDepend, DropDepend, Pause, KillJob, KillFrame, EatFrame, RetryFrame, Lock, Tick, Book}
+use Rattle.farm_types.specs.declared.entry.Act.TheVariants.{Opened, Show, Alloc, Sub, Limit, Boot, Heard, Submit, AddDepend, DropDepend, Pause, KillJob, KillFrame, EatFrame, RetryFrame, Lock, Tick, Book}
 use Rattle.farm_types.specs.declared.entry.Entry.{Entry}
 use Rattle.farm_types.specs.declared.boot.BootLine.{BootLine}
 use Rattle.farm_types.specs.declared.depend.DependSpec.{DependSpec}
@@ -16,10 +16,10 @@ use Rattle.farm_types.specs.declared.sub_line.SubLine.{SubLine}
 use Rattle.farm_types.specs.Booking.{may_record}
 use Rattle.farm_types.specs.DependActs.{pending_named}
 use Rattle.farm_types.specs.Depends.{is_done}
-use Rattle.farm_types.specs.Farm.{Farm, alloc_named, changed_at, host_named}
+use Rattle.farm_types.specs.Farm.{Farm, alloc_named, changed_at, host_named, limit_named}
 use Rattle.farm_types.specs.Run.{IsSound}
 use Rattle.farm_types.specs.Settle.{with_met}
-use Rattle.farm_types.specs.Step.{HasCondition, act_refusal, acted, after_act, after_boot, after_lock, after_sub, at_moment, booked_row, expire, follow_refusal, followed, moment_of, new_proc, proc_of, sub_named, with_proc}
+use Rattle.farm_types.specs.Step.{HasCondition, act_refusal, acted, after_act, after_boot, after_limit, after_lock, after_sub, at_moment, booked_row, expire, follow_refusal, followed, moment_of, new_proc, proc_of, sub_named, with_proc}
 use Rattle.farm_law.proofs.Booked.{booking_makes}
 use Rattle.farm_law.proofs.CanBook.{can_book}
 use Rattle.farm_law.proofs.KeptRuns.{refusal_later}
@@ -67,6 +67,10 @@ sub_carries : (f : Farm) (line : SubLine) (o : Option ℕ) → CarriesAll f (aft
 sub_carries f line None = all_same f f refl refl refl refl refl refl
 sub_carries f line (Some sub) = all_same f (after_sub f line (Some sub)) refl refl refl refl refl refl
 
+limit_carries : (f : Farm) (name : List ℕ) (most : ℕ) (o : Option ℕ) → CarriesAll f (after_limit f name most o)
+limit_carries f name most None = all_same f (after_limit f name most None) refl refl refl refl refl refl
+limit_carries f name most (Some limit) = all_same f (after_limit f name most (Some limit)) refl refl refl refl refl refl
+
 lock_carries : (f : Farm) (lock : LockState) (o : Option ℕ) → CarriesAll f (after_lock f lock o)
 lock_carries f lock None = all_same f f refl refl refl refl refl refl
 lock_carries f lock (Some host) = all_same f (after_lock f lock (Some host)) refl refl refl refl refl refl
@@ -92,6 +96,7 @@ act_carries f moment Opened quiet accepted allowed ok = all_same f (after_act f 
 act_carries f moment (Show name) quiet accepted allowed ok = all_same f (after_act f moment (Show name)) refl refl refl refl refl refl
 act_carries f moment (Alloc facility tag) quiet accepted allowed ok = all_same f (after_act f moment (Alloc facility tag)) refl refl refl refl refl refl
 act_carries f moment (Sub line) quiet accepted allowed ok = sub_carries f line (sub_named f line)
+act_carries f moment (Limit name most) quiet accepted allowed ok = limit_carries f name most (limit_named f name)
 act_carries f moment (Boot line) quiet accepted allowed ok =
     all_then f (expire f moment) (after_act f moment (Boot line)) (expire_carries f moment ok)
     (boot_carries (expire f moment) line moment (alloc_named f line.alloc) (expire_sound f moment ok))
@@ -132,6 +137,7 @@ says_nothing f g Opened quiet = record { accepted = refl; farm = refl; counts = 
 says_nothing f g (Show name) quiet = record { accepted = refl; farm = refl; counts = tt }
 says_nothing f g (Alloc facility tag) quiet = record { accepted = refl; farm = refl; counts = tt }
 says_nothing f g (Sub line) quiet = record { accepted = refl; farm = refl; counts = tt }
+says_nothing f g (Limit name most) quiet = record { accepted = refl; farm = refl; counts = tt }
 says_nothing f g (Boot line) quiet = record { accepted = refl; farm = refl; counts = tt }
 says_nothing f g (Heard heard) quiet = absurd quiet
 says_nothing f g (Submit spec) quiet = absurd quiet
@@ -190,6 +196,7 @@ quiet_by Opened heard submit add drop kill eat retry = tt
 quiet_by (Show name) heard submit add drop kill eat retry = tt
 quiet_by (Alloc facility tag) heard submit add drop kill eat retry = tt
 quiet_by (Sub line) heard submit add drop kill eat retry = tt
+quiet_by (Limit name most) heard submit add drop kill eat retry = tt
 quiet_by (Boot line) heard submit add drop kill eat retry = tt
 quiet_by (Heard of) heard submit add drop kill eat retry = heard of refl
 quiet_by (Submit spec) heard submit add drop kill eat retry = submit spec refl

@@ -11,8 +11,8 @@ use Rattle.farm_types.specs.declared.slot_row.Frame.{Frame}
 use Rattle.farm_types.specs.declared.slot_row.SlotRow.{SlotRow}
 use Rattle.farm_types.specs.declared.states.FrameState.TheVariants as frame_state
 use Rattle.farm_types.specs.Depends.{is_done_state}
-use Rattle.farm_types.specs.Farm.{Farm, changed_at, for_some, is_placed, layers_of, slot_from}
-use Rattle.farm_types.specs.Kept.{EachOnce, KeepsRows, for_any, is_kept_frame, is_kept_slot, is_setup, layer_in}
+use Rattle.farm_types.specs.Farm.{Farm, changed_at, for_some, is_placed, layers_of, slot_from, for_any, layer_in}
+use Rattle.farm_types.specs.Kept.{EachOnce, KeepsRows, is_kept_frame, is_kept_slot, is_setup}
 use Rattle.farm_types.specs.Operators.{is_left_of, killed_row, stopped_row}
 use Rattle.farm_types.specs.Ranges.{range_numbers}
 use Rattle.farm_types.proofs.ChangedLists.{changed_at_kept}

@@ -63,6 +63,7 @@ layer_formed n name load named =
       numbers_are = sym (range_says n load);
       command = both_true (ascii_utf8 (codes "true") refl) refl;
       tags = refl;
+      limit = refl;
       limits = layer_limits n name load;
     }
 

@@ -42,6 +42,7 @@ load_layer n name =
       cores = 100;
       memory = 3355443;
       tags = codes "general" ∷ [];
+      limit = [];
     }
 
 -- all frames of a layer of the job

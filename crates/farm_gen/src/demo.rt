@@ -119,6 +119,7 @@ fn layer_of(alloc: Global) -> Result<LayerSpec, AllocError>
         cores: Cores(100),
         memory: Kb(3355443),
         tags: Items::from_vec(Vec::from_array(alloc, [Text::from_str(alloc, "general")?])?),
+        limit: Text::from_str(alloc, "")?,
     })
 }
 

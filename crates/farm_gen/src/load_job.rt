@@ -49,6 +49,7 @@ fn load_layer(alloc: Global, n: u32, name: &str) -> Result<LayerSpec, AllocError
         cores: Cores(100),
         memory: Kb(3355443),
         tags: Items::from_vec(Vec::from_array(alloc, [Text::from_str(alloc, "general")?])?),
+        limit: Text::from_str(alloc, "")?,
     })
 }
 

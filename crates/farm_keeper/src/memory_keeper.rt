@@ -132,7 +132,8 @@ impl Keeper for MemoryKeeper {
         ensures taken { OnOk result (HoldsWith batch.now (λ rows. rows ≡ self.old.rows) (λ rows. rows ≡ self.new.rows)) }
         ensures kept { OnErr result (Keeps (λ rows. rows ≡ self.old.rows) (λ rows. rows ≡ self.new.rows)) }
         ensures left_ok { OnOk result (LeavesTaken batch.now (λ rows. rows ≡ self.old.rows) (MayRemain self.new.rows self.new.refused)) }
-        ensures left_err { OnErr result (MayLeave batch.now (λ rows. rows ≡ self.old.rows) (MayRemain self.old.rows self.old.refused) (MayRemain self.new.rows self.new.refused)) }
+        ensures left_err { OnErr result (MayLeave batch.now (λ rows. rows ≡ self.old.rows)
+            (MayRemain self.old.rows self.old.refused) (MayRemain self.new.rows self.new.refused)) }
 
         // exactly what a call answers and leaves
         ensures told { Commits batch.now result self.old self.new }

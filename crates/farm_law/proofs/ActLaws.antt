@@ -17,13 +17,13 @@ use Rattle.farm_law.proofs.Spent.{spent_stays}
 use Rattle.farm_law.proofs.Stopped.{IsStopped, frame_stops, job_stops, retried_stops, row_stops, stops_law}
 use Rattle.farm_types.proofs.Stays.{EachStays-append}
 use Rattle.farm_types.specs.DependActs.{pending_named}
-use Rattle.farm_types.specs.Farm.{Farm, changed_at, host_named, show_named, alloc_named}
+use Rattle.farm_types.specs.Farm.{Farm, changed_at, host_named, limit_named, show_named, alloc_named}
 use Rattle.farm_types.specs.Hosts.{heard_row}
 use Rattle.farm_types.specs.Operators.{retried_row, slot_named, stopped_row, with_frame, with_killed}
 use Rattle.farm_types.specs.Run.{IsSound, HasItsHosts, ActsSafely, counted_by, counted_of, counted_in}
-use Rattle.farm_types.specs.Step.{HasCondition, after_act, after_heard, after_boot, after_sub, sub_named, expire, end_all}
+use Rattle.farm_types.specs.Step.{HasCondition, after_act, after_heard, after_boot, after_limit, after_sub, sub_named, expire, end_all}
 use Rattle.farm_types.specs.declared.entry.Act.{Act}
-use Rattle.farm_types.specs.declared.entry.Act.TheVariants.{Opened, Alloc, Sub, Boot, Heard, Submit, Pause, KillJob, KillFrame, EatFrame, RetryFrame, Lock, Tick, Book}
+use Rattle.farm_types.specs.declared.entry.Act.TheVariants.{Opened, Alloc, Sub, Limit, Boot, Heard, Submit, Pause, KillJob, KillFrame, EatFrame, RetryFrame, Lock, Tick, Book}
 use Rattle.farm_types.specs.declared.entry.FramePlace.{FramePlace}
 use Rattle.farm_types.specs.declared.entry.HeardAct.{HeardAct}
 use Rattle.farm_types.specs.declared.rows.AllocRow.{AllocRow}
@@ -42,6 +42,10 @@ sub_law : (f : Farm) (line : SubLine) (o : Option ℕ) → KeepsLaw f (after_sub
 sub_law f line None = law_same f
 sub_law f line (Some sub) = law_of_same_rows f (after_sub f line (Some sub)) refl refl refl refl
 
+limit_law : (f : Farm) (name : List ℕ) (most : ℕ) (o : Option ℕ) → KeepsLaw f (after_limit f name most o)
+limit_law f name most None = law_of_same_rows f (after_limit f name most None) refl refl refl refl
+limit_law f name most (Some limit) = law_of_same_rows f (after_limit f name most (Some limit)) refl refl refl refl
+
 frame_law : (f : Farm) (p : FramePlace) (change : SlotRow → SlotRow) → ((s : SlotRow) → IsStopped s (change s)) → KeepsLaw f (with_frame f p change)
 frame_law f p change stops = stops_law f (with_frame f p change) (frame_stops change stops f (slot_named f p))
 
@@ -49,6 +53,7 @@ pub act_law : (f : Farm) (moment : ℕ) (act : Act) → HasCondition f act → K
 act_law f moment Opened allowed = opened_law f moment
 act_law f moment (Alloc facility tag) allowed = alloc_law f (record { facility = facility; tag = tag } ∷ [])
 act_law f moment (Sub line) allowed = sub_law f line (sub_named f line)
+act_law f moment (Limit name most) allowed = limit_law f name most (limit_named f name)
 act_law f moment (Boot line) allowed =
     let now = expire f moment in
     law_then f now (after_boot now line moment (alloc_named f line.alloc)) (expire_law f moment) (boot_law now line moment (alloc_named f line.alloc))

@@ -1,26 +1,30 @@
 -- A booking that may be recorded keeps the farm sound.
-use Rattle.std.proofs.Common.{◌≡◌, ℕ, ◌+◌, ◌≤◌, Bool, true, false, cond, eqb, length, Option, Some, None, refl, sym, ap, subst, ◌∙◌, arith, option_map}
+use Rattle.std.proofs.Common.{◌≡◌, ℕ, ◌+◌, ◌≤◌, Bool, true, false, cond, eqb, ltb, length, Option, Some, None, refl, sym, ap, subst, ◌∙◌, arith, option_map}
 use Rattle.std.specs.List.{slice_get, sum_by}
 use Rattle.std.proofs.lemmas.Option.{same_Some, slice_get_within}
-use Rattle.std.proofs.lemmas.Bool.{false≢true, eqb-true, eq-eqb}
+use Rattle.std.proofs.lemmas.Bool.{false≢true, eqb-true, eq-eqb, ltb-true}
 use Rattle.farm_types.specs.declared.attempt.ProcRow.{ProcRow}
 use Rattle.farm_types.specs.declared.rows.HostRow.{HostRow}
+use Rattle.farm_types.specs.declared.rows.LayerRow.{LayerRow}
+use Rattle.farm_types.specs.declared.rows.LimitRow.{LimitRow}
 use Rattle.farm_types.specs.declared.slot_row.SlotRow.{SlotRow}
 use Rattle.farm_types.specs.declared.slot_row.Frame.{Frame}
 use Rattle.farm_types.specs.declared.states.FrameState.{FrameState}
 use Rattle.farm_types.specs.declared.states.FrameState.TheVariants.{Waiting, Setup, Running, Succeeded, Depend, Dead, Eaten}
-use Rattle.farm_types.specs.Farm.{Farm, changed_at, sub_of}
-use Rattle.farm_types.specs.Sums.{used_cores, used_memory, booked_in, cores_on, memory_on, cores_in}
+use Rattle.farm_types.specs.Farm.{Farm, changed_at, for_any, for_some, layer_at, sub_of}
+use Rattle.farm_types.specs.Sums.{used_cores, used_memory, booked_in, cores_on, memory_on, cores_in, running_in}
 use Rattle.farm_types.specs.Booking.{is_waiting, may_record}
-use Rattle.farm_types.specs.Run.{IsSound, HasItsHosts, HasItsAttempt, IsAttemptOf, OnHostOf, BooksSafely, IsWithinBurst, live_at}
+use Rattle.farm_types.specs.Run.{IsSound, HasItsHosts, HasItsAttempt, IsAttemptOf, OnHostOf, BooksSafely, IsWithinBurst, IsWithinLimit, limit_at, live_at}
 use Rattle.farm_types.specs.Step.{booked_row, proc_of, with_proc, new_proc}
 use Rattle.farm_types.proofs.Changed.{changed_at_each, changed_at_sum, changed_at_same}
+use Rattle.farm_types.proofs.Lists.{for_some_true}
 use Rattle.farm_law.proofs.CanBook.{Rows, CanBook, can_book, new_proc_is}
 use Rattle.farm_law.proofs.KeepsLaw.{KeepsLaw}
+use Rattle.farm_law.proofs.RunningInLimits.{frame_weighs, frame_weight, running_booked}
 use Rattle.farm_law.proofs.RowsStay.{SlotStays, slot_same, hosts_same, allocs_same, jobs_same, frame_job}
 use Rattle.farm_types.proofs.Stays.{EachStays-changed_at}
 use Rattle.farm_types.specs.declared.rows.SubRow.{SubRow}
-use Rattle.std.specs.Prelude.{IsSomeAnd, option_and_then}
+use Rattle.std.specs.Prelude.{IfSome, IsSomeAnd, option_and_then}
 
 waiting_has_none : (place version : ℕ) (state : FrameState) (proc : Option ProcRow) → is_waiting state ≡ true → IsAttemptOf place version state proc → proc ≡ None
 waiting_has_none place version Waiting None h a = refl
@@ -142,12 +146,36 @@ module _ (f : Farm) (slot host moment : ℕ) (r : Rows) (can : CanBook f slot ho
       let sum : booked_in (booked f slot host moment r can ok) sub ≡ booked_in f sub + r.layer.cores = rw same at more in
       subst (λ (o : Option SubRow). IsSomeAnd o (λ s. booked_in (booked f slot host moment r can ok) sub ≤ s.burst)) (sym can.sub_is) (omega (arith, sum, can.burst))
 
+  -- the slot's frame runs, and its layer is as it was
+  limit_is : limit_at (booked f slot host moment r can ok) slot ≡ r.layer.limit
+  limit_is =
+      let now = booked f slot host moment r can ok in
+      let of_layer : Option LayerRow → Option ℕ = option_and_then (λ (l : LayerRow). l.limit) in
+      let of_frame : Option Frame → Option ℕ = option_and_then (λ (x : Frame). option_and_then (λ (l : LayerRow). l.limit) (layer_at f x.job x.layer)) in
+      let here = changed_at_same f.slots slot (booked_row (added f slot host moment r can ok)) r.slot can.slot_is in
+      ap (option_and_then (λ (s : SlotRow). option_and_then (λ (x : Frame). option_and_then (λ (l : LayerRow). l.limit) (layer_at f x.job x.layer)) s.frame)) here
+      ∙ (ap (λ (o : Option Frame). of_frame (option_map (λ (x : Frame). record x { state = Running }) o)) can.frame_is ∙ ap of_layer can.layer_is)
+
+  -- a limit of the layer has one more, and is within its most
+  limit_kept : (o : Option ℕ) → r.layer.limit ≡ o → for_any o (λ n. for_some (slice_get f.limits n) (λ row. ltb (running_in f n) row.most)) ≡ true → IfSome o (IsWithinLimit (booked f slot host moment r can ok))
+  limit_kept None is within = tt
+  limit_kept (Some n) is within =
+      let now = booked f slot host moment r can ok in
+      let row = for_some_true (slice_get f.limits n) _ within in
+      let itself : eqb n n ≡ true = eq-eqb n n refl in
+      let weighs : frame_weight f.layers n r.slot.frame ≡ 1 =
+      frame_weighs f.layers n r.slot.frame r.frame (Some r.layer) can.frame_is can.layer_is
+      ∙ (ap (λ (o : Option ℕ). cond (for_some o (λ m. eqb m n)) 1 0) is ∙ ap (λ (b : Bool). cond b 1 0) itself) in
+      let more = running_booked f.layers n f.slots slot (added f slot host moment r can ok) r.slot can.slot_is (had_none f slot host moment r can ok) in
+      subst (λ (o : Option LimitRow). IsSomeAnd o (λ row. running_in now n ≤ row.most)) (sym row.1) (omega (arith, more, weighs, ltb-true (running_in f n) row.0.most row.2))
+
   booked_safely : BooksSafely f (booked f slot host moment r can ok) slot host
   booked_safely =
       record {
         unblocked = can.unblocked;
         attempt = subst (λ (o : Option ProcRow). IsSomeAnd o (λ p. p.host ≡ host)) (sym attempt_is) refl;
         burst = subst (λ (o : Option ProcRow). IsSomeAnd o (λ p. IsWithinBurst (booked f slot host moment r can ok) p.sub)) (sym attempt_is) burst_kept;
+        limit = subst (λ (o : Option ℕ). IfSome o (IsWithinLimit (booked f slot host moment r can ok))) (sym limit_is) (limit_kept r.layer.limit refl can.limit);
       }
 
 pub book_safely : (f : Farm) (slot host moment : ℕ) → may_record f slot host ≡ true → IsSound f → BooksSafely f (with_proc f slot (new_proc f slot host moment)) slot host

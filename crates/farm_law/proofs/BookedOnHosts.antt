@@ -9,8 +9,8 @@ use Rattle.farm_types.specs.declared.attempt.ProcRow.{ProcRow}
 use Rattle.farm_types.specs.declared.limits.TheConstants.{MOST_CORES, MOST_HOSTS}
 use Rattle.farm_types.specs.declared.rows.HostRow.{HostRow}
 use Rattle.farm_types.specs.declared.slot_row.SlotRow.{SlotRow}
-use Rattle.farm_types.specs.Farm.{Farm}
-use Rattle.farm_types.specs.Kept.{KeepsRows, for_any, is_formed_host, is_on_host}
+use Rattle.farm_types.specs.Farm.{Farm, for_any}
+use Rattle.farm_types.specs.Kept.{KeepsRows, is_formed_host, is_on_host}
 use Rattle.farm_types.specs.Run.{IsSound}
 use Rattle.farm_types.specs.Sums.{booked_in, cores_in, cores_on}
 use Rattle.farm_types.proofs.Changed.{places}

@@ -11,7 +11,7 @@ use Rattle.farm_types.specs.declared.slot_row.Frame.{Frame}
 use Rattle.farm_types.specs.Farm.{Farm, sub_at, job_at, layer_at, sub_of}
 use Rattle.farm_types.specs.Sums.{used_cores, used_memory, booked_in}
 use Rattle.farm_types.specs.Depends.{is_open}
-use Rattle.farm_types.specs.Booking.{is_waiting, is_ready, is_pending, is_up, in_facility, takes_frames, has_capacity, within_burst, may_record}
+use Rattle.farm_types.specs.Booking.{is_waiting, is_ready, is_pending, is_up, in_facility, takes_frames, has_capacity, within_burst, within_limit, may_record}
 use Rattle.farm_types.specs.Step.{new_proc, proc_of}
 use Rattle.farm_types.proofs.Lists.{and_both, for_some_true}
 use Rattle.farm_types.specs.declared.limits.TheConstants.{LAST_VERSION}
@@ -40,6 +40,7 @@ pub record CanBook (f : Farm) (slot host : ℕ) (r : Rows) : Type 0 where
   pub cores : used_cores f host + r.layer.cores ≤ r.host.cores
   pub memory : used_memory f host + r.layer.memory ≤ r.host.memory
   pub burst : booked_in f (sub_of r.job.show r.host.alloc) + r.layer.cores ≤ r.sub.burst
+  pub limit : within_limit f r.layer ≡ true
   pub facility : in_facility f r.host.alloc r.job.facility ≡ true
   pub up : is_up r.host.state ≡ true
 
@@ -51,7 +52,8 @@ can_book f slot host h0 =
     let layer = for_some_true (layer_at f frame.0.job frame.0.layer) _ job.2 in
     let host_row = for_some_true (slice_get f.hosts host) _ layer.2 in
     let place = host_row.2 in
-    let h5 = and_both _ (within_burst f (sub_of job.0.show host_row.0.alloc) layer.0) place in
+    let h6 = and_both _ (within_limit f layer.0) place in
+    let h5 = and_both _ (within_burst f (sub_of job.0.show host_row.0.alloc) layer.0) h6.0 in
     let h4 = and_both _ (has_capacity f host host_row.0 layer.0) h5.0 in
     let h3 = and_both _ (takes_frames host_row.0) h4.0 in
     let h2 = and_both _ (in_facility f host_row.0.alloc job.0.facility) h3.0 in
@@ -76,6 +78,7 @@ can_book f slot host h0 =
         cores = leb-true _ _ fits.0;
         memory = leb-true _ _ fits.1;
         burst = leb-true _ _ sub.2;
+        limit = h6.1;
         facility = h2.1;
         up = (and_both (is_up host_row.0.state) _ h3.1).0;
       },

@@ -27,6 +27,7 @@ layer_formed =
       numbers_are = sym demo_range;
       command = both_true (ascii_utf8 (codes "echo #IFRAME#") refl) refl;
       tags = refl;
+      limit = refl;
       limits =
           record {
             some = omega arith;

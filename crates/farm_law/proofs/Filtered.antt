@@ -41,6 +41,16 @@ module _ {X : Type 0} where
   found_kept test keep (y ∷ ys) x at here =
       found_step test keep (test y) (keep y) y x ys (filter keep ys) refl refl here (λ later. found_kept test keep ys x later here) at
 
+  find_step : (test keep : X → Bool) (b c : Bool) (y : X) (ys kept : List X) → test y ≡ b → keep y ≡ c → (test y ≡ true → keep y ≡ true) → find test kept ≡ find test ys → find test (cond c (y ∷ kept) kept) ≡ cond b (Some y) (find test ys)
+  find_step test keep b true y ys kept is stays less later = ap (λ (v : Bool). cond v (Some y) (find test kept)) is ∙ ap (cond b (Some y)) later
+  find_step test keep true false y ys kept is stays less later = absurd (false≢true (sym stays ∙ less is))
+  find_step test keep false false y ys kept is stays less later = later
+
+  -- where all stay that are looked for, the same is found
+  pub find_kept : (test keep : X → Bool) → ((x : X) → test x ≡ true → keep x ≡ true) → (xs : List X) → find test (filter keep xs) ≡ find test xs
+  find_kept test keep less [] = refl
+  find_kept test keep less (y ∷ ys) = find_step test keep (test y) (keep y) y ys (filter keep ys) refl refl (less y) (find_kept test keep less ys)
+
   at_step : (keep : X → Bool) (b : Bool) (y x : X) (ys kept : List X) (n : ℕ) → keep y ≡ b → ((m : ℕ) → slice_get kept m ≡ Some x → (k : ℕ) × (slice_get ys k ≡ Some x) × (keep x ≡ true)) → slice_get (cond b (y ∷ kept) kept) n ≡ Some x
       → (k : ℕ) × (slice_get (y ∷ ys) k ≡ Some x) × (keep x ≡ true)
   at_step keep true y x ys kept zero is later at = (0, at, subst (λ (z : X). keep z ≡ true) (same_Some y x at) is)

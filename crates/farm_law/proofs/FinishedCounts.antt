@@ -11,9 +11,9 @@ use Rattle.farm_types.specs.declared.slot_row.SlotRow.{SlotRow}
 use Rattle.farm_types.specs.declared.states.FrameState.{FrameState}
 use Rattle.farm_types.specs.declared.states.FrameState.TheVariants.{Waiting, Setup, Running, Succeeded, Depend, Dead, Eaten}
 use Rattle.farm_types.specs.Depends.{is_done_state}
-use Rattle.farm_types.specs.Farm.{for_some, is_placed, layers_of}
+use Rattle.farm_types.specs.Farm.{for_some, is_placed, layers_of, for_any, layer_in}
 use Rattle.farm_types.specs.Finish.{count_where, has_succeeded, is_frame_of, was_eaten}
-use Rattle.farm_types.specs.Kept.{AreAtPlaces, EachOnce, EachThere, for_any, frames_said, is_kept_frame, is_kept_slot, layer_in}
+use Rattle.farm_types.specs.Kept.{AreAtPlaces, EachOnce, EachThere, frames_said, is_kept_frame, is_kept_slot}
 use Rattle.farm_types.specs.Operators.{is_left_of}
 use Rattle.farm_types.specs.Ranges.{range_numbers}
 use Rattle.farm_types.proofs.Lists.{and_both, for_some_true, list_all-at}
@@ -22,6 +22,7 @@ use Rattle.farm_law.proofs.Filtered.{at_kept}
 use Rattle.farm_law.proofs.KeptJobsCounts.{StandsAt, at_stands, count_at, count_from_once, counts_frame, stands_at, there_counts}
 use Rattle.farm_law.proofs.KeptJobsLists.{any_fails}
 use Rattle.farm_law.proofs.KeptJobsRows.{frame_kept}
+use Rattle.farm_law.proofs.KeptJobsZip.{sum_alike}
 
 -- ---- lists
 
@@ -31,11 +32,6 @@ module _ {X : Type 0} where
   sum_both first second both [] each = refl
   sum_both first second both (x ∷ xs) each =
       omega (arith, sum_by-cons first x xs, sum_by-cons second x xs, sum_by-cons both x xs, each 0 x refl, sum_both first second both xs (λ i y at. each (suc i) y at))
-
-  -- two weights that are alike
-  sum_alike : (weight other : X → ℕ) (xs : List X) → ((i : ℕ) (x : X) → slice_get xs i ≡ Some x → weight x ≡ other x) → sum_by weight xs ≡ sum_by other xs
-  sum_alike weight other [] each = refl
-  sum_alike weight other (x ∷ xs) each = omega (arith, sum_by-cons weight x xs, sum_by-cons other x xs, each 0 x refl, sum_alike weight other xs (λ i y at. each (suc i) y at))
 
   -- what is found among the items that pass
   find_within : (keep test : X → Bool) (xs : List X) → find test (filter keep xs) ≡ find (λ x. keep x && test x) xs

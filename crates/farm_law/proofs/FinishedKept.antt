@@ -7,13 +7,14 @@ use Rattle.std.proofs.lemmas.Option.{none-some, same_Some}
 use Rattle.farm_types.specs.declared.entry.Act.{Act}
 use Rattle.farm_types.specs.declared.entry.Act.TheVariants.{EatFrame, Heard, KillJob}
 use Rattle.farm_types.specs.declared.rows.JobRow.{JobRow}
+use Rattle.farm_types.specs.declared.rows.LayerRow.{LayerRow}
 use Rattle.farm_types.specs.declared.slot_row.Frame.{Frame}
 use Rattle.farm_types.specs.declared.slot_row.SlotRow.{SlotRow}
 use Rattle.farm_types.specs.Booking.{is_pending}
 use Rattle.farm_types.specs.Depends.{is_done_state}
-use Rattle.farm_types.specs.Farm.{Farm, for_some}
+use Rattle.farm_types.specs.Farm.{Farm, for_some, for_any}
 use Rattle.farm_types.specs.Finish.{finishes, freed_row, is_frame_of}
-use Rattle.farm_types.specs.Kept.{KeepsRows, KeepsWork, for_any, is_of_pending, is_pending_job}
+use Rattle.farm_types.specs.Kept.{KeepsRows, KeepsWork, is_of_pending, is_pending_job}
 use Rattle.farm_types.specs.Operators.{is_left_of}
 use Rattle.farm_types.specs.Rising.{IsRising, job_key}
 use Rattle.farm_types.specs.Step.{closed, finish_all, finish_each, finish_one, finishing, lists_of}
@@ -27,6 +28,7 @@ use Rattle.farm_law.proofs.FinishedJobs.{still_found}
 use Rattle.farm_law.proofs.FinishedRows.{frame_other, jobs_finished, layer_stays, pending_still, pending_was}
 use Rattle.farm_law.proofs.KeptAttempts.{Fits, FrameStays, attempts_from_each, each_fits, frames_owned, none_fits, slot_fits}
 use Rattle.farm_law.proofs.KeptChanges.{kept_hosts}
+use Rattle.farm_law.proofs.KeptLimits.{limits_fewer}
 use Rattle.farm_law.proofs.KeptServes.{hosts_serve}
 use Rattle.farm_law.proofs.RowsStay.{hosts_same}
 use Rattle.farm_law.specs.Ending.{Ends}
@@ -80,6 +82,7 @@ module _ (job : ℕ) (f : Farm) (k : KeepsRows f) where
         shows = k.shows;
         allocs = k.allocs;
         subs = k.subs;
+        limits = limits_fewer f.limits f.layers (λ (l : LayerRow). not (eqb l.job job)) k.limits;
         hosts = k.hosts;
         jobs = jobs_finished job (lists_of f) (length f.shows) ends.0 k.jobs ends.1;
         attempts = attempts_from_each now (mapped_each (λ i t. Fits now t) f.slots (freed_row job) (λ i s at. fits_step i s (is_frame_of job s) refl at));

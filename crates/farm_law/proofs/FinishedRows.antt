@@ -12,10 +12,10 @@ use Rattle.farm_types.specs.declared.rows.JobRow.{JobRow}
 use Rattle.farm_types.specs.declared.rows.LayerRow.{LayerRow}
 use Rattle.farm_types.specs.declared.slot_row.Frame.{Frame}
 use Rattle.farm_types.specs.declared.slot_row.SlotRow.{SlotRow}
-use Rattle.farm_types.specs.Farm.{for_some, is_placed, layers_of}
+use Rattle.farm_types.specs.Farm.{for_some, is_placed, layers_of, for_any, layer_in}
 use Rattle.farm_types.specs.Finish.{count_where, cut_finished, finished_row, freed_row, has_succeeded, is_frame_of, was_eaten, with_finished}
 use Rattle.farm_types.specs.Jobs.{JobLists}
-use Rattle.farm_types.specs.Kept.{AllDiffer, EachOnce, EachThere, EndsUsed, HasItsLayers, KeepsJobs, for_any, has_its_counts, has_its_finish, is_formed_job, is_formed_layer, is_kept_frame, is_kept_slot, is_of_pending, is_pending_job, is_used, job_label, layer_in}
+use Rattle.farm_types.specs.Kept.{AllDiffer, EachOnce, EachThere, EndsUsed, HasItsLayers, KeepsJobs, has_its_counts, has_its_finish, is_formed_job, is_formed_layer, is_kept_frame, is_kept_slot, is_of_pending, is_pending_job, is_used, job_label}
 use Rattle.farm_types.specs.Operators.{is_left_of}
 use Rattle.farm_types.specs.Rising.{IsRising, job_key, layer_key}
 use Rattle.farm_types.specs.Settle.{raised}

@@ -2,28 +2,30 @@
 --
 -- Each act has its clause in `kept_act`. In its record a field is the fact of the farm before where the act leaves the rows as they are that the
 -- field speaks of, and else one lemma; `sound` is that of the act's law (`ActLaws`).
-use Rattle.std.proofs.Common.{◌≡◌, ◌<◌, ◌≤◌, ℕ, [], ◌∷◌, true, length, Option, Some, None, refl, sym, subst, arith, option_map}
+use Rattle.std.proofs.Common.{◌≡◌, ◌<◌, ◌≤◌, ℕ, List, [], ◌∷◌, true, length, Option, Some, None, refl, sym, subst, arith, option_map}
 use Rattle.std.proofs.lemmas.List.{length-append}
 use Rattle.std.proofs.lemmas.Option.{option_and_then_some}
 use Rattle.farm_types.proofs.Passes.{option_map-from}
 use Rattle.farm_types.specs.Booking.{may_record}
 use Rattle.farm_types.specs.declared.entry.Act.{Act}
-use Rattle.farm_types.specs.declared.entry.Act.TheVariants.{Opened, Show, Alloc, Sub, Boot, Heard, Submit, AddDepend, DropDepend, Pause, KillJob, KillFrame, EatFrame, RetryFrame, Lock, Tick, Book}
+use Rattle.farm_types.specs.declared.entry.Act.TheVariants.{Opened, Show, Alloc, Sub, Limit, Boot, Heard, Submit, AddDepend, DropDepend, Pause, KillJob, KillFrame, EatFrame, RetryFrame, Lock, Tick, Book}
 use Rattle.farm_types.specs.declared.entry.FramePlace.{FramePlace}
 use Rattle.farm_types.specs.declared.job.JobSpec.{JobSpec}
+use Rattle.farm_types.specs.declared.limits.TheConstants.{MOST_RUNNING}
 use Rattle.farm_types.specs.declared.slot_row.SlotRow.{SlotRow}
 use Rattle.farm_types.specs.declared.states.FrameState.TheVariants.{Dead, Eaten}
 use Rattle.farm_types.specs.declared.states.LockState.{LockState}
 use Rattle.farm_types.specs.declared.sub_line.SubLine.{SubLine}
 use Rattle.farm_types.specs.DependActs.{pending_named}
-use Rattle.farm_types.specs.Farm.{Farm, alloc_named, changed_at, has_facility, host_named, show_named, sub_of}
+use Rattle.farm_types.specs.Farm.{Farm, alloc_named, changed_at, has_facility, host_named, limit_named, show_named, sub_of}
 use Rattle.farm_types.specs.Formed.{IsFormedAct, IsFormedJob}
+use Rattle.farm_types.specs.Forms.{is_name_text}
 use Rattle.farm_types.specs.Hosts.{locked_row, reopened_row}
-use Rattle.farm_types.specs.Jobs.{frames_of, job_refusal, layer_rows}
+use Rattle.farm_types.specs.Jobs.{frames_of, layer_rows}
 use Rattle.farm_types.specs.Kept.{KeepsRows, KeepsJobs, alloc_label, show_label}
 use Rattle.farm_types.specs.Limits.{SubKeepsLimits}
 use Rattle.farm_types.specs.Operators.{retried_row, slot_named, stopped_row, with_frame, with_killed}
-use Rattle.farm_types.specs.Step.{HasCondition, act_refusal, after_act, after_lock, after_sub, after_submit, booked_row, expire, lists_of, new_proc, proc_of, sub_named, sub_row, submit_refusal, with_proc}
+use Rattle.farm_types.specs.Step.{HasCondition, act_refusal, after_act, after_limit, after_lock, after_sub, after_submit, booked_row, expire, limit_refusal, limits_of, limits_refusal, lists_of, new_proc, proc_of, sub_named, sub_row, submit_refusal, unknown_limit, with_proc}
 use Rattle.farm_law.proofs.ActLaws.{act_law}
 use Rattle.farm_law.proofs.Booked.{book_law, booking_makes}
 use Rattle.farm_law.proofs.CanBook.{can_book}
@@ -34,6 +36,7 @@ use Rattle.farm_law.proofs.KeptBooked.{attempts_booked}
 use Rattle.farm_law.proofs.KeptChanges.{kept_boot, kept_expire, kept_report, named_by, sound_by}
 use Rattle.farm_law.proofs.KeptHosts.{hosts_changed, hosts_mapped, hosts_more_allocs, keeps_locked, keeps_reopened}
 use Rattle.farm_law.proofs.KeptJobs.{jobs_booked, jobs_more_shows, jobs_submitted}
+use Rattle.farm_law.proofs.KeptLimits.{limits_known, limits_more, limits_set, limits_submitted}
 use Rattle.farm_law.proofs.KeptNames.{accepted_by, named_within}
 use Rattle.farm_law.proofs.KeptPaused.{kept_pause}
 use Rattle.farm_law.proofs.KeptServes.{layers_more, left_same, left_placed, locked_serve, reopened_serve}
@@ -55,6 +58,7 @@ subscribed f line show alloc of_show of_alloc limits k =
       shows = k.shows;
       allocs = k.allocs;
       subs = subs_set f.subs line show alloc (length f.shows) (length f.allocs) limits k.shows.count k.allocs.count of_show of_alloc k.subs;
+      limits = k.limits;
       hosts = k.hosts;
       jobs = k.jobs;
       attempts = attempts_left f g (record { rows = law.rows; layers = λ job place l at. at; subs = subs_stay row f.subs; moment = omega arith }) (left_same f) k;
@@ -75,17 +79,50 @@ kept_submit f spec None is accepted formed k = k
 kept_submit f spec (Some show) is accepted formed k =
     let g = after_submit f spec (Some show) in
     let law = submit_law f spec (Some show) in
-    let taken = accepted_by (has_facility f spec.facility) (job_refusal (lists_of f) spec) _ accepted in
+    let numbers = limits_of f.limits spec.layers in
+    let unknown = unknown_limit f.limits spec.layers in
+    let taken = (limits_known f spec unknown (accepted_by (has_facility f spec.facility) (limits_refusal f spec unknown) _ accepted)).1 in
     record {
       moment_within = k.moment_within;
       shows = k.shows;
       allocs = k.allocs;
       subs = k.subs;
+      limits = limits_submitted f.limits f.layers f.next_job spec.layers k.limits;
       hosts = k.hosts;
-      jobs = jobs_submitted (lists_of f) spec show (length f.shows) formed taken (named_within show_label spec.show f.shows show is) k.jobs;
+      jobs = jobs_submitted (lists_of f) numbers spec show (length f.shows) formed taken (named_within show_label spec.show f.shows show is) k.jobs;
       attempts =
-          attempts_left f g (record { rows = law.rows; layers = layers_more f.layers (layer_rows f.next_job 0 spec.layers); subs = λ n there. there; moment = omega arith })
+          attempts_left f g (record { rows = law.rows; layers = layers_more f.layers (layer_rows f.next_job numbers 0 spec.layers); subs = λ n there. there; moment = omega arith })
           (left_placed f (frames_of f.next_job 0 spec.layers) (job_waits f.next_job 0 spec.layers) k.sound) k;
+      sound = sound_by f g law k;
+    }
+
+kept_limit : (f : Farm) (name : List ℕ) (most : ℕ) (o : Option ℕ) → limit_named f name ≡ o → limit_refusal f o ≡ None → is_name_text name ≡ true → most ≤ MOST_RUNNING → KeepsRows f → KeepsRows (after_limit f name most o)
+kept_limit f name most None is accepted formed within k =
+    let g = after_limit f name most None in
+    let law = law_of_same_rows f g refl refl refl refl in
+    record {
+      moment_within = k.moment_within;
+      shows = k.shows;
+      allocs = k.allocs;
+      subs = k.subs;
+      limits = limits_more f.limits f.layers name most is accepted formed within k.limits;
+      hosts = k.hosts;
+      jobs = k.jobs;
+      attempts = attempts_left f g (named_by f g law.rows refl refl refl) (left_same f) k;
+      sound = sound_by f g law k;
+    }
+kept_limit f name most (Some limit) is accepted formed within k =
+    let g = after_limit f name most (Some limit) in
+    let law = law_of_same_rows f g refl refl refl refl in
+    record {
+      moment_within = k.moment_within;
+      shows = k.shows;
+      allocs = k.allocs;
+      subs = k.subs;
+      limits = limits_set f.limits f.layers limit most within k.limits;
+      hosts = k.hosts;
+      jobs = k.jobs;
+      attempts = attempts_left f g (named_by f g law.rows refl refl refl) (left_same f) k;
       sound = sound_by f g law k;
     }
 
@@ -99,6 +136,7 @@ kept_lock f lock (Some host) k =
       shows = k.shows;
       allocs = k.allocs;
       subs = k.subs;
+      limits = k.limits;
       hosts = hosts_changed f.hosts (length f.allocs) f.moment host (locked_row lock) (λ row at. keeps_locked lock f.moment row) k.hosts;
       jobs = k.jobs;
       attempts = attempts_left f g (named_by f g law.rows refl refl refl) (left_all f.hosts g.hosts f.slots (locked_serve f.hosts lock host)) k;
@@ -125,6 +163,7 @@ kept_book f slot host moment allowed now k =
       shows = k.shows;
       allocs = k.allocs;
       subs = k.subs;
+      limits = k.limits;
       hosts = k.hosts;
       jobs = subst (λ (h : Farm). KeepsJobs (lists_of h) (length f.shows)) makes (jobs_booked f slot host moment (length f.shows) allowed k.jobs);
       attempts = attempts_booked f slot host moment r can (named_by f g law.rows refl refl refl) now k;
@@ -142,6 +181,7 @@ kept_act f moment Opened formed accepted allowed now k =
       shows = k.shows;
       allocs = k.allocs;
       subs = k.subs;
+      limits = k.limits;
       hosts = hosts_mapped f.hosts (length f.allocs) f.moment (reopened_row moment) (keeps_reopened moment f.moment now) k.hosts;
       jobs = k.jobs;
       attempts = attempts_left f g (named_by f g law.rows refl refl refl) (left_all f.hosts g.hosts f.slots (reopened_serve f.hosts moment)) k;
@@ -156,6 +196,7 @@ kept_act f moment (Show name) formed accepted allowed now k =
       shows = shows_more f.shows name formed accepted k.shows;
       allocs = k.allocs;
       subs = subs_more f.subs (length f.shows) (length f.allocs) (length g.shows) (length f.allocs) more (omega arith) k.subs;
+      limits = k.limits;
       hosts = k.hosts;
       jobs = jobs_more_shows (lists_of f) (length f.shows) (length g.shows) more k.jobs;
       attempts = attempts_left f g (named_by f g law.rows refl refl refl) (left_same f) k;
@@ -170,12 +211,14 @@ kept_act f moment (Alloc facility tag) formed accepted allowed now k =
       shows = k.shows;
       allocs = allocs_more f.allocs facility tag formed.0 formed.1 accepted k.allocs;
       subs = subs_more f.subs (length f.shows) (length f.allocs) (length f.shows) (length g.allocs) (omega arith) more k.subs;
+      limits = k.limits;
       hosts = hosts_more_allocs f.hosts (length f.allocs) (length g.allocs) f.moment more k.hosts;
       jobs = k.jobs;
       attempts = attempts_left f g (named_by f g law.rows refl refl refl) (left_same f) k;
       sound = sound_by f g law k;
     }
 kept_act f moment (Sub line) formed accepted allowed now k = kept_sub f line (sub_named f line) refl formed.limits k
+kept_act f moment (Limit name most) formed accepted allowed now k = kept_limit f name most (limit_named f name) refl accepted formed.0 formed.1 k
 kept_act f moment (Boot line) formed accepted allowed now k = kept_boot f line moment (alloc_named f line.alloc) refl accepted formed now k
 kept_act f moment (Heard heard) formed accepted allowed now k = kept_report (expire f moment) heard moment (host_named f heard.host) formed now (kept_expire f moment k)
 kept_act f moment (Submit spec) formed accepted allowed now k = kept_submit f spec (show_named f spec.show) refl accepted formed k

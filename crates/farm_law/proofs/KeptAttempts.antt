@@ -16,8 +16,8 @@ use Rattle.farm_types.specs.declared.rows.JobRow.{JobRow}
 use Rattle.farm_types.specs.declared.rows.LayerRow.{LayerRow}
 use Rattle.farm_types.specs.declared.slot_row.Frame.{Frame}
 use Rattle.farm_types.specs.declared.slot_row.SlotRow.{SlotRow}
-use Rattle.farm_types.specs.Farm.{Farm, for_some, sub_of}
-use Rattle.farm_types.specs.Kept.{KeepsAttempts, KeepsRows, is_kept_frame, is_kept_slot, is_of_pending, is_pending_job, for_any, for_both, has_amounts, has_sub, is_on_host, is_subscribed, layer_in}
+use Rattle.farm_types.specs.Farm.{Farm, for_some, sub_of, for_any, layer_in}
+use Rattle.farm_types.specs.Kept.{KeepsAttempts, KeepsRows, is_kept_frame, is_kept_slot, is_of_pending, is_pending_job, for_both, has_amounts, has_sub, is_on_host, is_subscribed}
 use Rattle.farm_types.specs.Lost.{lose_on, lost_row, runs_on}
 use Rattle.farm_law.proofs.KeptJobsRows.{frame_kept}
 use Rattle.farm_law.proofs.KeptLists.{at_more}

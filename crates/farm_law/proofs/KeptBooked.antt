@@ -11,8 +11,8 @@ use Rattle.farm_types.specs.declared.attempt.ProcRow.{ProcRow}
 use Rattle.farm_types.specs.declared.slot_row.Frame.{Frame}
 use Rattle.farm_types.specs.declared.slot_row.SlotRow.{SlotRow}
 use Rattle.farm_types.specs.declared.states.FrameState.TheVariants.{Running}
-use Rattle.farm_types.specs.Farm.{Farm, changed_at, job_at, layer_at, sub_of}
-use Rattle.farm_types.specs.Kept.{KeepsAttempts, KeepsRows, for_any, has_amounts, has_sub}
+use Rattle.farm_types.specs.Farm.{Farm, changed_at, job_at, layer_at, sub_of, for_any}
+use Rattle.farm_types.specs.Kept.{KeepsAttempts, KeepsRows, has_amounts, has_sub}
 use Rattle.farm_types.specs.Step.{booked_row, proc_of}
 use Rattle.farm_law.proofs.CanBook.{CanBook, Rows}
 use Rattle.farm_law.proofs.KeptAttempts.{Fits, NamedStay, attempts_from_each, each_fits, frames_owned, stays_fit}

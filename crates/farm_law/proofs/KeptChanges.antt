@@ -9,10 +9,10 @@ use Rattle.farm_types.specs.declared.boot.BootLine.{BootLine}
 use Rattle.farm_types.specs.declared.entry.HeardAct.{HeardAct}
 use Rattle.farm_types.specs.declared.rows.HostRow.{HostRow}
 use Rattle.farm_types.specs.declared.slot_row.SlotRow.{SlotRow}
-use Rattle.farm_types.specs.Farm.{Farm, alloc_named, changed_at, host_named}
+use Rattle.farm_types.specs.Farm.{Farm, alloc_named, changed_at, host_named, for_any}
 use Rattle.farm_types.specs.Formed.{IsFormedBoot, IsFormedHeard}
 use Rattle.farm_types.specs.Hosts.{heard_row, silenced, silenced_row}
-use Rattle.farm_types.specs.Kept.{KeepsRows, KeepsJobs, alloc_label, for_any, is_on_host}
+use Rattle.farm_types.specs.Kept.{KeepsRows, KeepsJobs, alloc_label, is_on_host}
 use Rattle.farm_types.specs.Run.{HasItsHosts, IsSound, OnHostOf}
 use Rattle.farm_types.specs.Step.{after_boot, after_heard, at_moment, boot_refusal, end_all, end_attempt, ended_row, expire, is_live, is_silent, lists_of}
 use Rattle.farm_law.proofs.Booted.{boot_law, boot_slots}
@@ -65,6 +65,7 @@ kept_later f moment rises within k =
       shows = k.shows;
       allocs = k.allocs;
       subs = k.subs;
+      limits = k.limits;
       hosts = hosts_later f.hosts (length f.allocs) f.moment moment rises k.hosts;
       jobs = k.jobs;
       attempts = attempts_left f (at_moment f moment) (record { rows = law.rows; layers = λ job place l at. at; subs = λ n there. there; moment = rises }) (left_same f) k;
@@ -81,6 +82,7 @@ kept_expire f moment k =
       shows = k.shows;
       allocs = k.allocs;
       subs = k.subs;
+      limits = k.limits;
       hosts = hosts_mapped f.hosts (length f.allocs) f.moment (silenced_row moment) (keeps_silenced moment f.moment) k.hosts;
       jobs = jobs_lost (lists_of f) (is_silent f moment) (length f.shows) k.jobs;
       attempts = attempts_left f (expire f moment) (named_by f (expire f moment) law.rows refl refl refl) (left_expired f moment) k;
@@ -100,6 +102,7 @@ kept_booted f line moment alloc formed room there now k =
       shows = k.shows;
       allocs = k.allocs;
       subs = k.subs;
+      limits = k.limits;
       hosts = hosts_booted f.hosts (length f.allocs) moment f.moment line alloc host refl room formed there now k.hosts;
       jobs = boot_slots (λ slots. KeepsJobs (record { jobs = f.jobs; layers = f.layers; slots = slots; next_job = f.next_job; next_finish = f.next_finish }) (length f.shows)) f line host k.jobs (λ n. jobs_lost (lists_of f) (λ m. eqb m n) (length f.shows) k.jobs);
       attempts = attempts_left f g (named_by f g law.rows refl refl refl) (left_booted f line moment alloc host) k;
@@ -127,6 +130,7 @@ kept_heard f host seq moment within now k =
       shows = k.shows;
       allocs = k.allocs;
       subs = k.subs;
+      limits = k.limits;
       hosts = hosts_changed f.hosts (length f.allocs) f.moment host (heard_row seq moment) (λ row at. keeps_heard seq moment f.moment within now row) k.hosts;
       jobs = k.jobs;
       attempts = attempts_left f g (named_by f g law.rows refl refl refl) (left_all f.hosts g.hosts f.slots (heard_serve f.hosts seq moment host)) k;
@@ -143,6 +147,7 @@ end_by f d true jobs k =
       shows = k.shows;
       allocs = k.allocs;
       subs = k.subs;
+      limits = k.limits;
       hosts = k.hosts;
       jobs = jobs;
       attempts = attempts_left f g (named_by f g law.rows refl refl refl) (left_ended f.hosts f.slots d.attempt.slot (ended_row f d.exit) (λ s. refl)) k;

@@ -50,6 +50,7 @@ kept_empty =
       shows = record { count = omega arith; differ = names_none; formed = refl };
       allocs = record { count = omega arith; differ = names_none; formed = refl };
       subs = record { rise = omega arith; each = refl };
+      limits = record { count = omega arith; differ = names_none; formed = refl; there = refl };
       hosts = record { count = omega arith; differ = names_none; formed = refl; allocated = refl; heard = refl };
       jobs = jobs_none;
       attempts = record { hosted = refl; measured = refl; billed = refl; subscribed = refl; since = refl; versioned = refl };

@@ -1,5 +1,5 @@
 -- What the farm keeps of its jobs stays along each act.
-use Rattle.std.proofs.Common.{◌≡◌, ℕ, ◌+◌, ◌≤◌, ◌<◌, Bool, true, cond, List, [], ◌∷◌, None, sym, ap, subst, ◌∙◌}
+use Rattle.std.proofs.Common.{◌≡◌, ℕ, ◌+◌, ◌≤◌, ◌<◌, Bool, true, cond, List, [], ◌∷◌, Option, None, sym, ap, subst, ◌∙◌}
 use Rattle.std.proofs.lemmas.Option.{same_Some}
 use Rattle.farm_types.specs.declared.attempt.DoneItem.{DoneItem}
 use Rattle.farm_types.specs.declared.job.JobSpec.{JobSpec}
@@ -83,5 +83,5 @@ jobs_booked f slot host moment shows allowed kept =
     kept)
 
 -- a submitted job
-pub jobs_submitted : (b : JobLists) (spec : JobSpec) (show shows : ℕ) → IsFormedJob spec → job_refusal b spec ≡ None → show < shows → KeepsJobs b shows → KeepsJobs (with_job b show spec) shows
-jobs_submitted b spec show shows formed none shown kept = submitted b spec show shows formed (accepted b spec none) kept shown
+pub jobs_submitted : (b : JobLists) (limits : List (Option ℕ)) (spec : JobSpec) (show shows : ℕ) → IsFormedJob spec → job_refusal b spec ≡ None → show < shows → KeepsJobs b shows → KeepsJobs (with_job b show limits spec) shows
+jobs_submitted b limits spec show shows formed none shown kept = submitted b limits spec show shows formed (accepted b spec none) kept shown

@@ -16,10 +16,10 @@ use Rattle.farm_types.specs.declared.rows.LayerRow.{LayerRow}
 use Rattle.farm_types.specs.declared.slot_row.Frame.{Frame}
 use Rattle.farm_types.specs.declared.slot_row.SlotRow.{SlotRow}
 use Rattle.farm_types.specs.declared.limits.TheConstants.{LAST_JOB, LAST_VERSION, MOST_LAYERS}
-use Rattle.farm_types.specs.Farm.{for_some, is_placed, layers_of}
+use Rattle.farm_types.specs.Farm.{for_some, is_placed, layers_of, for_any, layer_in}
 use Rattle.farm_types.specs.Formed.{IsFormedJob}
 use Rattle.farm_types.specs.Jobs.{JobLists, frames_in, free_in, is_finished_named, is_pending_named, job_refusal, job_row, layer_rows, layers_refusal, repeated_name, room_refusal, without_finished}
-use Rattle.farm_types.specs.Kept.{AllDiffer, AreAtPlaces, HasItsLayers, for_any, frames_said, is_formed_job, is_kept_frame, is_kept_slot, is_of_pending, is_pending_job, job_label, layer_in, layer_label}
+use Rattle.farm_types.specs.Kept.{AllDiffer, AreAtPlaces, HasItsLayers, frames_said, is_formed_job, is_kept_frame, is_kept_slot, is_of_pending, is_pending_job, job_label, layer_label}
 use Rattle.farm_types.specs.Ranges.{range_numbers}
 use Rattle.farm_types.specs.Rising.{IsRising, job_key, layer_key}
 use Rattle.farm_types.proofs.Lists.{and_both, for_some_true, list_all-at, list_all-from_at}
@@ -118,27 +118,27 @@ has_its layers own j are places differ frames =
       frames = ap frames_said are ∙ frames;
     }
 
-module _ (layers : List LayerRow) (next : ℕ) (spec : JobSpec) where
+module _ (layers : List LayerRow) (next : ℕ) (limits : List (Option ℕ)) (spec : JobSpec) where
   -- the rows of its layers
   abbrev pub rows : List LayerRow
-  rows = layer_rows next 0 spec.layers
+  rows = layer_rows next limits 0 spec.layers
 
   -- a job that was there has the layers that it had
   pub old_layered : (j : JobRow) → j.job < next → HasItsLayers layers j → HasItsLayers (layers ++ rows) j
   old_layered j below had =
       let apart : eqb next j.job ≡ false = ne_eqb next j.job (λ e. absurd (omega (arith, below, e))) in
       let kept : layers_of (layers ++ rows) j.job ≡ layers_of layers j.job =
-      filter-append (λ (l : LayerRow). eqb l.job j.job) layers rows ∙ ap (λ (more : List LayerRow). layers_of layers j.job ++ more) (none_of_other next j.job 0 spec.layers apart) ∙ append-nil (layers_of layers j.job) in
+      filter-append (λ (l : LayerRow). eqb l.job j.job) layers rows ∙ ap (λ (more : List LayerRow). layers_of layers j.job ++ more) (none_of_other next j.job limits 0 spec.layers apart) ∙ append-nil (layers_of layers j.job) in
       has_its (layers ++ rows) (layers_of layers j.job) j kept had.places had.differ had.frames
 
   -- the new one has its own
   pub new_layered : (show : ℕ) → IsFormedJob spec → IsRising layer_key 0 layers (MOST_LAYERS * next) → repeated_name [] spec.layers ≡ None → HasItsLayers (layers ++ rows) (job_row next show spec)
   new_layered show formed rise new =
       let own : layers_of (layers ++ rows) next ≡ rows =
-      filter-append (λ (l : LayerRow). eqb l.job next) layers rows ∙ ap (λ (old : List LayerRow). old ++ layers_of rows next) (none_of_next layers next rise) ∙ all_of_job next 0 spec.layers in
-      has_its (layers ++ rows) rows (job_row next show spec) own (rows_at_places next 0 spec.layers)
-      (subst (IsDistinct bytes_eq) (sym (row_names next 0 spec.layers)) (names_differ [] spec.layers new))
-      (rows_said next 0 spec.layers formed.each_layer)
+      filter-append (λ (l : LayerRow). eqb l.job next) layers rows ∙ ap (λ (old : List LayerRow). old ++ layers_of rows next) (none_of_next layers next rise) ∙ all_of_job next limits 0 spec.layers in
+      has_its (layers ++ rows) rows (job_row next show spec) own (rows_at_places next limits 0 spec.layers)
+      (subst (IsDistinct bytes_eq) (sym (row_names next limits 0 spec.layers)) (names_differ [] spec.layers new))
+      (rows_said next limits 0 spec.layers formed.each_layer)
 
 -- the new job is there and pending
 pub new_pending : (jobs : List JobRow) (next show : ℕ) (spec : JobSpec) → IsRising job_key 1 jobs next → is_of_pending (jobs ++ job_row next show spec ∷ []) next ≡ true

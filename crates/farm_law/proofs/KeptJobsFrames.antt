@@ -1,5 +1,5 @@
 -- The frames of a new job: each position of each layer has one, and each has its number.
-use Rattle.std.proofs.Common.{◌≡◌, ℕ, suc, zero, ◌+◌, ◌<◌, ◌≤◌, Bool, true, false, cond, ◌&&◌, eqb, List, [], ◌∷◌, ◌++◌, length, Some, None, ℤ, refl, sym, ap, subst, ◌∙◌, arith, append_assoc, length-append, ◌⊎◌, inl, inr}
+use Rattle.std.proofs.Common.{◌≡◌, ℕ, suc, zero, ◌+◌, ◌<◌, ◌≤◌, Bool, true, false, cond, ◌&&◌, eqb, List, [], ◌∷◌, ◌++◌, length, Option, Some, None, ℤ, refl, sym, ap, subst, ◌∙◌, arith, append_assoc, length-append, ◌⊎◌, inl, inr}
 use Rattle.std.specs.List.{All, find, list_all, slice_get, sum_by}
 use Rattle.std.specs.Ordering.{int_eq}
 use Rattle.std.specs.Cmp.Derive.{both_true}
@@ -11,10 +11,10 @@ use Rattle.std.proofs.lemmas.Option.{none-some, same_Some}
 use Rattle.farm_types.specs.declared.job.LayerSpec.{LayerSpec}
 use Rattle.farm_types.specs.declared.rows.LayerRow.{LayerRow}
 use Rattle.farm_types.specs.declared.slot_row.Frame.{Frame}
-use Rattle.farm_types.specs.Farm.{for_some, is_placed}
+use Rattle.farm_types.specs.Farm.{for_some, is_placed, layer_in}
 use Rattle.farm_types.specs.Formed.{IsFormedLayer}
-use Rattle.farm_types.specs.Jobs.{frames_from, frames_in, frames_of, layer_row, layer_rows, new_frame}
-use Rattle.farm_types.specs.Kept.{is_kept_frame, layer_in}
+use Rattle.farm_types.specs.Jobs.{frames_from, frames_in, frames_of, layer_row, layer_rows, limit_in, new_frame}
+use Rattle.farm_types.specs.Kept.{is_kept_frame}
 use Rattle.farm_types.specs.Ranges.{range_numbers}
 use Rattle.farm_types.proofs.Passes.{for_some-there}
 use Rattle.farm_law.proofs.KeptJobsCounts.{stands_at, at_stands}
@@ -132,18 +132,18 @@ module _ (job layer position : ℕ) where
   from_there low (n ∷ ns) le below = from_there_step low n ns (here_or_later low le) (λ above. from_there (low + 1) ns (omega (arith, above)) (omega arith))
 
 -- each position of each layer has its frame
-pub of_there : (job low : ℕ) (ls : List LayerSpec) (n : ℕ) (l : LayerRow) (position : ℕ) → All IsFormedLayer ls → slice_get (layer_rows job low ls) n ≡ Some l → position < length (range_numbers l.range)
+pub of_there : (job : ℕ) (limits : List (Option ℕ)) (low : ℕ) (ls : List LayerSpec) (n : ℕ) (l : LayerRow) (position : ℕ) → All IsFormedLayer ls → slice_get (layer_rows job limits low ls) n ≡ Some l → position < length (range_numbers l.range)
     → 1 ≤ sum_by (counts l.job l.place position) (frames_of job low ls)
-of_there job low [] n l position each at within = absurd (none-some l at)
-of_there job low (s ∷ ls) zero l position each at within =
-    let same : layer_row job low s ≡ l = same_Some (layer_row job low s) l at in
+of_there job limits low [] n l position each at within = absurd (none-some l at)
+of_there job limits low (s ∷ ls) zero l position each at within =
+    let same : layer_row job low (limit_in limits low) s ≡ l = same_Some (layer_row job low (limit_in limits low) s) l at in
     subst (λ (r : LayerRow). 1 ≤ sum_by (counts r.job r.place position) (frames_of job low (s ∷ ls))) same first
   where
     formed : IsFormedLayer s
     formed = each 0 s (omega arith)
 
     few : position < length s.numbers
-    few = omega (arith, within, ap length formed.numbers_are, ap (λ (r : LayerRow). length (range_numbers r.range)) (same_Some (layer_row job low s) l at))
+    few = omega (arith, within, ap length formed.numbers_are, ap (λ (r : LayerRow). length (range_numbers r.range)) (same_Some (layer_row job low (limit_in limits low) s) l at))
 
     first : 1 ≤ sum_by (counts job low position) (frames_of job low (s ∷ ls))
     first =
@@ -152,11 +152,11 @@ of_there job low (s ∷ ls) zero l position each at within =
           sum_by-append (counts job low position) (frames_from job low 0 s.numbers) (frames_of job (low + 1) ls),
           from_there job low position 0 s.numbers (omega arith) (omega (arith, few)),
         )
-of_there job low (s ∷ ls) (suc n) l position each at within =
+of_there job limits low (s ∷ ls) (suc n) l position each at within =
     omega (
       arith,
       sum_by-append (counts l.job l.place position) (frames_from job low 0 s.numbers) (frames_of job (low + 1) ls),
-      of_there job (low + 1) ls n l position (λ k d h. each (suc k) d (omega (arith, h))) at within,
+      of_there job limits (low + 1) ls n l position (λ k d h. each (suc k) d (omega (arith, h))) at within,
     )
 
 -- ---- each has its number
@@ -185,34 +185,34 @@ module _ (all : List LayerRow) (job layer : ℕ) (row : LayerRow) (there : layer
       subst (λ i. slice_get (range_numbers row.range) i ≡ Some m) next (at (suc k) m h)))
 
 -- the row of a layer is found first among those from it on
-row_first : (job place : ℕ) (l : LayerSpec) (rest : List LayerRow) → find (λ (r : LayerRow). eqb r.job job && eqb r.place place) (layer_row job place l ∷ rest) ≡ Some (layer_row job place l)
-row_first job place l rest = rw (eq-eqb job job refl, eq-eqb place place refl) refl
+row_first : (job place : ℕ) (limit : Option ℕ) (l : LayerSpec) (rest : List LayerRow) → find (λ (r : LayerRow). eqb r.job job && eqb r.place place) (layer_row job place limit l ∷ rest) ≡ Some (layer_row job place limit l)
+row_first job place limit l rest = rw (eq-eqb job job refl, eq-eqb place place refl) refl
 
-row_other : (job place other : ℕ) (l : LayerSpec) → (place ≡ other → ⊥) → find (λ (r : LayerRow). eqb r.job job && eqb r.place other) (layer_row job place l ∷ []) ≡ None
-row_other job place other l apart = rw (and_right (eqb job job) (eqb place other) (ne_eqb place other apart)) refl
+row_other : (job place other : ℕ) (limit : Option ℕ) (l : LayerSpec) → (place ≡ other → ⊥) → find (λ (r : LayerRow). eqb r.job job && eqb r.place other) (layer_row job place limit l ∷ []) ≡ None
+row_other job place other limit l apart = rw (and_right (eqb job job) (eqb place other) (ne_eqb place other apart)) refl
 
 -- the first layer's frames
-first_kept : (front : List LayerRow) (job low : ℕ) (l : LayerSpec) (rest : List LayerRow) → IsFormedLayer l → layer_in front job low ≡ None
-    → list_all (is_kept_frame (front ++ layer_row job low l ∷ rest)) (frames_from job low 0 l.numbers) ≡ true
-first_kept front job low l rest formed none =
-    from_kept (front ++ layer_row job low l ∷ rest) job low (layer_row job low l)
-    (found_later (λ (r : LayerRow). eqb r.job job && eqb r.place low) front (layer_row job low l ∷ rest) none ∙ row_first job low l rest)
+first_kept : (front : List LayerRow) (job low : ℕ) (limit : Option ℕ) (l : LayerSpec) (rest : List LayerRow) → IsFormedLayer l → layer_in front job low ≡ None
+    → list_all (is_kept_frame (front ++ layer_row job low limit l ∷ rest)) (frames_from job low 0 l.numbers) ≡ true
+first_kept front job low limit l rest formed none =
+    from_kept (front ++ layer_row job low limit l ∷ rest) job low (layer_row job low limit l)
+    (found_later (λ (r : LayerRow). eqb r.job job && eqb r.place low) front (layer_row job low limit l ∷ rest) none ∙ row_first job low limit l rest)
     0 l.numbers
     (λ k n at.
     let zero_more : 0 + k ≡ k = omega arith in
     rw zero_more (subst (λ ns. slice_get ns k ≡ Some n) formed.numbers_are at))
 
 -- the frames of layers that come after others
-pub of_kept : (front : List LayerRow) (job low : ℕ) (ls : List LayerSpec) → All IsFormedLayer ls → ((place : ℕ) → low ≤ place → layer_in front job place ≡ None)
-    → list_all (is_kept_frame (front ++ layer_rows job low ls)) (frames_of job low ls) ≡ true
-of_kept front job low [] each none = refl
-of_kept front job low (l ∷ ls) each none =
-    let first = first_kept front job low l (layer_rows job (low + 1) ls) (each 0 l (omega arith)) (none low (omega arith)) in
-    let joined : (front ++ layer_row job low l ∷ []) ++ layer_rows job (low + 1) ls ≡ front ++ layer_rows job low (l ∷ ls) = append_assoc front (layer_row job low l ∷ []) (layer_rows job (low + 1) ls) in
+pub of_kept : (front : List LayerRow) (job : ℕ) (limits : List (Option ℕ)) (low : ℕ) (ls : List LayerSpec) → All IsFormedLayer ls → ((place : ℕ) → low ≤ place → layer_in front job place ≡ None)
+    → list_all (is_kept_frame (front ++ layer_rows job limits low ls)) (frames_of job low ls) ≡ true
+of_kept front job limits low [] each none = refl
+of_kept front job limits low (l ∷ ls) each none =
+    let first = first_kept front job low (limit_in limits low) l (layer_rows job limits (low + 1) ls) (each 0 l (omega arith)) (none low (omega arith)) in
+    let joined : (front ++ layer_row job low (limit_in limits low) l ∷ []) ++ layer_rows job limits (low + 1) ls ≡ front ++ layer_rows job limits low (l ∷ ls) = append_assoc front (layer_row job low (limit_in limits low) l ∷ []) (layer_rows job limits (low + 1) ls) in
     let rest =
-    of_kept (front ++ layer_row job low l ∷ []) job (low + 1) ls (λ k d h. each (suc k) d (omega (arith, h)))
+    of_kept (front ++ layer_row job low (limit_in limits low) l ∷ []) job limits (low + 1) ls (λ k d h. each (suc k) d (omega (arith, h)))
     (λ place above.
-    found_later (λ (r : LayerRow). eqb r.job job && eqb r.place place) front (layer_row job low l ∷ []) (none place (omega (arith, above)))
-    ∙ row_other job low place l (λ e. absurd (omega (arith, above, e)))) in
-    list_all-append (is_kept_frame (front ++ layer_rows job low (l ∷ ls))) (frames_from job low 0 l.numbers) (frames_of job (low + 1) ls)
+    found_later (λ (r : LayerRow). eqb r.job job && eqb r.place place) front (layer_row job low (limit_in limits low) l ∷ []) (none place (omega (arith, above)))
+    ∙ row_other job low place (limit_in limits low) l (λ e. absurd (omega (arith, above, e)))) in
+    list_all-append (is_kept_frame (front ++ layer_rows job limits low (l ∷ ls))) (frames_from job low 0 l.numbers) (frames_of job (low + 1) ls)
     ∙ both_true first (subst (λ rows. list_all (is_kept_frame rows) (frames_of job (low + 1) ls) ≡ true) joined rest)

@@ -11,7 +11,8 @@ use Rattle.farm_types.specs.declared.slot_row.Frame.{Frame}
 use Rattle.farm_types.specs.declared.slot_row.SlotRow.{SlotRow}
 use Rattle.farm_types.specs.declared.limits.TheConstants.{LAST_VERSION}
 use Rattle.farm_types.specs.Jobs.{is_free, free_among, slot_with, fresh_slot, place_frames}
-use Rattle.farm_types.specs.Kept.{EndsUsed, for_any, is_kept_frame, is_kept_slot, is_used}
+use Rattle.farm_types.specs.Farm.{for_any}
+use Rattle.farm_types.specs.Kept.{EndsUsed, is_kept_frame, is_kept_slot, is_used}
 use Rattle.farm_types.proofs.Lists.{and_both}
 use Rattle.farm_law.proofs.Placed.{free_none}
 

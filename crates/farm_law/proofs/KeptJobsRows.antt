@@ -15,8 +15,8 @@ use Rattle.farm_types.specs.declared.states.FrameState.TheVariants as frame_stat
 use Rattle.farm_types.specs.declared.verdict.Verdict.{Verdict}
 use Rattle.farm_types.specs.declared.verdict.Verdict.TheVariants as verdict
 use Rattle.farm_types.specs.declared.limits.TheConstants.{LAST_VERSION, MOST_RETRIES}
-use Rattle.farm_types.specs.Farm.{Farm, for_some, job_at, is_placed}
-use Rattle.farm_types.specs.Kept.{for_any, is_formed_job, is_kept_frame, is_setup, layer_in}
+use Rattle.farm_types.specs.Farm.{Farm, for_some, job_at, is_placed, for_any, layer_in}
+use Rattle.farm_types.specs.Kept.{is_formed_job, is_kept_frame, is_setup}
 use Rattle.farm_types.specs.Lost.{lost_row, runs_on}
 use Rattle.farm_types.specs.Ranges.{range_numbers}
 use Rattle.farm_types.specs.Step.{booked_row, ended_row, judged, verdict_for}

@@ -1,5 +1,5 @@
 -- A job that is submitted keeps what the farm keeps of its jobs.
-use Rattle.std.proofs.Common.{◌≡◌, ℕ, suc, zero, ◌+◌, ◌*◌, ◌<◌, ◌≤◌, Bool, true, false, not, eqb, map, append-nil, List, [], ◌∷◌, ◌++◌, length, Some, refl, sym, ap, subst, ◌∙◌, arith, length-append, ◌⊎◌, inl, inr}
+use Rattle.std.proofs.Common.{◌≡◌, ℕ, suc, zero, ◌+◌, ◌*◌, ◌<◌, ◌≤◌, Bool, true, false, not, eqb, map, append-nil, List, [], ◌∷◌, ◌++◌, length, Option, Some, refl, sym, ap, subst, ◌∙◌, arith, length-append, ◌⊎◌, inl, inr}
 use Rattle.std.specs.Prelude.{nat_eq}
 use Rattle.std.specs.List.{IsDistinct, filter, find, list_all, slice_get, sum_by}
 use Rattle.std.specs.Cmp.Derive.{both_true}
@@ -32,13 +32,13 @@ use Rattle.farm_law.proofs.KeptLists.{list_all-weaker}
 use Rattle.farm_law.proofs.Placed.{stays_there}
 use Rattle.farm_law.proofs.KeptJobsPlaced.{ends_placed, kept_placed, length-place_frames, sum_placed}
 
-module _ (b : JobLists) (spec : JobSpec) (show shows : ℕ) (formed : IsFormedJob spec) (ok : Accepted b spec) (kept : KeepsJobs b shows) where
+module _ (b : JobLists) (limits : List (Option ℕ)) (spec : JobSpec) (show shows : ℕ) (formed : IsFormedJob spec) (ok : Accepted b spec) (kept : KeepsJobs b shows) where
   -- what the job adds
   abbrev frames : List Frame
   frames = frames_of b.next_job 0 spec.layers
 
   abbrev rows : List LayerRow
-  rows = layer_rows b.next_job 0 spec.layers
+  rows = layer_rows b.next_job limits 0 spec.layers
 
   abbrev row : JobRow
   row = job_row b.next_job show spec
@@ -92,11 +92,11 @@ module _ (b : JobLists) (spec : JobSpec) (show shows : ℕ) (formed : IsFormedJo
   layered_at : (n : ℕ) (j : JobRow) → (slice_get olds n ≡ Some j) ⊎ ((m : ℕ) × (slice_get (row ∷ []) m ≡ Some j)) → is_pending_job j ≡ true → HasItsLayers (b.layers ++ rows) j
   layered_at n j (inl here) pending =
       let at = at_kept stays b.jobs n j here in
-      old_layered b.layers b.next_job spec j (rising_below job_key 1 b.jobs b.next_job at.0 j kept.jobs_rise at.1) (kept.jobs_layered at.0 j at.1 pending)
+      old_layered b.layers b.next_job limits spec j (rising_below job_key 1 b.jobs b.next_job at.0 j kept.jobs_rise at.1) (kept.jobs_layered at.0 j at.1 pending)
   layered_at n j (inr new) pending = at_new new.0 new.1
     where
       at_new : (m : ℕ) → slice_get (row ∷ []) m ≡ Some j → HasItsLayers (b.layers ++ rows) j
-      at_new zero at = subst (HasItsLayers (b.layers ++ rows)) (same_Some row j at) (new_layered b.layers b.next_job spec show formed kept.layers_rise ok.layers_new)
+      at_new zero at = subst (HasItsLayers (b.layers ++ rows)) (same_Some row j at) (new_layered b.layers b.next_job limits spec show formed kept.layers_rise ok.layers_new)
       at_new (suc m) at = absurd (none-some j at)
 
   few : 0 + length spec.layers ≤ MOST_LAYERS
@@ -107,7 +107,7 @@ module _ (b : JobLists) (spec : JobSpec) (show shows : ℕ) (formed : IsFormedJo
   layers_rising =
       let from : MOST_LAYERS * b.next_job + 0 ≡ MOST_LAYERS * b.next_job = omega arith in
       rising-append layer_key 0 (MOST_LAYERS * b.next_job) (MOST_LAYERS * (b.next_job + 1)) b.layers rows kept.layers_rise
-      (subst (λ k. IsRising layer_key k rows (MOST_LAYERS * (b.next_job + 1))) from (rows_rise b.next_job 0 spec.layers few))
+      (subst (λ k. IsRising layer_key k rows (MOST_LAYERS * (b.next_job + 1))) from (rows_rise b.next_job limits 0 spec.layers few))
 
   -- a job that was pending is so
   still_pending : (job : ℕ) → is_of_pending b.jobs job ≡ true → is_of_pending jobs job ≡ true
@@ -121,7 +121,7 @@ module _ (b : JobLists) (spec : JobSpec) (show shows : ℕ) (formed : IsFormedJo
   owned =
       let old = list_all-weaker (λ (l : LayerRow). is_of_pending b.jobs l.job) (λ (l : LayerRow). is_of_pending jobs l.job) (λ l there. still_pending l.job there) b.layers kept.layers_owned in
       list_all-append (λ (l : LayerRow). is_of_pending jobs l.job) b.layers rows
-      ∙ both_true old (rows_pass (is_of_pending jobs) b.next_job 0 spec.layers (new_pending olds b.next_job show spec olds_rise))
+      ∙ both_true old (rows_pass (is_of_pending jobs) b.next_job limits 0 spec.layers (new_pending olds b.next_job show spec olds_rise))
 
   -- there was a slot for each frame
   slots_within : length slots ≤ SLOT_LIMIT
@@ -131,7 +131,7 @@ module _ (b : JobLists) (spec : JobSpec) (show shows : ℕ) (formed : IsFormedJo
   each_kept : list_all (is_kept_slot (b.layers ++ rows)) slots ≡ true
   each_kept =
       kept_placed (b.layers ++ rows) b.slots frames (slots_more b.layers rows b.slots kept.slots_kept)
-      (of_kept b.layers b.next_job 0 spec.layers formed.each_layer (λ place above. none_in_next b.layers b.next_job kept.layers_rise place))
+      (of_kept b.layers b.next_job limits 0 spec.layers formed.each_layer (λ place above. none_in_next b.layers b.next_job kept.layers_rise place))
 
   -- the frames at a position are the old ones and the new ones there
   count_all : (job layer position : ℕ) → count_at job layer position slots ≡ count_at job layer position b.slots + sum_by (counts job layer position) frames
@@ -161,13 +161,13 @@ module _ (b : JobLists) (spec : JobSpec) (show shows : ℕ) (formed : IsFormedJo
   there_at n l (inl at) position within =
       omega (arith, count_all l.job l.place position, there_counts (is_placed l.job l.place position) 0 b.slots (kept.frames_there n l at position within))
   there_at n l (inr new) position within =
-      omega (arith, count_all l.job l.place position, of_there b.next_job 0 spec.layers new.0 l position formed.each_layer new.1 within)
+      omega (arith, count_all l.job l.place position, of_there b.next_job limits 0 spec.layers new.0 l position formed.each_layer new.1 within)
 
   there : EachThere (b.layers ++ rows) slots
   there n l at position within = count_there (is_placed l.job l.place position) 0 slots (there_at n l (in_either b.layers rows n l at) position within)
 
   -- the lists with the job
-  pub submitted : show < shows → KeepsJobs (with_job b show spec) shows
+  pub submitted : show < shows → KeepsJobs (with_job b show limits spec) shows
   submitted shown =
       record {
         next_within = omega (arith, ok.number);
@@ -182,7 +182,7 @@ module _ (b : JobLists) (spec : JobSpec) (show shows : ℕ) (formed : IsFormedJo
         jobs_differ = names_added b.jobs b.next_job show spec kept.jobs_differ ok.name_new;
         jobs_layered = λ n j at pending. layered_at n j (in_either olds (row ∷ []) n j at) pending;
         layers_rise = layers_rising;
-        layers_formed = list_all-append is_formed_layer b.layers rows ∙ both_true kept.layers_formed (rows_formed b.next_job 0 spec.layers few formed.each_layer);
+        layers_formed = list_all-append is_formed_layer b.layers rows ∙ both_true kept.layers_formed (rows_formed b.next_job limits 0 spec.layers few formed.each_layer);
         layers_owned = owned;
         slot_count = slots_within;
         slots_kept = each_kept;

@@ -9,6 +9,11 @@ use Rattle.farm_types.proofs.ChangedLists.{changed_at_suc}
 use Rattle.farm_types.proofs.Lists.{and_both}
 use Rattle.farm_types.proofs.Stays.{EachStays}
 
+-- two weights that are alike
+pub sum_alike : {X : Type 0} (weight other : X → ℕ) (xs : List X) → ((i : ℕ) (x : X) → slice_get xs i ≡ Some x → weight x ≡ other x) → sum_by weight xs ≡ sum_by other xs
+sum_alike weight other [] each = refl
+sum_alike weight other (x ∷ xs) each = omega (arith, sum_by-cons weight x xs, sum_by-cons other x xs, each 0 x refl, sum_alike weight other xs (λ i y at. each (suc i) y at))
+
 module _ {X : Type 0} (R : X → X → Type 0) where
   -- a list and itself
   pub zip_same : ((x : X) → R x x) → (xs : List X) → AllZip R xs xs

@@ -107,6 +107,7 @@ kept_pause f paused (Some j) k =
       shows = k.shows;
       allocs = k.allocs;
       subs = k.subs;
+      limits = k.limits;
       hosts = k.hosts;
       jobs = keeps_paused (lists_of f) j.job paused (length f.shows) k.jobs;
       attempts = attempts_left f g (named_by f g law.rows refl refl refl) (left_same f) k;

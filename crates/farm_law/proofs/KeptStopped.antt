@@ -11,8 +11,8 @@ use Rattle.farm_types.specs.declared.slot_row.Frame.{Frame}
 use Rattle.farm_types.specs.declared.slot_row.SlotRow.{SlotRow}
 use Rattle.farm_types.specs.declared.states.FrameState.{FrameState}
 use Rattle.farm_types.specs.declared.states.FrameState.TheVariants.{Waiting, Setup, Running, Succeeded, Depend, Dead, Eaten}
-use Rattle.farm_types.specs.Farm.{Farm, for_some, is_placed}
-use Rattle.farm_types.specs.Kept.{KeepsRows, for_any, is_kept_frame, is_setup}
+use Rattle.farm_types.specs.Farm.{Farm, for_some, is_placed, for_any}
+use Rattle.farm_types.specs.Kept.{KeepsRows, is_kept_frame, is_setup}
 use Rattle.farm_types.specs.Step.{lists_of}
 use Rattle.farm_law.proofs.KeepsLaw.{KeepsLaw}
 use Rattle.farm_law.proofs.KeptAttempts.{IsLeft, attempts_left}
@@ -83,6 +83,7 @@ module _ (f g : Farm) (stops : Stops f g) (k : KeepsRows f) where
         shows = k.shows;
         allocs = k.allocs;
         subs = k.subs;
+        limits = k.limits;
         hosts = k.hosts;
         jobs = slots_keep (lists_of f) g.slots (length f.shows) (zip_weaker SlotStops (SlotKeeps f.layers) (slot_stops_keeps f.layers) f.slots g.slots stops.slots) k.jobs;
         attempts = attempts_left f now (named_by f now law.rows refl refl refl) each_left k;

@@ -9,7 +9,7 @@ use Rattle.std.proofs.lemmas.Option.{none-some, same_Some}
 use Rattle.farm_types.specs.declared.attempt.ProcRow.{ProcRow}
 use Rattle.farm_types.specs.declared.boot.BootLine.{BootLine}
 use Rattle.farm_types.specs.declared.entry.Act.{Act}
-use Rattle.farm_types.specs.declared.entry.Act.TheVariants.{Opened, Show, Alloc, Sub, Boot, Heard, Submit, AddDepend, DropDepend, Pause, KillJob, KillFrame, EatFrame, RetryFrame, Lock, Tick, Book}
+use Rattle.farm_types.specs.declared.entry.Act.TheVariants.{Opened, Show, Alloc, Sub, Limit, Boot, Heard, Submit, AddDepend, DropDepend, Pause, KillJob, KillFrame, EatFrame, RetryFrame, Lock, Tick, Book}
 use Rattle.farm_types.specs.declared.job.JobSpec.{JobSpec}
 use Rattle.farm_types.specs.declared.job.LayerSpec.{LayerSpec}
 use Rattle.farm_types.specs.declared.rows.JobRow.{JobRow}
@@ -22,14 +22,14 @@ use Rattle.farm_types.specs.declared.sub_line.SubLine.{SubLine}
 use Rattle.farm_types.specs.Booking.{is_pending}
 use Rattle.farm_types.specs.DependActs.{pending_named}
 use Rattle.farm_types.specs.Depends.{is_done_state}
-use Rattle.farm_types.specs.Farm.{Farm, alloc_named, changed_at, for_some, host_named, show_named}
+use Rattle.farm_types.specs.Farm.{Farm, alloc_named, changed_at, for_some, host_named, limit_named, show_named}
 use Rattle.farm_types.specs.Finish.{finishes}
 use Rattle.farm_types.specs.Formed.{IsFormedAct, IsFormedJob}
 use Rattle.farm_types.specs.Jobs.{frames_from, frames_of, is_finished_named, job_row, place_frames, without_finished}
 use Rattle.farm_types.specs.Kept.{KeepsWork, is_pending_job}
 use Rattle.farm_types.specs.Lost.{lose_on, lost_row, runs_on}
 use Rattle.farm_types.specs.Operators.{is_left_of, paused_row, retried_row, slot_named, stopped_row, with_paused, with_row_at}
-use Rattle.farm_types.specs.Step.{after_act, after_boot, after_lock, after_sub, after_submit, booked_row, closed, expire, followed, is_silent, new_proc, sub_named, with_proc}
+use Rattle.farm_types.specs.Step.{after_act, after_boot, after_limit, after_lock, after_sub, after_submit, booked_row, closed, expire, followed, is_silent, new_proc, sub_named, with_proc}
 use Rattle.farm_types.proofs.Changed.{mapped_each}
 use Rattle.farm_types.proofs.Lists.{and_both, list_all-at, list_all-from_at}
 use Rattle.farm_types.proofs.Passes.{cond_each}
@@ -125,6 +125,10 @@ there_same jobs n j at pending = (n, j, at, pending, refl)
 work_sub : (f : Farm) (line : SubLine) (o : Option ℕ) → KeepsWork f → KeepsWork (after_sub f line o)
 work_sub f line None work = work
 work_sub f line (Some sub) work = work
+
+work_limit : (f : Farm) (name : List ℕ) (most : ℕ) (o : Option ℕ) → KeepsWork f → KeepsWork (after_limit f name most o)
+work_limit f name most None work = work
+work_limit f name most (Some limit) work = work
 
 work_lock : (f : Farm) (lock : LockState) (o : Option ℕ) → KeepsWork f → KeepsWork (after_lock f lock o)
 work_lock f lock None work = work
@@ -252,6 +256,7 @@ work_act f moment Opened formed work = work
 work_act f moment (Show name) formed work = work
 work_act f moment (Alloc facility tag) formed work = work
 work_act f moment (Sub line) formed work = work_sub f line (sub_named f line) work
+work_act f moment (Limit name most) formed work = work_limit f name most (limit_named f name) work
 work_act f moment (Boot line) formed work = work_boot (expire f moment) line moment (alloc_named f line.alloc) (work_expire f moment work)
 work_act f moment (Heard heard) formed work = tt
 work_act f moment (Submit spec) formed work = work_submit f spec (show_named f spec.show) formed work

@@ -38,6 +38,7 @@ pub mod KeptJobsRows
 pub mod KeptJobsSlots
 pub mod KeptJobsSubmitted
 pub mod KeptJobsZip
+pub mod KeptLimits
 pub mod KeptLists
 pub mod KeptNames
 pub mod KeptPaused
@@ -55,6 +56,7 @@ pub mod Placed
 pub mod Recorded
 pub mod RowsStay
 pub mod RunningFrames
+pub mod RunningInLimits
 pub mod RunsStay
 pub mod SafeRuns
 pub mod Spent

@@ -6,7 +6,7 @@ use Rattle.farm_types.specs.declared.attempt.DoneItem.{DoneItem}
 use Rattle.farm_types.specs.declared.attempt.ProcRow.{ProcRow}
 use Rattle.farm_types.specs.declared.boot.BootLine.{BootLine}
 use Rattle.farm_types.specs.declared.entry.Act.{Act}
-use Rattle.farm_types.specs.declared.entry.Act.TheVariants.{Opened, Show, Alloc, Sub, Boot, Heard, Submit, AddDepend, DropDepend, Pause, KillJob, KillFrame, EatFrame, RetryFrame, Lock, Tick, Book}
+use Rattle.farm_types.specs.declared.entry.Act.TheVariants.{Opened, Show, Alloc, Sub, Limit, Boot, Heard, Submit, AddDepend, DropDepend, Pause, KillJob, KillFrame, EatFrame, RetryFrame, Lock, Tick, Book}
 use Rattle.farm_types.specs.declared.entry.Entry.{Entry}
 use Rattle.farm_types.specs.declared.entry.HeardAct.{HeardAct}
 use Rattle.farm_types.specs.declared.job.JobSpec.{JobSpec}
@@ -16,10 +16,10 @@ use Rattle.farm_types.specs.declared.states.FrameState.TheVariants.{Dead, Eaten}
 use Rattle.farm_types.specs.declared.states.LockState.{LockState}
 use Rattle.farm_types.specs.declared.sub_line.SubLine.{SubLine}
 use Rattle.farm_types.specs.DependActs.{pending_named}
-use Rattle.farm_types.specs.Farm.{Farm, alloc_named, host_named, show_named}
+use Rattle.farm_types.specs.Farm.{Farm, alloc_named, host_named, limit_named, show_named}
 use Rattle.farm_types.specs.Kept.{KeepsRecord}
 use Rattle.farm_types.specs.Operators.{retried_row, slot_named, stopped_row, with_killed, with_paused, with_row_at}
-use Rattle.farm_types.specs.Step.{acted, after, after_act, after_boot, after_heard, after_lock, after_sub, after_submit, at_moment, closed, end_all, end_attempt, expire, finish_all, finish_each, finish_one, finishing, followed, is_live, moment_of, new_proc, sub_named, with_proc}
+use Rattle.farm_types.specs.Step.{acted, after, after_act, after_boot, after_heard, after_limit, after_lock, after_sub, after_submit, at_moment, closed, end_all, end_attempt, expire, finish_all, finish_each, finish_one, finishing, followed, is_live, moment_of, new_proc, sub_named, with_proc}
 use Rattle.farm_law.proofs.Ended.{ended}
 use Rattle.farm_law.proofs.Follows.{act_follows}
 
@@ -28,6 +28,10 @@ use Rattle.farm_law.proofs.Follows.{act_follows}
 recorded_sub : (f : Farm) (line : SubLine) (o : Option ℕ) → (after_sub f line o).recorded ≡ f.recorded
 recorded_sub f line None = refl
 recorded_sub f line (Some sub) = refl
+
+recorded_limit : (f : Farm) (name : List ℕ) (most : ℕ) (o : Option ℕ) → (after_limit f name most o).recorded ≡ f.recorded
+recorded_limit f name most None = refl
+recorded_limit f name most (Some limit) = refl
 
 recorded_boot : (f : Farm) (line : BootLine) (moment : ℕ) (o : Option ℕ) → (after_boot f line moment o).recorded ≡ f.recorded
 recorded_boot f line moment None = refl
@@ -72,6 +76,7 @@ recorded_act f moment Opened = refl
 recorded_act f moment (Show name) = refl
 recorded_act f moment (Alloc facility tag) = refl
 recorded_act f moment (Sub line) = recorded_sub f line (sub_named f line)
+recorded_act f moment (Limit name most) = recorded_limit f name most (limit_named f name)
 recorded_act f moment (Boot line) = recorded_boot (expire f moment) line moment (alloc_named f line.alloc)
 recorded_act f moment (Heard heard) = recorded_heard (expire f moment) heard moment (host_named f heard.host)
 recorded_act f moment (Submit spec) = recorded_submit f spec (show_named f spec.show)

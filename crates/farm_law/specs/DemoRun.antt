@@ -26,6 +26,7 @@ demo_layer_spec =
       cores = 100;
       memory = 3355443;
       tags = codes "general" ∷ [];
+      limit = [];
     }
 
 abbrev pub demo_spec : JobSpec

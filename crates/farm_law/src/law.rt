@@ -14,8 +14,9 @@ ghost use Rattle.farm_law.specs.DemoRun.{demo_entries};
 
 /// Every legal run of entries from a sound farm with its hosts is safe: no host is ever used past its cores or
 /// memory, exactly the running frames have an attempt, each booking finds its frame open and leaves it an attempt
-/// on the host, of a subscription that is there and within its burst, and no completion counts twice. It holds of
-/// all farms, those with depends included.
+/// on the host, of a subscription that is there and within its burst, and no completion counts twice. Where the
+/// frame's layer has a limit, it is there, and no more frames run in it than may. It holds of all farms, those with
+/// depends included.
 pub fn legal_runs_are_safe()
     ensures { (f : Farm) (es : List Entry) → IsSound f → HasItsHosts f → IsLegal f es → IsSafe f es }
 {}
@@ -39,7 +40,8 @@ pub fn candidates_suit()
 /// A slot that suits a host does so after every legal run that leaves the slot its recorded version, below the last
 /// one. No such run needs to begin in a sound farm.
 pub fn suits_stays()
-    ensures { (f : Farm) (es : List Entry) (slot version host sub : ℕ) → IsLegal f es → suits f slot version host sub ≡ true → version_at (run_of f es) slot ≡ version → version < LAST_VERSION → suits (run_of f es) slot version host sub ≡ true }
+    ensures { (f : Farm) (es : List Entry) (slot version host sub : ℕ) → IsLegal f es → suits f slot version host sub ≡ true
+        → version_at (run_of f es) slot ≡ version → version < LAST_VERSION → suits (run_of f es) slot version host sub ≡ true }
 {}
 
 /// What every farm of the program keeps of all rows but those of depends: the empty farm and the demonstration's do, and

@@ -17,6 +17,8 @@ use Rattle.state_names.specs.Words.{lock_of, word_at}
 use Rattle.farm_lines.specs.declared.asked.Asked.{Asked}
 use Rattle.farm_lines.specs.declared.asked.Asked.TheVariants as asks
 use Rattle.farm_lines.specs.declared.boot_form.BootForm.{BootForm}
+use Rattle.farm_lines.specs.declared.limit_form.LimitForm.{LimitForm}
+use Rattle.farm_lines.specs.declared.limit_form.LimitLine.{LimitLine}
 use Rattle.farm_lines.specs.declared.report.Report.{Report}
 use Rattle.farm_lines.specs.declared.request.Request.{Request}
 use Rattle.farm_lines.specs.declared.request.Request.TheVariants as request
@@ -26,13 +28,13 @@ use Rattle.farm_lines.specs.Fields.{name_at, optional_whole_at}
 use Rattle.farm_lines.specs.ListLines.{query_at}
 use Rattle.farm_lines.specs.OperatorLines.{asks_pause, frame_at, frame_keys, frame_of_job_at, job_at, job_keys, kill_at, killed_at, names_frame}
 use Rattle.farm_lines.specs.Points.{before_point, after_point}
-use Rattle.farm_lines.specs.Request.{LockLine, attempt_at, done_at, done_keys, report_at, report_keys, show_at, name_keys, alloc_parts, alloc_of_name, alloc_name_at, alloc_at, sub_form_at, sub_keys, boot_keys, lock_keys, sub_line_of, sub_line_at, boot_form_at, boot_line_of, boot_line_at, lock_line_at, tick_keys, drop_at, drop_keys, submit_keys, after_others, submit_at, asked, judged, asks_alloc, asks_kill, asks_lock, asks_tick, by_op, after_op, request_in, request_of}
+use Rattle.farm_lines.specs.Request.{LockLine, attempt_at, done_at, done_keys, report_at, report_keys, show_at, name_keys, alloc_parts, alloc_of_name, alloc_name_at, alloc_at, sub_form_at, sub_keys, limit_form_at, limit_keys, limit_line_of, limit_line_at, boot_keys, lock_keys, sub_line_of, sub_line_at, boot_form_at, boot_line_of, boot_line_at, lock_line_at, tick_keys, drop_at, drop_keys, submit_keys, after_others, submit_at, asked, judged, asks_alloc, asks_kill, asks_limit, asks_lock, asks_tick, by_op, after_op, request_in, request_of}
 use Rattle.farm_lines.specs.Spec.{SpecError, Field, Range, Amount, form_first, number_at, tags_at, within, spec_at}
 use Rattle.farm_lines.specs.Asked.{IsFormedAsked, IsFormedAt, asked_of}
 use Rattle.farm_lines.proofs.DependLemmas.{depend_formed}
 use Rattle.farm_lines.proofs.FieldLemmas.{step, step_any, ok_at, either, kind_formed, name_formed, whole_formed, tags_formed, list_formed}
 use Rattle.farm_lines.proofs.SpecLemmas.{first_formed, spec_formed, within_formed}
-use Rattle.farm_types.specs.declared.limits.TheConstants.{LAST_BOOT, LAST_DEPEND, LAST_SLOT, LAST_VERSION, LEAST_CORES, LEAST_MEMORY, MOST_BURST, MOST_CORES, MOST_EXIT, MOST_MEMORY, MOST_TAGS}
+use Rattle.farm_types.specs.declared.limits.TheConstants.{LAST_BOOT, LAST_DEPEND, LAST_SLOT, LAST_VERSION, LEAST_CORES, LEAST_MEMORY, MOST_BURST, MOST_CORES, MOST_EXIT, MOST_MEMORY, MOST_RUNNING, MOST_TAGS}
 use Rattle.farm_lines.specs.declared.limits.TheConstants.{LEAST_FRAME, MOST_FRAME}
 
 -- ---- reports
@@ -124,6 +126,31 @@ sub_formed : (ms : Members) → IfOk (sub_line_at ms) IsFormedSub
 sub_formed ms =
     step (λ (form : SubForm). is_name_text form.show ≡ true) IsFormedSub (form_first (sub_form_at ms)) sub_line_of
     (first_formed (λ (form : SubForm). is_name_text form.show ≡ true) (sub_form_at ms) (sub_form_formed ms)) sub_amounts_formed
+
+-- ---- limits
+
+abbrev IsLimitForm : LimitForm → Type 0
+IsLimitForm form = is_name_text form.name ≡ true
+
+abbrev IsLimit : LimitLine → Type 0
+IsLimit line = (is_name_text line.name ≡ true) × (line.most ≤ MOST_RUNNING)
+
+limit_form_formed : (ms : Members) → IfOk (limit_form_at ms) IsLimitForm
+unfolding limit_form_at
+limit_form_formed ms =
+    step (λ name. is_name_text name ≡ true) IsLimitForm (name_at (codes "name") ms) _ (name_formed (codes "name") ms) (λ name named.
+    step_any IsLimitForm (number_at (codes "most") ms) _ (λ most.
+    step_any IsLimitForm (others_at limit_keys ms) _ (λ none. named)))
+
+limit_amounts_formed : (form : LimitForm) → IsLimitForm form → IfOk (limit_line_of form) IsLimit
+unfolding limit_line_of
+limit_amounts_formed form named =
+    step (λ none. IsBetween 0 MOST_RUNNING form.most) IsLimit (within (codes "most") 0 MOST_RUNNING form.most) _ (within_formed (codes "most") 0 MOST_RUNNING form.most) (λ none bounded.
+    (named, bounded.1))
+
+limit_formed : (ms : Members) → IfOk (limit_line_at ms) IsLimit
+limit_formed ms =
+    step IsLimitForm IsLimit (form_first (limit_form_at ms)) limit_line_of (first_formed IsLimitForm (limit_form_at ms) (limit_form_formed ms)) limit_amounts_formed
 
 -- ---- boots
 
@@ -244,6 +271,7 @@ by_op_formed ms op =
     (either AsksFormed (bytes_eq op (codes "show")) _ _ (asked_formed (λ name. is_name_text name ≡ true) request.Show (show_at ms) (show_formed ms) (λ name h. h))
     (either AsksFormed (bytes_eq op (codes "alloc")) _ _ (asked_formed IsAlloc asks_alloc (alloc_at ms) (alloc_formed ms) (λ a h. h))
     (either AsksFormed (bytes_eq op (codes "sub")) _ _ (judged_formed IsFormedSub request.Sub (sub_line_at ms) (sub_formed ms) (λ line h. h))
+    (either AsksFormed (bytes_eq op (codes "limit")) _ _ (judged_formed IsLimit asks_limit (limit_line_at ms) (limit_formed ms) (λ line h. h))
     (either AsksFormed (bytes_eq op (codes "host")) _ _ (asked_formed IsLock asks_lock (lock_line_at ms) (lock_formed ms) (λ line h. h))
     (either AsksFormed (bytes_eq op (codes "submit")) _ _ (judged_formed IsFormedJob request.Submit (submit_at ms) (submit_formed ms) (λ spec h. h))
     (either AsksFormed (bytes_eq op (codes "depend")) _ _ (asked_formed IsFormedDepend request.Depend (depend_at ms) (depend_formed ms) (λ spec h. h))
@@ -255,7 +283,7 @@ by_op_formed ms op =
     (either AsksFormed (bytes_eq op (codes "retry")) _ _ (asked_formed IsFormedFrame request.RetryFrame (frame_at ms) (frame_formed ms) (λ p h. h))
     (either AsksFormed (bytes_eq op (codes "tick")) _ _ (asked_formed (λ none. Unit {0}) asks_tick (others_at tick_keys ms) (any_formed (others_at tick_keys ms)) (λ none h. h))
     (either AsksFormed (bytes_eq op (codes "list")) _ _ (asked_formed (λ query. Unit {0}) request.List (query_at ms) (any_formed (query_at ms)) (λ query h. h))
-    tt)))))))))))))))
+    tt))))))))))))))))
 
 after_op_formed : (ms : Members) (op : Result (List ℕ) Fault) → IfOk (after_op ms op) AsksFormed
 after_op_formed ms (Ok op) = by_op_formed ms op

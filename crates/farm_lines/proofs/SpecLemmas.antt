@@ -39,6 +39,10 @@ pub record IsLayerForm (form : LayerForm) : Type 0 where
   pub name : is_name_text form.name ≡ true
   pub command : is_command_text form.command ≡ true
   pub tags : list_all is_tag_text form.tags ≡ true
+  pub limit : is_name_or_empty form.limit ≡ true
+
+or_empty : (field : List ℕ) (ms : Members) → IfOk (or_default [] (text_of is_name_or_empty) field ms) (λ text. is_name_or_empty text ≡ true)
+or_empty field ms = default_formed (λ text. is_name_or_empty text ≡ true) [] (text_of is_name_or_empty) field ms refl (text_formed is_name_or_empty field ms)
 
 layer_form_formed : (ms : Members) → IfOk (layer_form_at ms) IsLayerForm
 unfolding layer_form_at
@@ -49,8 +53,9 @@ layer_form_formed ms =
     step_any IsLayerForm (or_default (codes "1") text_at (codes "cores") ms) _ (λ cores.
     step_any IsLayerForm (or_default 3355443 number_at (codes "memory") ms) _ (λ memory.
     step (λ tags. list_all is_tag_text tags ≡ true) IsLayerForm (or_default (codes "general" ∷ []) tags_at (codes "tags") ms) _ (default_formed (λ tags. list_all is_tag_text tags ≡ true) (codes "general" ∷ []) tags_at (codes "tags") ms refl (tags_formed (codes "tags") ms)) (λ tags tagged.
+    step (λ limit. is_name_or_empty limit ≡ true) IsLayerForm (or_default [] (text_of is_name_or_empty) (codes "limit") ms) _ (or_empty (codes "limit") ms) (λ limit limited.
     step_any IsLayerForm (others_at layer_keys ms) _ (λ none.
-    record { name = named; command = commanded; tags = tagged })))))))
+    record { name = named; command = commanded; tags = tagged; limit = limited }))))))))
 
 -- the texts of a job are of their forms, its layers' and its depends' too
 pub record IsJobForm (form : JobForm) : Type 0 where
@@ -61,9 +66,6 @@ pub record IsJobForm (form : JobForm) : Type 0 where
   pub user : is_name_or_empty form.user ≡ true
   pub each_layer : All IsLayerForm form.layers
   pub each_depend : All (IsFormedOwn form.name) form.depends
-
-or_empty : (field : List ℕ) (ms : Members) → IfOk (or_default [] (text_of is_name_or_empty) field ms) (λ text. is_name_or_empty text ≡ true)
-or_empty field ms = default_formed (λ text. is_name_or_empty text ≡ true) [] (text_of is_name_or_empty) field ms refl (text_formed is_name_or_empty field ms)
 
 depends_formed : (own : List ℕ) (field : List ℕ) (ms : Members) → is_name_text own ≡ true → IfOk (or_default [] (own_depends own) field ms) (All (IsFormedOwn own))
 depends_formed own field ms named =
@@ -126,6 +128,7 @@ layer_made form sections cores ok short read commanded some enough tagged = reco
   numbers_are = sym (numbers_said (printed sections) sections (read_again form.range sections read));
   command = ok.command;
   tags = ok.tags;
+  limit = ok.limit;
   limits = record {
     some = numbers_some sections (read_set form.range sections read);
     distinct = numbers_distinct sections;

@@ -22,6 +22,7 @@ abbrev pub asked_of : Request → Asked
 asked_of (request.Show name) = asked.Act (act.Show name)
 asked_of (request.Alloc facility tag) = asked.Act (act.Alloc facility tag)
 asked_of (request.Sub line) = asked.Act (act.Sub line)
+asked_of (request.Limit name most) = asked.Act (act.Limit name most)
 asked_of (request.Boot line) = asked.Act (act.Boot line)
 asked_of (request.Report report) = asked.Report report
 asked_of (request.Lock host lock) = asked.Act (act.Lock host lock)

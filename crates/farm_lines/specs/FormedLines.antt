@@ -7,8 +7,8 @@ use Rattle.frame_range.specs.declared.fault.RangeFault.TheVariants as range_faul
 use Rattle.farm_types.specs.declared.attempt.Attempt.{Attempt}
 use Rattle.farm_types.specs.declared.refusal.Refusal.{Refusal}
 use Rattle.farm_types.specs.declared.refusal.Refusal.TheVariants.{Unknown, Finished, Exists, WrongBoot, Stale, FarmFull, Satisfied, WrongState, VersionSpent, SelfDepend, Started, Full}
-use Rattle.farm_types.specs.declared.limits.TheConstants.{LAST_BOOT, LAST_DEPEND, LAST_SLOT, LAST_VERSION, LEAST_CORES, LEAST_MEMORY, MOST_BURST, MOST_CORES, MOST_FRAMES, MOST_HOSTS, MOST_MEMORY, MOST_PRIORITY, MOST_RANGE, MOST_RETRIES, SLOT_LIMIT}
-use Rattle.farm_types.specs.Forms.{is_frame_number, is_name_text}
+use Rattle.farm_types.specs.declared.limits.TheConstants.{LAST_BOOT, LAST_DEPEND, LAST_SLOT, LAST_VERSION, LEAST_CORES, LEAST_MEMORY, MOST_BURST, MOST_CORES, MOST_FRAMES, MOST_HOSTS, MOST_MEMORY, MOST_PRIORITY, MOST_RANGE, MOST_RETRIES, MOST_RUNNING, SLOT_LIMIT}
+use Rattle.farm_types.specs.Forms.{is_frame_number, is_name_or_empty, is_name_text}
 use Rattle.farm_types.specs.Limits.{IsBetween}
 use Rattle.farm_lines.specs.declared.launch.Launch.{Launch}
 use Rattle.farm_lines.specs.declared.limits.TheConstants.{LAUNCHES_EACH, MOST_BOOKED, ROWS_EACH}
@@ -18,6 +18,7 @@ use Rattle.farm_lines.specs.declared.list_row.RowKind.{RowKind}
 use Rattle.farm_lines.specs.declared.list_row.ShownHost.{ShownHost}
 use Rattle.farm_lines.specs.declared.list_row.ShownJob.{ShownJob}
 use Rattle.farm_lines.specs.declared.list_row.ShownLayer.{ShownLayer}
+use Rattle.farm_lines.specs.declared.list_row.ShownLimit.{ShownLimit}
 use Rattle.farm_lines.specs.declared.list_row.ShownProc.{ShownProc}
 use Rattle.farm_lines.specs.declared.list_row.ShownSub.{ShownSub}
 use Rattle.farm_lines.specs.declared.query.Listed.{Listed}
@@ -77,6 +78,11 @@ pub record IsFormedSubRow (s : ShownSub) : Type 0 where
   pub burst_within : s.burst ≤ MOST_BURST
   pub size_within : s.size ≤ MOST_BURST
 
+pub record IsFormedLimitRow (l : ShownLimit) : Type 0 where
+  pub limit_name : IsName l.name
+  pub most_within : l.most ≤ MOST_RUNNING
+  pub running_within : l.running ≤ SLOT_LIMIT
+
 pub record IsFormedHostRow (h : ShownHost) : Type 0 where
   pub alloc_name : IsName h.alloc
   pub host_name : IsName h.name
@@ -104,6 +110,7 @@ pub record IsFormedJobRow (j : ShownJob) : Type 0 where
 
 pub record IsFormedLayerRow (l : ShownLayer) : Type 0 where
   pub layer_name : IsName l.name
+  pub limit_name : is_name_or_empty l.limit ≡ true
   pub range_text : IsText l.range
   pub cores_within : IsBetween LEAST_CORES MOST_CORES l.cores
   pub memory_within : IsBetween LEAST_MEMORY MOST_MEMORY l.memory
@@ -121,6 +128,7 @@ pub record IsFormedProcRow (p : ShownProc) : Type 0 where
 abbrev pub IsFormedRow : ListRow → Type 0
 IsFormedRow (row.Name name) = IsName name
 IsFormedRow (row.Sub s) = IsFormedSubRow s
+IsFormedRow (row.Limit l) = IsFormedLimitRow l
 IsFormedRow (row.Host h) = IsFormedHostRow h
 IsFormedRow (row.Job j) = IsFormedJobRow j
 IsFormedRow (row.Layer l) = IsFormedLayerRow l
@@ -182,6 +190,7 @@ IsFormedRefusal (Full limit what) = limit ≡ limit_of what
 abbrev pub IsFormedReply : Reply → Type 0
 IsFormedReply reply.Done = Unit {0}
 IsFormedReply (reply.Sub booked burst size) = (booked ≤ MOST_BOOKED) × (burst ≤ MOST_BURST) × (size ≤ MOST_BURST)
+IsFormedReply (reply.Limit most running) = (most ≤ MOST_RUNNING) × (running ≤ SLOT_LIMIT)
 IsFormedReply (reply.Boot boot nonce) = IsBetween 1 LAST_BOOT boot × (nonce < 2 ^ 64)
 IsFormedReply (reply.Tick down lost) = (down ≤ MOST_HOSTS) × (lost ≤ SLOT_LIMIT)
 IsFormedReply (reply.Submitted frames job) = IsBetween 1 MOST_FRAMES frames × IsName job

@@ -18,13 +18,14 @@ by_word ms word =
     if bytes_eq word (codes "shows") then Ok listed.Shows
     else (if bytes_eq word (codes "allocs") then Ok listed.Allocs
     else (if bytes_eq word (codes "subs") then Ok listed.Subs
+    else (if bytes_eq word (codes "limits") then Ok listed.Limits
     else (if bytes_eq word (codes "hosts") then Ok listed.Hosts
     else (if bytes_eq word (codes "jobs") then Ok listed.Jobs
     else (if bytes_eq word (codes "layers") then of_job_at listed.Layers ms
     else (if bytes_eq word (codes "frames") then of_job_at listed.Frames ms
     else (if bytes_eq word (codes "depends") then of_job_at listed.Depends ms
     else (if bytes_eq word (codes "procs") then Ok listed.Procs
-    else Err (WrongKind (codes "what"))))))))))
+    else Err (WrongKind (codes "what")))))))))))
 
 abbrev pub listed_at : Members → Result Listed Fault
 listed_at ms = text_at (codes "what") ms >>= by_word ms

@@ -10,6 +10,7 @@ use Rattle.farm_lines.specs.declared.list_row.ShownFrame.{ShownFrame}
 use Rattle.farm_lines.specs.declared.list_row.ShownHost.{ShownHost}
 use Rattle.farm_lines.specs.declared.list_row.ShownJob.{ShownJob}
 use Rattle.farm_lines.specs.declared.list_row.ShownLayer.{ShownLayer}
+use Rattle.farm_lines.specs.declared.list_row.ShownLimit.{ShownLimit}
 use Rattle.farm_lines.specs.declared.list_row.ShownProc.{ShownProc}
 use Rattle.farm_lines.specs.declared.list_row.ShownSub.{ShownSub}
 use Rattle.farm_lines.specs.Words.{whole}
@@ -24,6 +25,9 @@ unfoldable pub sub_row_data : ShownSub → Data
 sub_row_data s =
     object (member (codes "alloc") (string s.alloc) (member (codes "booked") (whole s.booked) (member (codes "burst") (whole s.burst)
     (member (codes "show") (string s.show) (member (codes "size") (whole s.size) no_members)))))
+
+unfoldable pub limit_row_data : ShownLimit → Data
+limit_row_data l = object (member (codes "most") (whole l.most) (member (codes "name") (string l.name) (member (codes "running") (whole l.running) no_members)))
 
 unfoldable pub host_row_data : ShownHost → Data
 host_row_data h =
@@ -42,9 +46,9 @@ job_row_data j =
 unfoldable pub layer_row_data : ShownLayer → Data
 layer_row_data l =
     object (member (codes "cores") (whole l.cores) (member (codes "dead") (whole l.dead) (member (codes "depend") (whole l.depend)
-    (member (codes "eaten") (whole l.eaten) (member (codes "memory") (whole l.memory) (member (codes "name") (string l.name)
+    (member (codes "eaten") (whole l.eaten) (member (codes "limit") (string l.limit) (member (codes "memory") (whole l.memory) (member (codes "name") (string l.name)
     (member (codes "range") (string l.range) (member (codes "running") (whole l.running) (member (codes "succeeded") (whole l.succeeded)
-    (member (codes "waiting") (whole l.waiting) no_members))))))))))
+    (member (codes "waiting") (whole l.waiting) no_members)))))))))))
 
 unfoldable pub frame_row_data : ShownFrame → Data
 frame_row_data x =
@@ -64,6 +68,7 @@ proc_row_data p =
 abbrev pub list_row_data : ListRow → Data
 list_row_data (row.Name name) = name_data name
 list_row_data (row.Sub s) = sub_row_data s
+list_row_data (row.Limit l) = limit_row_data l
 list_row_data (row.Host h) = host_row_data h
 list_row_data (row.Job j) = job_row_data j
 list_row_data (row.Layer l) = layer_row_data l

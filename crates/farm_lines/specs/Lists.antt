@@ -7,6 +7,7 @@ use Rattle.farm_types.specs.declared.rows.AllocRow.{AllocRow}
 use Rattle.farm_types.specs.declared.rows.HostRow.{HostRow}
 use Rattle.farm_types.specs.declared.rows.JobRow.{JobRow}
 use Rattle.farm_types.specs.declared.rows.LayerRow.{LayerRow}
+use Rattle.farm_types.specs.declared.rows.LimitRow.{LimitRow}
 use Rattle.farm_types.specs.declared.rows.ShowRow.{ShowRow}
 use Rattle.farm_types.specs.declared.rows.SubRow.{SubRow}
 use Rattle.farm_types.specs.declared.slot_row.Frame.{Frame}
@@ -21,7 +22,7 @@ use Rattle.farm_types.specs.Finish.{count_where, has_succeeded, waits_by, was_ea
 use Rattle.farm_types.specs.Names.{frame_name}
 use Rattle.farm_types.specs.Settle.{is_blocked}
 use Rattle.farm_types.specs.Step.{name_of_alloc}
-use Rattle.farm_types.specs.Sums.{booked_in, used_cores, used_memory}
+use Rattle.farm_types.specs.Sums.{booked_in, running_in, used_cores, used_memory}
 use Rattle.farm_lines.specs.declared.list_row.ListRow.{ListRow}
 use Rattle.farm_lines.specs.declared.list_row.ListRow.TheVariants as row
 use Rattle.farm_lines.specs.declared.query.Listed.{Listed}
@@ -71,6 +72,24 @@ alloc_row a = row.Name (alloc_name a.facility a.tag)
 abbrev pub sub_row : Farm → SubRow → ListRow
 sub_row f s =
     row.Sub (record { alloc = name_at_alloc f (s.sub % MOST_ALLOCS); booked = booked_in f s.sub; burst = s.burst; show = show_name f (s.sub / MOST_ALLOCS); size = s.size })
+
+-- ---- limits
+
+-- limits numbered from a place
+abbrev pub limit_row : Farm → ℕ → LimitRow → ListRow
+limit_row f limit l = row.Limit (record { most = l.most; name = l.name; running = running_in f limit })
+
+abbrev pub limit_rows : Farm → ℕ → List LimitRow → List ListRow
+limit_rows f place [] = []
+limit_rows f place (l ∷ ls) = limit_row f place l ∷ limit_rows f (place + 1) ls
+
+abbrev pub name_of_limit : Option LimitRow → List ℕ
+name_of_limit None = []
+name_of_limit (Some l) = l.name
+
+-- the name of a layer's limit, empty where it has none
+abbrev pub limit_name : Farm → Option ℕ → List ℕ
+limit_name f limit = name_of_limit (option_and_then (slice_get f.limits) limit)
 
 -- ---- hosts
 
@@ -132,13 +151,15 @@ slots_in f l = filter_map (slice_get f.slots) (layer_shape f.slots l).slots
 abbrev pub count_among : (FrameState → Bool) → List SlotRow → ℕ
 count_among test slots = sum_by (λ (s : SlotRow). if for_some s.frame (λ (x : Frame). test x.state) then 1 else 0) slots
 
-abbrev pub layer_with : LayerRow → List SlotRow → ListRow
-layer_with l slots =
+-- with its limit's name
+abbrev pub layer_with : List ℕ → LayerRow → List SlotRow → ListRow
+layer_with limit l slots =
     row.Layer (record {
       cores = l.cores;
       dead = count_among is_dead slots;
       depend = count_among is_blocked slots;
       eaten = count_among was_eaten slots;
+      limit = limit;
       memory = l.memory;
       name = l.name;
       range = l.range;
@@ -148,7 +169,7 @@ layer_with l slots =
     })
 
 abbrev pub layer_row : Farm → LayerRow → ListRow
-layer_row f l = layer_with l (slots_in f l)
+layer_row f l = layer_with (limit_name f l.limit) l (slots_in f l)
 
 abbrev pub layer_rows : Farm → ℕ → List ListRow
 layer_rows f job = map (layer_row f) (layers_of f.layers job)
@@ -207,6 +228,7 @@ abbrev pub rows_listed : Farm → Listed → Result (List ListRow) Refusal
 rows_listed f listed.Shows = Ok (map show_row f.shows)
 rows_listed f listed.Allocs = Ok (map alloc_row f.allocs)
 rows_listed f listed.Subs = Ok (map (sub_row f) f.subs)
+rows_listed f listed.Limits = Ok (limit_rows f 0 f.limits)
 rows_listed f listed.Hosts = Ok (host_rows f 0 f.hosts)
 rows_listed f listed.Jobs = Ok (map (job_row f) f.jobs)
 rows_listed f (listed.Layers job) = of_job f job (layer_rows f) (pending_named f job)

@@ -148,6 +148,9 @@ unfoldable pub sub_data : ℕ → ℕ → ℕ → Data
 sub_data booked burst size =
     object (member (codes "booked") (whole booked) (member (codes "burst") (whole burst) (member (codes "ok") (boolean true) (member (codes "size") (whole size) no_members))))
 
+unfoldable pub limit_data : ℕ → ℕ → Data
+limit_data most running = object (member (codes "most") (whole most) (member (codes "ok") (boolean true) (member (codes "running") (whole running) no_members)))
+
 unfoldable pub boot_data : ℕ → ℕ → Data
 boot_data boot nonce = object (member (codes "boot") (whole boot) (member (codes "nonce") (whole nonce) (member (codes "ok") (boolean true) no_members)))
 
@@ -171,6 +174,7 @@ job_named other = []
 -- the reply to a request but a report, by what the farm answers to its entry
 abbrev pub ok_reply : Act → Answer → Reply
 ok_reply entry (answer.Sub booked burst size) = reply.Sub booked burst size
+ok_reply entry (answer.Limit most running) = reply.Limit most running
 ok_reply entry (answer.Boot boot nonce) = reply.Boot boot nonce
 ok_reply entry (answer.Submitted frames) = reply.Submitted frames (job_named entry)
 ok_reply entry (answer.DependAdded depend unmet) = reply.Depend depend unmet
@@ -258,6 +262,7 @@ report_reply f host report ended =
 abbrev pub reply_data : Reply → Data
 reply_data reply.Done = done_data
 reply_data (reply.Sub booked burst size) = sub_data booked burst size
+reply_data (reply.Limit most running) = limit_data most running
 reply_data (reply.Boot boot nonce) = boot_data boot nonce
 reply_data (reply.Tick down lost) = tick_data down lost
 reply_data (reply.Submitted frames job) = submit_data frames job

@@ -10,7 +10,7 @@ use Rattle.frame_range.specs.declared.fault.RangeFault.TheVariants as range_faul
 use Rattle.farm_types.specs.declared.refusal.Counted.{Counted}
 use Rattle.farm_types.specs.declared.refusal.Counted.TheVariants as counted
 use Rattle.farm_types.specs.declared.refusal.Refusal.TheVariants.{Unknown, Finished, Exists, WrongBoot, Stale, FarmFull, Satisfied, WrongState, VersionSpent, SelfDepend, Started, Full}
-use Rattle.farm_types.specs.declared.limits.TheConstants.{LAST_BOOT, LAST_DEPEND, LAST_JOB, LAST_SLOT, LAST_VERSION, LEAST_CORES, LEAST_MEMORY, MOST_ALLOCS, MOST_BURST, MOST_CORES, MOST_DEPENDS, MOST_FRAMES, MOST_GROUPS, MOST_HOSTS, MOST_MEMORY, MOST_RANGE, MOST_SHOWS, SLOT_LIMIT}
+use Rattle.farm_types.specs.declared.limits.TheConstants.{LAST_BOOT, LAST_DEPEND, LAST_JOB, LAST_SLOT, LAST_VERSION, LEAST_CORES, LEAST_MEMORY, MOST_ALLOCS, MOST_BURST, MOST_CORES, MOST_DEPENDS, MOST_FRAMES, MOST_GROUPS, MOST_HOSTS, MOST_LIMITS, MOST_MEMORY, MOST_RANGE, MOST_RUNNING, MOST_SHOWS, SLOT_LIMIT}
 use Rattle.state_names.specs.Words.{counted_of, cut_of, state_of, word_at}
 use Rattle.farm_lines.specs.declared.launch.Launch.{Launch}
 use Rattle.farm_lines.specs.declared.limits.TheConstants.{LAUNCHES_EACH, MOST_BOOKED, ROWS_EACH}
@@ -40,6 +40,14 @@ unfoldable pub sub_reply : Members → Result Reply Fault
 sub_reply ms =
     whole_at (codes "booked") 0 MOST_BOOKED ms >>= λ booked. whole_at (codes "burst") 0 MOST_BURST ms >>= λ burst. whole_at (codes "size") 0 MOST_BURST ms >>= λ size.
     others_at sub_keys ms >>= λ none. Ok (reply.Sub booked burst size)
+
+abbrev pub limit_keys : List (List ℕ)
+limit_keys = codes "most" ∷ codes "ok" ∷ codes "running" ∷ []
+
+unfoldable pub limit_reply : Members → Result Reply Fault
+limit_reply ms =
+    whole_at (codes "most") 0 MOST_RUNNING ms >>= λ most. whole_at (codes "running") 0 SLOT_LIMIT ms >>= λ running. others_at limit_keys ms >>= λ none.
+    Ok (reply.Limit most running)
 
 abbrev pub boot_keys : List (List ℕ)
 boot_keys = codes "boot" ∷ codes "nonce" ∷ codes "ok" ∷ []
@@ -119,13 +127,14 @@ ok_at ms =
     if has_key (codes "acks") ms then report_reply_at ms
     else (if has_key (codes "rows") ms then list_reply_at ms
     else (if has_key (codes "booked") ms then sub_reply ms
+    else (if has_key (codes "most") ms then limit_reply ms
     else (if has_key (codes "nonce") ms then boot_reply ms
     else (if has_key (codes "down") ms then tick_reply ms
     else (if has_key (codes "frames") ms then submit_reply ms
     else (if has_key (codes "unmet") ms then depend_reply ms
     else (if has_key (codes "opened") ms then drop_reply ms
     else (if has_key (codes "ended") ms then ended_reply ms
-    else done_reply ms))))))))
+    else done_reply ms)))))))))
 
 -- ---- refusals
 
@@ -202,6 +211,7 @@ still_held_at ms =
 abbrev pub limit_of : Counted → ℕ
 limit_of counted.Shows = MOST_SHOWS
 limit_of counted.Allocs = MOST_ALLOCS
+limit_of counted.Limits = MOST_LIMITS
 limit_of counted.Hosts = MOST_HOSTS
 limit_of counted.Boots = LAST_BOOT
 limit_of counted.Jobs = LAST_JOB

@@ -4,7 +4,7 @@ use Rattle.serde_json.specs.Data.{Items, no_items, item, Members}
 use Rattle.serde_json.specs.Find.{as_object}
 use Rattle.cue_json.specs.Fields.{Fault, ◌>>=◌, flag_at, has_key, list_at, others_at, text_at, whole_at}
 use Rattle.cue_json.specs.Items.{items_at}
-use Rattle.farm_types.specs.declared.limits.TheConstants.{LAST_BOOT, LAST_DEPEND, LAST_SLOT, LAST_VERSION, LEAST_CORES, LEAST_MEMORY, MOST_BURST, MOST_CORES, MOST_FRAMES, MOST_MEMORY, MOST_PRIORITY, MOST_RETRIES}
+use Rattle.farm_types.specs.declared.limits.TheConstants.{LAST_BOOT, LAST_DEPEND, LAST_SLOT, LAST_VERSION, LEAST_CORES, LEAST_MEMORY, MOST_BURST, MOST_CORES, MOST_FRAMES, MOST_MEMORY, MOST_PRIORITY, MOST_RETRIES, MOST_RUNNING, SLOT_LIMIT}
 use Rattle.state_names.specs.Words.{host_state_of, job_state_of, kind_of, lock_of, state_of, word_at}
 use Rattle.farm_lines.specs.declared.limits.TheConstants.{MOST_BOOKED}
 use Rattle.farm_lines.specs.declared.list_row.ListRow.{ListRow}
@@ -13,6 +13,8 @@ use Rattle.farm_lines.specs.declared.list_row.RowKind.{RowKind}
 use Rattle.farm_lines.specs.declared.list_row.RowKind.TheVariants as kind
 use Rattle.farm_lines.specs.Fields.{name_at}
 use Rattle.farm_lines.specs.RowKinds.{row_keys}
+use Rattle.farm_lines.specs.Spec.{text_of}
+use Rattle.farm_types.specs.Forms.{is_name_or_empty}
 
 -- ---- rows
 
@@ -24,6 +26,11 @@ sub_row_at ms =
     name_at (codes "alloc") ms >>= λ alloc. whole_at (codes "booked") 0 MOST_BOOKED ms >>= λ booked. whole_at (codes "burst") 0 MOST_BURST ms >>= λ burst.
     name_at (codes "show") ms >>= λ show. whole_at (codes "size") 0 MOST_BURST ms >>= λ size. others_at (row_keys kind.Sub) ms >>= λ none.
     Ok (row.Sub (record { alloc = alloc; booked = booked; burst = burst; show = show; size = size }))
+
+unfoldable pub limit_row_at : Members → Result ListRow Fault
+limit_row_at ms =
+    whole_at (codes "most") 0 MOST_RUNNING ms >>= λ most. name_at (codes "name") ms >>= λ name. whole_at (codes "running") 0 SLOT_LIMIT ms >>= λ running.
+    others_at (row_keys kind.Limit) ms >>= λ none. Ok (row.Limit (record { most = most; name = name; running = running }))
 
 unfoldable pub host_row_at : Members → Result ListRow Fault
 host_row_at ms =
@@ -47,10 +54,11 @@ job_row_at ms =
 unfoldable pub layer_row_at : Members → Result ListRow Fault
 layer_row_at ms =
     whole_at (codes "cores") LEAST_CORES MOST_CORES ms >>= λ cores. count_at (codes "dead") ms >>= λ dead. count_at (codes "depend") ms >>= λ depend.
-    count_at (codes "eaten") ms >>= λ eaten. whole_at (codes "memory") LEAST_MEMORY MOST_MEMORY ms >>= λ memory. name_at (codes "name") ms >>= λ name.
+    count_at (codes "eaten") ms >>= λ eaten. text_of is_name_or_empty (codes "limit") ms >>= λ limit.
+    whole_at (codes "memory") LEAST_MEMORY MOST_MEMORY ms >>= λ memory. name_at (codes "name") ms >>= λ name.
     text_at (codes "range") ms >>= λ range. count_at (codes "running") ms >>= λ running. count_at (codes "succeeded") ms >>= λ succeeded.
     count_at (codes "waiting") ms >>= λ waiting. others_at (row_keys kind.Layer) ms >>= λ none.
-    Ok (row.Layer (record { cores = cores; dead = dead; depend = depend; eaten = eaten; memory = memory; name = name; range = range; running = running; succeeded = succeeded; waiting = waiting }))
+    Ok (row.Layer (record { cores = cores; dead = dead; depend = depend; eaten = eaten; limit = limit; memory = memory; name = name; range = range; running = running; succeeded = succeeded; waiting = waiting }))
 
 unfoldable pub frame_row_at : Members → Result ListRow Fault
 frame_row_at ms =
@@ -73,6 +81,7 @@ proc_row_at ms =
 abbrev pub row_at : RowKind → Members → Result ListRow Fault
 row_at kind.Name ms = name_row_at ms
 row_at kind.Sub ms = sub_row_at ms
+row_at kind.Limit ms = limit_row_at ms
 row_at kind.Host ms = host_row_at ms
 row_at kind.Job ms = job_row_at ms
 row_at kind.Layer ms = layer_row_at ms
@@ -87,10 +96,11 @@ kind_of_keys ms =
     else (if has_key (codes "priority") ms then kind.Job
     else (if has_key (codes "range") ms then kind.Layer
     else (if has_key (codes "booked") ms then kind.Sub
+    else (if has_key (codes "most") ms then kind.Limit
     else (if has_key (codes "retries") ms then kind.Frame
     else (if has_key (codes "satisfied") ms then kind.Depend
     else (if has_key (codes "slot") ms then kind.Proc
-    else kind.Name))))))
+    else kind.Name)))))))
 
 abbrev pub kind_of_row_at : Option Members → RowKind
 kind_of_row_at None = kind.Name

@@ -16,6 +16,8 @@ use Rattle.farm_lines.specs.declared.request.Request.{Request}
 use Rattle.farm_lines.specs.declared.request.Request.TheVariants as request
 use Rattle.farm_types.specs.declared.rows.AllocRow.{AllocRow}
 use Rattle.farm_types.specs.declared.states.LockState.{LockState}
+use Rattle.farm_lines.specs.declared.limit_form.LimitForm.{LimitForm}
+use Rattle.farm_lines.specs.declared.limit_form.LimitLine.{LimitLine}
 use Rattle.farm_lines.specs.declared.sub_form.SubForm.{SubForm}
 use Rattle.farm_types.specs.declared.sub_line.SubLine.{SubLine}
 use Rattle.farm_lines.specs.DependLines.{depend_at}
@@ -25,7 +27,7 @@ use Rattle.farm_lines.specs.ListLines.{query_at}
 use Rattle.farm_lines.specs.OperatorLines.{asks_pause, frame_at, job_at, kill_at}
 use Rattle.farm_lines.specs.Points.{before_point, after_point}
 use Rattle.farm_lines.specs.Spec.{SpecError, Field, Range, Amount, form_first, number_at, tags_at, within, spec_at}
-use Rattle.farm_types.specs.declared.limits.TheConstants.{LAST_BOOT, LAST_DEPEND, LAST_SLOT, LAST_VERSION, LEAST_CORES, LEAST_MEMORY, MOST_BURST, MOST_CORES, MOST_EXIT, MOST_MEMORY, MOST_TAGS}
+use Rattle.farm_types.specs.declared.limits.TheConstants.{LAST_BOOT, LAST_DEPEND, LAST_SLOT, LAST_VERSION, LEAST_CORES, LEAST_MEMORY, MOST_BURST, MOST_CORES, MOST_EXIT, MOST_MEMORY, MOST_RUNNING, MOST_TAGS}
 
 -- the first fault of a malformed line: the field at fault, empty where the line is no JSON object; a layer's range has a fault; or the amount of a field
 -- is outside its limits
@@ -108,6 +110,22 @@ sub_line_of form =
 
 abbrev pub sub_line_at : Members → Result SubLine SpecError
 sub_line_at ms = form_first (sub_form_at ms) >>= sub_line_of
+
+-- ---- limits
+
+abbrev pub limit_keys : List (List ℕ)
+limit_keys = codes "most" ∷ codes "name" ∷ codes "op" ∷ []
+
+unfoldable pub limit_form_at : Members → Result LimitForm Fault
+limit_form_at ms =
+    name_at (codes "name") ms >>= λ name. number_at (codes "most") ms >>= λ most. others_at limit_keys ms >>= λ none.
+    Ok (record { name = name; most = most })
+
+unfoldable pub limit_line_of : LimitForm → Result LimitLine SpecError
+limit_line_of form = within (codes "most") 0 MOST_RUNNING form.most >>= λ bounded. Ok (record { name = form.name; most = form.most })
+
+abbrev pub limit_line_at : Members → Result LimitLine SpecError
+limit_line_at ms = form_first (limit_form_at ms) >>= limit_line_of
 
 -- ---- boots
 
@@ -194,6 +212,9 @@ judged asks (Err error) = Err (error_of error)
 abbrev pub asks_alloc : AllocRow → Request
 asks_alloc a = request.Alloc a.facility a.tag
 
+abbrev pub asks_limit : LimitLine → Request
+asks_limit line = request.Limit line.name line.most
+
 abbrev pub asks_lock : LockLine → Request
 asks_lock line = request.Lock line.host line.lock
 
@@ -211,6 +232,7 @@ by_op ms op =
     else (if bytes_eq op (codes "show") then asked request.Show (show_at ms)
     else (if bytes_eq op (codes "alloc") then asked asks_alloc (alloc_at ms)
     else (if bytes_eq op (codes "sub") then judged request.Sub (sub_line_at ms)
+    else (if bytes_eq op (codes "limit") then judged asks_limit (limit_line_at ms)
     else (if bytes_eq op (codes "host") then asked asks_lock (lock_line_at ms)
     else (if bytes_eq op (codes "submit") then judged request.Submit (submit_at ms)
     else (if bytes_eq op (codes "depend") then asked request.Depend (depend_at ms)
@@ -222,7 +244,7 @@ by_op ms op =
     else (if bytes_eq op (codes "retry") then asked request.RetryFrame (frame_at ms)
     else (if bytes_eq op (codes "tick") then asked asks_tick (others_at tick_keys ms)
     else (if bytes_eq op (codes "list") then asked request.List (query_at ms)
-    else Err (BadLine (codes "op")))))))))))))))))
+    else Err (BadLine (codes "op"))))))))))))))))))
 
 abbrev pub after_op : Members → Result (List ℕ) Fault → Result Request RequestError
 after_op ms (Ok op) = by_op ms op

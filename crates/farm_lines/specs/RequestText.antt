@@ -59,7 +59,7 @@ boot_line b =
     object (member (codes "alloc") (string b.alloc) (member (codes "cores") (whole b.cores) (member (codes "host") (string b.host) (member (codes "memory") (whole b.memory)
     (member (codes "nonce") (whole b.nonce) (op (codes "boot") (member (codes "tags") (texts_data b.tags) no_members)))))))
 
--- ---- shows, allocations, subscriptions, locks
+-- ---- shows, allocations, subscriptions, limits, locks
 
 unfoldable pub name_line : List ℕ → List ℕ → Data
 name_line word name = object (member (codes "name") (string name) (op word no_members))
@@ -67,6 +67,9 @@ name_line word name = object (member (codes "name") (string name) (op word no_me
 unfoldable pub sub_line : SubLine → Data
 sub_line s =
     object (member (codes "alloc") (string s.alloc) (member (codes "burst") (whole s.burst) (op (codes "sub") (member (codes "show") (string s.show) (member (codes "size") (whole s.size) no_members)))))
+
+unfoldable pub limit_line : List ℕ → ℕ → Data
+limit_line name most = object (member (codes "most") (whole most) (member (codes "name") (string name) (op (codes "limit") no_members)))
 
 unfoldable pub lock_line : List ℕ → LockState → Data
 lock_line host lock = object (member (codes "host") (string host) (member (codes "lock") (string (lock_word lock)) (op (codes "host") no_members)))
@@ -79,8 +82,8 @@ cores_text cores = decimal (cores / 100) ++ 46 ∷ (48 + cores % 100 / 10) ∷ (
 
 unfoldable pub layer_data : LayerSpec → Data
 layer_data l =
-    object (member (codes "command") (string l.command) (member (codes "cores") (string (cores_text l.cores)) (member (codes "memory") (whole l.memory)
-    (member (codes "name") (string l.name) (member (codes "range") (string l.range) (member (codes "tags") (texts_data l.tags) no_members))))))
+    object (member (codes "command") (string l.command) (member (codes "cores") (string (cores_text l.cores)) (member (codes "limit") (string l.limit)
+    (member (codes "memory") (whole l.memory) (member (codes "name") (string l.name) (member (codes "range") (string l.range) (member (codes "tags") (texts_data l.tags) no_members)))))))
 
 -- a depend of a job's own spec, in which the waiting job isn't named
 unfoldable pub own_depend_data : DependSpec → Data
@@ -142,6 +145,7 @@ abbrev pub request_data : Request → Data
 request_data (request.Show name) = name_line (codes "show") name
 request_data (request.Alloc facility tag) = name_line (codes "alloc") (facility ++ 46 ∷ tag)
 request_data (request.Sub line) = sub_line line
+request_data (request.Limit name most) = limit_line name most
 request_data (request.Boot line) = boot_line line
 request_data (request.Report report) = report_line report
 request_data (request.Lock host lock) = lock_line host lock

@@ -55,7 +55,7 @@ tags_at field ms = list_at field ms >>= tags_in field
 -- ---- the form of a spec
 
 abbrev pub layer_keys : List (List ℕ)
-layer_keys = codes "command" ∷ codes "cores" ∷ codes "memory" ∷ codes "name" ∷ codes "range" ∷ codes "tags" ∷ []
+layer_keys = codes "command" ∷ codes "cores" ∷ codes "limit" ∷ codes "memory" ∷ codes "name" ∷ codes "range" ∷ codes "tags" ∷ []
 
 -- a layer: its fields in order, and no others
 unfoldable pub layer_form_at : Members → Result LayerForm Fault
@@ -63,8 +63,8 @@ layer_form_at ms =
     name_at (codes "name") ms >>= λ name. text_at (codes "range") ms >>= λ range.
     text_of is_command_text (codes "command") ms >>= λ command. or_default (codes "1") text_at (codes "cores") ms >>= λ cores.
     or_default 3355443 number_at (codes "memory") ms >>= λ memory. or_default (codes "general" ∷ []) tags_at (codes "tags") ms >>= λ tags.
-    others_at layer_keys ms >>= λ none.
-    Ok (record { name = name; range = range; command = command; cores = cores; memory = memory; tags = tags })
+    or_default [] (text_of is_name_or_empty) (codes "limit") ms >>= λ limit. others_at layer_keys ms >>= λ none.
+    Ok (record { name = name; range = range; command = command; cores = cores; memory = memory; tags = tags; limit = limit })
 
 abbrev pub job_keys : List (List ℕ)
 job_keys =
@@ -121,6 +121,7 @@ layer_with form sections cores =
       cores = cores;
       memory = form.memory;
       tags = form.tags;
+      limit = form.limit;
     }
 
 -- a layer's amounts in order: a range text of 1,024 bytes at most, its range, a command of 1 to 4,096 bytes, cores, memory, and 1 to 32 tags

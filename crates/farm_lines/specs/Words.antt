@@ -18,6 +18,7 @@ abbrev pub what_word : What → List ℕ
 what_word what.Shows = codes "shows"
 what_word what.Allocs = codes "allocs"
 what_word what.Subs = codes "subs"
+what_word what.Limits = codes "limits"
 what_word what.Hosts = codes "hosts"
 what_word what.Jobs = codes "jobs"
 what_word what.Layers = codes "layers"
@@ -31,19 +32,21 @@ what_of word =
     if bytes_eq word (codes "shows") then Some what.Shows
     else (if bytes_eq word (codes "allocs") then Some what.Allocs
     else (if bytes_eq word (codes "subs") then Some what.Subs
+    else (if bytes_eq word (codes "limits") then Some what.Limits
     else (if bytes_eq word (codes "hosts") then Some what.Hosts
     else (if bytes_eq word (codes "jobs") then Some what.Jobs
     else (if bytes_eq word (codes "layers") then Some what.Layers
     else (if bytes_eq word (codes "frames") then Some what.Frames
     else (if bytes_eq word (codes "depends") then Some what.Depends
     else (if bytes_eq word (codes "procs") then Some what.Procs
-    else None))))))))
+    else None)))))))))
 
 -- what is listed
 abbrev pub what_listed : Listed → What
 what_listed listed.Shows = what.Shows
 what_listed listed.Allocs = what.Allocs
 what_listed listed.Subs = what.Subs
+what_listed listed.Limits = what.Limits
 what_listed listed.Hosts = what.Hosts
 what_listed listed.Jobs = what.Jobs
 what_listed (listed.Layers job) = what.Layers

@@ -19,7 +19,7 @@ pub struct JobForm {
     pub depends: Items<DependSpec>,
 }
 
-/// The fields of a layer: the range, the command and the cores are texts of any length.
+/// The fields of a layer: the range, the command and the cores are texts of any length, and the limit is a name or empty.
 #[derive(Debug, Drop)]
 pub struct LayerForm {
     pub name: Text,
@@ -28,4 +28,5 @@ pub struct LayerForm {
     pub cores: Text,
     pub memory: u64,
     pub tags: Items<Text>,
+    pub limit: Text,
 }

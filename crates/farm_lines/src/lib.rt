@@ -12,6 +12,7 @@ mod fields;
 mod job_form;
 mod launch;
 mod laws;
+mod limit_form;
 mod limits;
 mod list_row;
 mod name_field;
@@ -33,13 +34,15 @@ pub use fields::{read_list, read_text, read_whole};
 pub use job_form::{JobForm, LayerForm};
 pub use launch::Launch;
 pub use laws::requests_are_formed;
+pub use limit_form::{LimitForm, LimitLine};
 pub use limits::{
     LAUNCHES_EACH, LEAST_FRAME, LINE_LIMIT, MOST_BOOKED, MOST_FRAME, REPLY_LIMIT, ROWS_EACH,
 };
 pub use list_row::{
-    ListRow, RowKind, ShownDepend, ShownFrame, ShownHost, ShownJob, ShownLayer, ShownProc, ShownSub,
+    ListRow, RowKind, ShownDepend, ShownFrame, ShownHost, ShownJob, ShownLayer, ShownLimit,
+    ShownProc, ShownSub,
 };
-pub use name_field::read_name;
+pub use name_field::{read_name, read_name_or_empty};
 pub use number::{is_number, number_of};
 pub use points::split_at_point;
 pub use query::{Listed, Query};

@@ -18,6 +18,14 @@ pub struct ShownSub {
     pub size: Cores,
 }
 
+/// A limit: how many frames of the layers that have it run at most, and how many run.
+#[derive(Debug, Drop)]
+pub struct ShownLimit {
+    pub most: u32,
+    pub name: Text,
+    pub running: u32,
+}
+
 /// A host: the name of its allocation, the moment (seconds) when it was last heard, its cores and memory, and what of them live
 /// attempts use.
 #[derive(Debug, Drop)]
@@ -50,14 +58,15 @@ pub struct ShownJob {
     pub waiting: u32,
 }
 
-/// A layer: its frame range as it is printed, what each attempt at one of its frames books, and how many of its frames are in each
-/// state.
+/// A layer: its frame range as it is printed, what each attempt at one of its frames books, the name of its limit (empty where it
+/// has none), and how many of its frames are in each state.
 #[derive(Debug, Drop)]
 pub struct ShownLayer {
     pub cores: Cores,
     pub dead: u32,
     pub depend: u32,
     pub eaten: u32,
+    pub limit: Text,
     pub memory: Kb,
     pub name: Text,
     pub range: Text,
@@ -100,6 +109,7 @@ pub struct ShownProc {
 pub enum ListRow {
     Name { name: Text },
     Sub(ShownSub),
+    Limit(ShownLimit),
     Host(ShownHost),
     Job(ShownJob),
     Layer(ShownLayer),
@@ -113,6 +123,7 @@ pub enum ListRow {
 pub enum RowKind {
     Name,
     Sub,
+    Limit,
     Host,
     Job,
     Layer,
@@ -129,6 +140,7 @@ impl RowKind {
         match self {
             RowKind::Name => &["name"],
             RowKind::Sub => &["alloc", "booked", "burst", "show", "size"],
+            RowKind::Limit => &["most", "name", "running"],
             RowKind::Host => &[
                 "alloc",
                 "boot",
@@ -159,6 +171,7 @@ impl RowKind {
                 "dead",
                 "depend",
                 "eaten",
+                "limit",
                 "memory",
                 "name",
                 "range",

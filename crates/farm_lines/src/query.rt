@@ -2,13 +2,14 @@
 
 use farm_types::Text;
 
-/// What a list shows: the shows, the allocations, the subscriptions, the hosts, the jobs or the live attempts of the farm, or the
+/// What a list shows: the shows, the allocations, the subscriptions, the limits, the hosts, the jobs or the live attempts of the farm, or the
 /// layers, the frames or the depends of the pending job of that name.
 #[derive(Debug, Drop)]
 pub enum Listed {
     Shows,
     Allocs,
     Subs,
+    Limits,
     Hosts,
     Jobs,
     Layers { job: Text },

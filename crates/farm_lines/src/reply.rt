@@ -15,6 +15,11 @@ pub enum Reply {
         burst: Cores,
         size: Cores,
     },
+    /// How many frames of the layers that have the limit run at most, and how many run.
+    Limit {
+        most: u32,
+        running: u32,
+    },
     Boot {
         boot: u32,
         nonce: u64,

@@ -7,7 +7,7 @@ use frame_range::RangeFault;
 use std::alloc::AllocError;
 use std::fmt;
 
-/// What a line asks: that a show or an allocation be added, a subscription set, a host's boot or report taken, a host
+/// What a line asks: that a show or an allocation be added, a subscription or a limit set, a host's boot or report taken, a host
 /// locked or opened, a job submitted, paused, resumed or killed, a depend added or dropped, a frame killed, eaten or retried, that time be
 /// seen to have passed, or that a list be shown.
 #[derive(Debug, Drop)]
@@ -15,6 +15,7 @@ pub enum Request {
     Show { name: Text },
     Alloc { facility: Text, tag: Text },
     Sub(SubLine),
+    Limit { name: Text, most: u32 },
     Boot(BootLine),
     Report(Report),
     Lock { host: Text, lock: LockState },

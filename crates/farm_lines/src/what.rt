@@ -6,6 +6,7 @@ pub enum What {
     Shows,
     Allocs,
     Subs,
+    Limits,
     Hosts,
     Jobs,
     Layers,

@@ -18,8 +18,8 @@ use Rattle.farm_types.specs.declared.slot_row.Frame.{Frame}
 use Rattle.farm_types.specs.declared.slot_row.SlotRow.{SlotRow}
 use Rattle.farm_types.specs.declared.limits.TheConstants.{LAST_VERSION}
 use Rattle.farm_types.specs.Dispatch.{round_for}
-use Rattle.farm_types.specs.Farm.{Farm, job_at, layer_at, host_named}
-use Rattle.farm_types.specs.Kept.{KeepsRows, for_any, is_kept_frame, is_kept_slot}
+use Rattle.farm_types.specs.Farm.{Farm, job_at, layer_at, host_named, for_any}
+use Rattle.farm_types.specs.Kept.{KeepsRows, is_kept_frame, is_kept_slot}
 use Rattle.farm_types.specs.Run.{HasItsAttempt, run_of}
 use Rattle.farm_types.specs.Step.{after, refusal_of}
 use Rattle.farm_types.proofs.Lists.{and_both, list_all-at}

@@ -12,9 +12,9 @@ use Rattle.farm_types.specs.declared.slot_row.Frame.{Frame}
 use Rattle.farm_types.specs.declared.slot_row.SlotRow.{SlotRow}
 use Rattle.farm_types.specs.declared.limits.TheConstants.{LAST_VERSION}
 use Rattle.farm_types.specs.Depends.{layer_shape, or_first, slot_placed, slots_placed}
-use Rattle.farm_types.specs.Farm.{for_some, is_placed, slot_from}
+use Rattle.farm_types.specs.Farm.{for_some, is_placed, slot_from, for_any, layer_in}
 use Rattle.farm_types.specs.Jobs.{JobLists}
-use Rattle.farm_types.specs.Kept.{KeepsJobs, for_any, is_kept_frame, is_kept_slot, layer_in}
+use Rattle.farm_types.specs.Kept.{KeepsJobs, is_kept_frame, is_kept_slot}
 use Rattle.farm_types.specs.Ranges.{range_numbers}
 use Rattle.farm_types.specs.Rising.{IsRising, layer_key}
 use Rattle.farm_types.proofs.Lists.{and_both, for_some_true, list_all-at}

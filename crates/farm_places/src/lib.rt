@@ -3,6 +3,7 @@
 
 mod ends;
 mod frames;
+mod limits;
 mod numbered;
 mod refused;
 mod shapes;
@@ -10,6 +11,7 @@ mod states;
 
 pub use ends::{FoundEnd, check_part, end_in, find_end};
 pub use frames::find_frame;
+pub use limits::{check_limits, limits_of};
 pub use refused::{missing, unknown_frame};
 pub use shapes::part_shape;
 pub use states::{check_eat, check_kill, check_retry};

@@ -21,7 +21,8 @@ use Rattle.farm_rows.specs.Keys.{ChangesNothing, has_parts, is_parts, key_parts,
 abbrev from_parts : ℕ → ℕ → ℕ → RowKey
 from_parts kind a b =
     cond (eqb kind 0) key.Head (cond (eqb kind 1) (key.Show a) (cond (eqb kind 2) (key.Alloc a) (cond (eqb kind 3) (key.Sub a) (cond (eqb kind 4) (key.Host a)
-    (cond (eqb kind 5) (key.Job a) (cond (eqb kind 6) (key.Layer a b) (cond (eqb kind 7) (key.Frame a) (cond (eqb kind 8) (key.Depend a) (key.Met a b)))))))))
+    (cond (eqb kind 5) (key.Job a) (cond (eqb kind 6) (key.Layer a b) (cond (eqb kind 7) (key.Frame a) (cond (eqb kind 8) (key.Depend a)
+    (cond (eqb kind 9) (key.Met a b) (key.Limit a))))))))))
 
 abbrev key_back : ℕ × ℕ × ℕ → RowKey
 key_back p = from_parts p.0 p.1 p.2
@@ -37,6 +38,7 @@ back (key.Layer a m) = refl
 back (key.Frame a) = refl
 back (key.Depend a) = refl
 back (key.Met a m) = refl
+back (key.Limit a) = refl
 
 parts_same : (a : ℕ × ℕ × ℕ) → is_parts a a ≡ true
 parts_same a = both_true (both_true (eq-eqb a.0 a.0 refl) (eq-eqb a.1 a.1 refl)) (eq-eqb a.2 a.2 refl)

@@ -26,6 +26,7 @@ is_key-same (key.Layer a m) = both_true (eq-eqb a a refl) (eq-eqb m m refl)
 is_key-same (key.Frame a) = eq-eqb a a refl
 is_key-same (key.Depend a) = eq-eqb a a refl
 is_key-same (key.Met a m) = both_true (eq-eqb a a refl) (eq-eqb m m refl)
+is_key-same (key.Limit a) = eq-eqb a a refl
 
 pub is_key-true : (j k : RowKey) → is_key j k ≡ true → j ≡ k
 is_key-true key.Head key.Head h = refl
@@ -42,6 +43,7 @@ is_key-true (key.Depend a) (key.Depend b) h = ap key.Depend (eqb-true a b h)
 is_key-true (key.Met a m) (key.Met b n) h =
     let both = and_both (eqb a b) (eqb m n) h in
     ap (λ (x : ℕ). key.Met x m) (eqb-true a b both.0) ∙ ap (key.Met b) (eqb-true m n both.1)
+is_key-true (key.Limit a) (key.Limit b) h = ap key.Limit (eqb-true a b h)
 is_key-true j k h = absurd (false≢true h)
 
 -- ---- one list after the other

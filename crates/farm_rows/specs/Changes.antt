@@ -26,6 +26,7 @@ row_key (row.Layer r) = key.Layer r.job r.place
 row_key (row.Frame r) = key.Frame r.slot
 row_key (row.Depend r) = key.Depend r.depend
 row_key (row.Met r) = key.Met r.depend r.position
+row_key (row.Limit limit r) = key.Limit limit
 
 abbrev pub is_key : RowKey → RowKey → Bool
 is_key key.Head key.Head = true
@@ -38,6 +39,7 @@ is_key (key.Layer a m) (key.Layer b n) = a == b && m == n
 is_key (key.Frame a) (key.Frame b) = a == b
 is_key (key.Depend a) (key.Depend b) = a == b
 is_key (key.Met a m) (key.Met b n) = a == b && m == n
+is_key (key.Limit a) (key.Limit b) = a == b
 is_key a b = false
 
 -- ---- the rows of a farm
@@ -61,6 +63,7 @@ row_at f (key.Layer job place) = option_map row.Layer (layer_at f job place)
 row_at f (key.Frame slot) = option_and_then (used_row slot) (slice_get f.slots slot)
 row_at f (key.Depend depend) = option_map row.Depend (find (λ (d : DependRow). d.depend == depend) f.depends)
 row_at f (key.Met depend position) = if list_any (is_mark depend position) f.met then Some (row.Met (record { depend = depend; position = position })) else None
+row_at f (key.Limit limit) = option_map (row.Limit limit) (slice_get f.limits limit)
 
 -- ---- changes one after the other
 

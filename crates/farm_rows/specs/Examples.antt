@@ -8,6 +8,7 @@ use Rattle.farm_types.specs.declared.rows.AllocRow.{AllocRow}
 use Rattle.farm_types.specs.declared.rows.HostRow.{HostRow}
 use Rattle.farm_types.specs.declared.rows.JobRow.{JobRow}
 use Rattle.farm_types.specs.declared.rows.LayerRow.{LayerRow}
+use Rattle.farm_types.specs.declared.rows.LimitRow.{LimitRow}
 use Rattle.farm_types.specs.declared.rows.ShowRow.{ShowRow}
 use Rattle.farm_types.specs.declared.rows.SubRow.{SubRow}
 use Rattle.farm_types.specs.declared.slot_row.Frame.{Frame}
@@ -26,7 +27,7 @@ abbrev pub opened_farm : Farm
 opened_farm = record empty_farm { recorded = true }
 
 abbrev pub new_farm : List FarmRow
-new_farm = row.Head (record { format = 1; moment = 0; jobs = 1; finishes = 1; depends = 1 }) ∷ []
+new_farm = row.Head (record { format = 2; moment = 0; jobs = 1; finishes = 1; depends = 1 }) ∷ []
 
 -- a slot whose frame waits, one whose frame runs, and a free one
 abbrev pub frame_in : ℕ → Frame
@@ -96,7 +97,20 @@ job_three =
 
 abbrev pub layer_at_place : ℕ → List ℕ → LayerRow
 layer_at_place place name =
-    record { job = 3; place = place; name = name; range = codes "7"; command = codes "true"; cores = 100; memory = 262144; tags = codes "general" ∷ [] }
+    record {
+      job = 3;
+      place = place;
+      name = name;
+      range = codes "7";
+      command = codes "true";
+      cores = 100;
+      memory = 262144;
+      tags = codes "general" ∷ [];
+      limit = Some place;
+    }
+
+abbrev pub limit_called : List ℕ → LimitRow
+limit_called name = record { name = name; most = 40 }
 
 abbrev pub depend_two : DependRow
 depend_two =
@@ -118,6 +132,7 @@ small_farm =
       shows = show_called (codes "alpha") ∷ show_called (codes "beta") ∷ [];
       allocs = farm_general ∷ [];
       subs = sub_numbered 0 ∷ sub_numbered 16 ∷ [];
+      limits = limit_called (codes "arnold") ∷ limit_called (codes "nuke") ∷ [];
       hosts = host_one ∷ [];
       jobs = job_three ∷ [];
       layers = layer_at_place 0 (codes "a") ∷ layer_at_place 1 (codes "b") ∷ [];

@@ -19,6 +19,7 @@ key_parts (key.Layer job place) = (6, job, place)
 key_parts (key.Frame slot) = (7, slot, 0)
 key_parts (key.Depend depend) = (8, depend, 0)
 key_parts (key.Met depend position) = (9, depend, position)
+key_parts (key.Limit limit) = (10, limit, 0)
 
 abbrev pub is_parts : ℕ × ℕ × ℕ → ℕ × ℕ × ℕ → Bool
 is_parts a b = (a.0 == b.0 && a.1 == b.1) && a.2 == b.2

@@ -10,6 +10,7 @@ farm_in l =
       shows = l.shows.items;
       allocs = l.allocs.items;
       subs = l.subs.items;
+      limits = l.limits.items;
       hosts = l.hosts.items;
       jobs = l.jobs.items;
       layers = l.layers.items;

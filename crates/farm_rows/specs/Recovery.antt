@@ -1,5 +1,5 @@
 -- The farm that rows say: what each row adds, when it breaks the farm that the rows before it say, and which row is at fault after the last one.
-use Rattle.std.specs.Prelude.{ℕ, ℤ, ◌==◌, ◌&&◌, ◌||◌, ◌+◌, ◌-◌, ◌*◌, ◌^◌, Bool, true, false, not, List, [], ◌∷◌, ◌++◌, map, filter, find, length, is_some, replicate, slice_get, bytes_eq, nat_le, nat_lt, Option, None, Some, Result, Ok, Err, option_map, option_and_then, if◌then◌else◌}
+use Rattle.std.specs.Prelude.{ℕ, ℤ, ◌≤◌, ◌==◌, ◌&&◌, ◌||◌, ◌+◌, ◌-◌, ◌*◌, ◌^◌, Bool, true, false, not, List, [], ◌∷◌, ◌++◌, map, filter, find, length, is_some, replicate, slice_get, bytes_eq, nat_le, nat_lt, Option, None, Some, Result, Ok, Err, option_map, option_and_then, if◌then◌else◌}
 use Rattle.std.specs.List.{list_all, list_any, position_or_len}
 use Rattle.std.specs.Ordering.{int_eq}
 use Rattle.farm_types.specs.declared.attempt.ProcRow.{ProcRow}
@@ -13,6 +13,7 @@ use Rattle.farm_types.specs.declared.rows.AllocRow.{AllocRow}
 use Rattle.farm_types.specs.declared.rows.HostRow.{HostRow}
 use Rattle.farm_types.specs.declared.rows.JobRow.{JobRow}
 use Rattle.farm_types.specs.declared.rows.LayerRow.{LayerRow}
+use Rattle.farm_types.specs.declared.rows.LimitRow.{LimitRow}
 use Rattle.farm_types.specs.declared.rows.ShowRow.{ShowRow}
 use Rattle.farm_types.specs.declared.rows.SubRow.{SubRow}
 use Rattle.farm_types.specs.declared.slot_row.Frame.{Frame}
@@ -26,11 +27,11 @@ use Rattle.farm_types.specs.Farm.{Farm, empty_farm, for_some, is_placed, job_at,
 use Rattle.farm_types.specs.Finish.{finishes, is_finished}
 use Rattle.farm_types.specs.Forms.{is_between}
 use Rattle.farm_types.specs.Groups.{groups_by, part_at}
-use Rattle.farm_types.specs.Kept.{alloc_label, frames_said, has_its_counts, has_its_finish, host_label, is_formed_alloc, is_formed_depend, is_formed_host, is_formed_job, is_formed_layer, is_formed_show, is_kept_sub, is_of_pending, is_pending_job, job_label, layer_label, runs_unmet, show_label}
+use Rattle.farm_types.specs.Kept.{alloc_label, frames_said, has_its_counts, has_its_finish, host_label, is_formed_alloc, is_formed_depend, is_formed_host, is_formed_job, is_formed_layer, is_formed_limit, is_formed_show, has_its_limit, is_kept_sub, is_of_pending, is_pending_job, job_label, layer_label, limit_label, runs_unmet, show_label}
 use Rattle.farm_types.specs.Ranges.{range_numbers}
 use Rattle.farm_types.specs.Settle.{is_met_now, opens}
 use Rattle.farm_types.specs.Sums.{used_cores, used_memory}
-use Rattle.farm_types.specs.declared.limits.TheConstants.{LAST_DEPEND, LAST_JOB, LAST_VERSION, MOST_ALLOCS, MOST_DEPENDS, MOST_FINISHED, MOST_GROUPS, MOST_HOSTS, MOST_RETRIES, MOST_SHOWS, SLOT_LIMIT}
+use Rattle.farm_types.specs.declared.limits.TheConstants.{LAST_DEPEND, LAST_JOB, LAST_VERSION, MOST_ALLOCS, MOST_DEPENDS, MOST_FINISHED, MOST_GROUPS, MOST_HOSTS, MOST_LIMITS, MOST_RETRIES, MOST_SHOWS, SLOT_LIMIT}
 use Rattle.farm_rows.specs.declared.farm_row.FarmRow.{FarmRow}
 use Rattle.farm_rows.specs.declared.farm_row.FarmRow.TheVariants as row
 use Rattle.farm_rows.specs.declared.frame_row.FrameRow.{FrameRow}
@@ -38,6 +39,7 @@ use Rattle.farm_rows.specs.declared.frame_row.StoredFrame.{StoredFrame}
 use Rattle.farm_rows.specs.declared.frame_row.StoredState.{StoredState}
 use Rattle.farm_rows.specs.declared.frame_row.StoredState.TheVariants as stored
 use Rattle.farm_rows.specs.declared.head_row.HeadRow.{HeadRow}
+use Rattle.farm_rows.specs.declared.head_row.TheConstants.{ROW_FORMAT}
 use Rattle.farm_rows.specs.Rows.{row_id, row_kind}
 use Rattle.farm_rows.specs.declared.ids.TheConstants.{LAYER_IDS}
 
@@ -101,6 +103,7 @@ with_stored f (row.Layer r) = record f { layers = f.layers ++ r ∷ [] }
 with_stored f (row.Frame r) = record f { slots = with_slot f.slots r.slot (slot_row f r) }
 with_stored f (row.Depend r) = record f { depends = f.depends ++ r ∷ [] }
 with_stored f (row.Met r) = record f { met = f.met ++ r ∷ [] }
+with_stored f (row.Limit limit r) = record f { limits = f.limits ++ r ∷ [] }
 
 -- ---- when a row fits those before it
 
@@ -108,10 +111,14 @@ with_stored f (row.Met r) = record f { met = f.met ++ r ∷ [] }
 abbrev pub is_new : {X : Type 0} → (X → List ℕ) → List ℕ → List X → Bool
 is_new label name xs = not (list_any (λ x. bytes_eq (label x) name) xs)
 
--- the first row: of the one format, its moment a number of 64 bits, each next number in its range
+-- rows are of format 1, or of the one in which they are written
+abbrev pub IsFormat : ℕ → Type 0
+IsFormat format = (1 ≤ format) × (format ≤ ROW_FORMAT)
+
+-- the first row: of one of both formats, its moment a number of 64 bits, each next number in its range
 abbrev pub head_fits : Farm → HeadRow → Bool
 head_fits f r =
-    not f.recorded && (r.format == 1 && (nat_lt r.moment (2 ^ 64) && (is_between 1 (LAST_DEPEND + 1) r.depends && (is_between 1 (LAST_JOB + 1) r.finishes && is_between 1 (LAST_JOB + 1) r.jobs))))
+    not f.recorded && (is_between 1 ROW_FORMAT r.format && (nat_lt r.moment (2 ^ 64) && (is_between 1 (LAST_DEPEND + 1) r.depends && (is_between 1 (LAST_JOB + 1) r.finishes && is_between 1 (LAST_JOB + 1) r.jobs))))
 
 abbrev pub show_fits : Farm → ℕ → ShowRow → Bool
 show_fits f show r = show == length f.shows && (nat_lt show MOST_SHOWS && (is_formed_show r && is_new show_label r.name f.shows))
@@ -143,6 +150,11 @@ frames_fit f r = for_some (job_at f r.job) (λ (j : JobRow). nat_le (frames_said
 abbrev pub layer_fits : Farm → LayerRow → Bool
 layer_fits f r =
     is_of_pending f.jobs r.job && (r.place == length (layers_of f.layers r.job) && (is_formed_layer r && (is_new layer_label r.name (layers_of f.layers r.job) && frames_fit f r)))
+
+-- there are limits in format 2 alone
+abbrev pub limit_fits : ℕ → Farm → ℕ → LimitRow → Bool
+limit_fits format f limit r =
+    format == ROW_FORMAT && (limit == length f.limits && (nat_lt limit MOST_LIMITS && (is_formed_limit r && is_new limit_label r.name f.limits)))
 
 -- ---- frames
 
@@ -231,18 +243,19 @@ met_fits f r = for_some (find (λ (d : DependRow). d.depend == r.depend) f.depen
 
 -- ---- any row
 
--- the row fits the farm that those before it say; the first one is the farm's own
-abbrev pub row_fits : Farm → FarmRow → Bool
-row_fits f (row.Head r) = head_fits f r
-row_fits f (row.Show show r) = f.recorded && show_fits f show r
-row_fits f (row.Alloc alloc r) = f.recorded && alloc_fits f alloc r
-row_fits f (row.Sub r) = f.recorded && sub_fits f r
-row_fits f (row.Host host r) = f.recorded && host_fits f host r
-row_fits f (row.Job r) = f.recorded && job_fits f r
-row_fits f (row.Layer r) = f.recorded && layer_fits f r
-row_fits f (row.Frame r) = f.recorded && slot_fits f r
-row_fits f (row.Depend r) = f.recorded && depend_fits f r
-row_fits f (row.Met r) = f.recorded && met_fits f r
+-- the row, of a store of that format, fits the farm that those before it say; the first one is the farm's own
+abbrev pub row_fits : ℕ → Farm → FarmRow → Bool
+row_fits format f (row.Head r) = head_fits f r
+row_fits format f (row.Show show r) = f.recorded && show_fits f show r
+row_fits format f (row.Alloc alloc r) = f.recorded && alloc_fits f alloc r
+row_fits format f (row.Sub r) = f.recorded && sub_fits f r
+row_fits format f (row.Host host r) = f.recorded && host_fits f host r
+row_fits format f (row.Job r) = f.recorded && job_fits f r
+row_fits format f (row.Layer r) = f.recorded && layer_fits f r
+row_fits format f (row.Frame r) = f.recorded && slot_fits f r
+row_fits format f (row.Depend r) = f.recorded && depend_fits f r
+row_fits format f (row.Met r) = f.recorded && met_fits f r
+row_fits format f (row.Limit limit r) = f.recorded && limit_fits format f limit r
 
 -- a kind and an id
 abbrev pub StoredKey : Type 0
@@ -276,6 +289,10 @@ abbrev pub first_slot : (ℕ → SlotRow → Bool) → ℕ → List SlotRow → 
 first_slot test place [] = None
 first_slot test place (s ∷ ss) = if test place s then Some (8, place) else first_slot test (place + 1) ss
 
+-- the layer has a limit that isn't there
+abbrev pub lacks_limit : Farm → LayerRow → Bool
+lacks_limit f l = not (has_its_limit (length f.limits) l)
+
 -- more finish than there are jobs
 abbrev pub head_ends : Farm → Option StoredKey
 head_ends f = if nat_le (f.next_finish + length (filter is_pending_job f.jobs)) f.next_job then None else Some (1, 0)
@@ -300,20 +317,31 @@ is_wrongly_marked f d =
 -- the first row at fault
 abbrev pub end_fault : Farm → Option StoredKey
 end_fault f =
-    or_else (head_ends f) (or_else (first_job (lacks_frames f) f.jobs) (or_else (first_layer (lacks_slots f) f.layers) (or_else (first_job (finishes f.slots) f.jobs)
-    (or_else (first_depend (is_wrongly_marked f) f.depends) (or_else (first_slot (runs_unmet f) 0 f.slots) (first_slot (opens f) 0 f.slots))))))
+    or_else (first_layer (lacks_limit f) f.layers) (or_else (head_ends f) (or_else (first_job (lacks_frames f) f.jobs) (or_else (first_layer (lacks_slots f) f.layers) (or_else (first_job (finishes f.slots) f.jobs)
+    (or_else (first_depend (is_wrongly_marked f) f.depends) (or_else (first_slot (runs_unmet f) 0 f.slots) (first_slot (opens f) 0 f.slots)))))))
 
 -- ---- all rows
 
-abbrev pub ended : Farm → Option StoredKey → Result Farm StoredKey
-ended f None = Ok f
-ended f (Some key) = Err key
+-- a farm, and the format of the rows that say it
+pub record Said : Type 0 where
+  pub farm : Farm
+  pub format : ℕ
 
--- the farm that rows say with those before them, or the key of the first one that doesn't come after the last or doesn't fit
-abbrev pub farm_with : Option StoredKey → Farm → List FarmRow → Result Farm StoredKey
-farm_with last f [] = ended f (end_fault f)
-farm_with last f (r ∷ rs) = if comes_after last (key_of r) && row_fits f r then farm_with (Some (key_of r)) (with_stored f r) rs else Err (key_of r)
+abbrev pub ended : ℕ → Farm → Option StoredKey → Result Said StoredKey
+ended format f None = Ok (record { farm = f; format = format })
+ended format f (Some key) = Err key
 
--- the farm that rows say, or the key of the row at fault
-abbrev pub farm_said : List FarmRow → Result Farm StoredKey
-farm_said rows = farm_with None empty_farm rows
+-- the format of rows after one: the farm's own row says it
+abbrev pub format_after : ℕ → FarmRow → ℕ
+format_after format (row.Head r) = r.format
+format_after format other = format
+
+-- what rows say with those before them, which were of that format, or the key of the first one that doesn't come after the last or doesn't fit
+abbrev pub farm_with : ℕ → Option StoredKey → Farm → List FarmRow → Result Said StoredKey
+farm_with format last f [] = ended format f (end_fault f)
+farm_with format last f (r ∷ rs) =
+    if comes_after last (key_of r) && row_fits format f r then farm_with (format_after format r) (Some (key_of r)) (with_stored f r) rs else Err (key_of r)
+
+-- the farm that rows say, and their format, or the key of the row at fault; no rows are of the format in which rows are written
+abbrev pub farm_said : List FarmRow → Result Said StoredKey
+farm_said rows = farm_with ROW_FORMAT None empty_farm rows

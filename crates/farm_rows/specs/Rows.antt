@@ -1,5 +1,5 @@
 -- The rows of the store, and those of a farm, by kind, then id.
-use Rattle.std.specs.Prelude.{ℕ, ◌==◌, ◌&&◌, ◌+◌, ◌*◌, Bool, not, List, [], ◌∷◌, ◌++◌, map, is_some, Option, None, Some, option_map, if◌then◌else◌}
+use Rattle.std.specs.Prelude.{ℕ, ◌≡◌, ◌⊎◌, ◌==◌, ◌&&◌, ◌+◌, ◌*◌, Bool, true, not, List, [], ◌∷◌, ◌++◌, map, is_some, Option, None, Some, option_map, if◌then◌else◌}
 use Rattle.farm_types.specs.declared.attempt.ProcRow.{ProcRow}
 use Rattle.farm_types.specs.declared.slot_row.Frame.{Frame}
 use Rattle.farm_types.specs.declared.slot_row.SlotRow.{SlotRow}
@@ -13,6 +13,7 @@ use Rattle.farm_rows.specs.declared.frame_row.StoredFrame.{StoredFrame}
 use Rattle.farm_rows.specs.declared.frame_row.StoredState.{StoredState}
 use Rattle.farm_rows.specs.declared.frame_row.StoredState.TheVariants as stored
 use Rattle.farm_rows.specs.declared.head_row.HeadRow.{HeadRow}
+use Rattle.farm_rows.specs.declared.head_row.TheConstants.{ROW_FORMAT}
 use Rattle.farm_rows.specs.declared.ids.TheConstants.{GROUP_IDS, LAYER_IDS}
 
 -- ---- kinds and ids
@@ -28,6 +29,7 @@ row_kind (row.Layer r) = 7
 row_kind (row.Frame r) = 8
 row_kind (row.Depend r) = 9
 row_kind (row.Met r) = 10
+row_kind (row.Limit limit r) = 11
 
 abbrev pub row_id : FarmRow → ℕ
 row_id (row.Head head) = 0
@@ -40,6 +42,7 @@ row_id (row.Layer r) = LAYER_IDS * r.job + r.place
 row_id (row.Frame r) = r.slot
 row_id (row.Depend r) = r.depend
 row_id (row.Met r) = GROUP_IDS * r.depend + r.position
+row_id (row.Limit limit r) = limit
 
 -- ---- slots
 
@@ -80,15 +83,35 @@ abbrev pub numbered : {X : Type 0} → (ℕ → X → FarmRow) → ℕ → List 
 numbered make place [] = []
 numbered make place (x ∷ xs) = make place x ∷ numbered make (place + 1) xs
 
+-- the farm's own row, in that format
+abbrev pub head_in : ℕ → Farm → HeadRow
+head_in format f = record { format = format; moment = f.moment; jobs = f.next_job; finishes = f.next_finish; depends = f.next_depend }
+
 abbrev pub head_row : Farm → HeadRow
-head_row f = record { format = 1; moment = f.moment; jobs = f.next_job; finishes = f.next_finish; depends = f.next_depend }
+head_row f = head_in ROW_FORMAT f
 
--- the rows of a farm that an entry has made
+-- the rows of a farm but for its own
+abbrev pub rows_but_head : Farm → List FarmRow
+rows_but_head f =
+    numbered row.Show 0 f.shows ++ (numbered row.Alloc 0 f.allocs ++ (map row.Sub f.subs ++ (numbered row.Host 0 f.hosts
+    ++ (map row.Job f.jobs ++ (map row.Layer f.layers ++ (slot_rows 0 f.slots ++ (map row.Depend f.depends ++ (map row.Met f.met
+    ++ numbered row.Limit 0 f.limits))))))))
+
+-- the rows of a farm that an entry has made, in a format, and as they are written
+abbrev pub recorded_in : ℕ → Farm → List FarmRow
+recorded_in format f = row.Head (head_in format f) ∷ rows_but_head f
+
 abbrev pub recorded_rows : Farm → List FarmRow
-recorded_rows f =
-    row.Head (head_row f) ∷ (numbered row.Show 0 f.shows ++ (numbered row.Alloc 0 f.allocs ++ (map row.Sub f.subs ++ (numbered row.Host 0 f.hosts
-    ++ (map row.Job f.jobs ++ (map row.Layer f.layers ++ (slot_rows 0 f.slots ++ (map row.Depend f.depends ++ map row.Met f.met))))))))
+recorded_rows f = recorded_in ROW_FORMAT f
 
--- The rows of a farm. The farm that no entry has made yet has none.
+-- The rows of a farm in a format. The farm that no entry has made yet has none.
+abbrev pub rows_in : ℕ → Farm → List FarmRow
+rows_in format f = if f.recorded then recorded_in format f else []
+
+-- the farm has rows in that format: format 1 has no limits, and where there are no rows nothing says it
+abbrev pub HasRowsIn : ℕ → Farm → Type 0
+HasRowsIn format f = (format ≡ ROW_FORMAT) ⊎ ((format ≡ 1) × (f.recorded ≡ true) × (f.limits ≡ []))
+
+-- the rows of a farm, in the format in which they are written
 abbrev pub rows_of : Farm → List FarmRow
-rows_of f = if f.recorded then recorded_rows f else []
+rows_of f = rows_in ROW_FORMAT f

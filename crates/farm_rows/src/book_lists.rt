@@ -1,14 +1,15 @@
 //! A farm's lists, but for those of depends.
 
-use farm_types::{AllocRow, HostRow, JobRow, LayerRow, ShowRow, SlotRow, SubRow};
+use farm_types::{AllocRow, HostRow, JobRow, LayerRow, LimitRow, ShowRow, SlotRow, SubRow};
 
 /// The lists and counters of a farm, each list in the order of its numbers, but for depends, their marks and their next number. Shows,
-/// allocations, hosts and slots are numbered by their places.
+/// allocations, limits, hosts and slots are numbered by their places.
 #[derive(Debug, Drop)]
 pub struct BookLists {
     pub shows: Vec<ShowRow>,
     pub allocs: Vec<AllocRow>,
     pub subs: Vec<SubRow>,
+    pub limits: Vec<LimitRow>,
     pub hosts: Vec<HostRow>,
     pub jobs: Vec<JobRow>,
     pub layers: Vec<LayerRow>,

@@ -16,8 +16,8 @@ pub fn unused_slots_have_no_row()
     ensures ids { slots_of (waiting ∷ used 0 ∷ used 3 ∷ []) ≡ 0 ∷ 2 ∷ [] }
 {}
 
-/// A small farm's rows, by kind, then id: two shows, their subscriptions, a job with two layers and its frames, a depend with two met groups.
+/// A small farm's rows, by kind, then id: two shows, their subscriptions, a job with two layers and its frames, a depend with two met groups, two limits.
 pub fn every_kind_has_its_rows()
-    ensures kinds { kinds_of ≡ 1 ∷ 2 ∷ 2 ∷ 3 ∷ 4 ∷ 4 ∷ 5 ∷ 6 ∷ 7 ∷ 7 ∷ 8 ∷ 8 ∷ 9 ∷ 10 ∷ 10 ∷ [] }
-    ensures ids { ids_of ≡ 0 ∷ 0 ∷ 1 ∷ 0 ∷ 0 ∷ 16 ∷ 0 ∷ 3 ∷ 192 ∷ 193 ∷ 0 ∷ 1 ∷ 2 ∷ 32768 ∷ 32771 ∷ [] }
+    ensures kinds { kinds_of ≡ 1 ∷ 2 ∷ 2 ∷ 3 ∷ 4 ∷ 4 ∷ 5 ∷ 6 ∷ 7 ∷ 7 ∷ 8 ∷ 8 ∷ 9 ∷ 10 ∷ 10 ∷ 11 ∷ 11 ∷ [] }
+    ensures ids { ids_of ≡ 0 ∷ 0 ∷ 1 ∷ 0 ∷ 0 ∷ 16 ∷ 0 ∷ 3 ∷ 192 ∷ 193 ∷ 0 ∷ 1 ∷ 2 ∷ 32768 ∷ 32771 ∷ 0 ∷ 1 ∷ [] }
 {}

@@ -9,11 +9,11 @@ use crate::head_row::HeadRow;
 use crate::ids::{group_id, layer_id};
 use crate::row_key::RowKey;
 use farm_types::{
-    AllocNo, AllocRow, DependRow, HostNo, HostRow, JobRow, LayerRow, MetRow, ShowNo, ShowRow,
-    SubRow,
+    AllocNo, AllocRow, DependRow, HostNo, HostRow, JobRow, LayerRow, LimitNo, LimitRow, MetRow,
+    ShowNo, ShowRow, SubRow,
 };
 
-/// A row of the store, by its kind. Rows of shows, allocations and hosts don't have their numbers in them.
+/// A row of the store, by its kind. Rows of shows, allocations, hosts and limits don't have their numbers in them.
 #[derive(Debug, Drop)]
 pub enum FarmRow {
     Head(HeadRow),
@@ -26,10 +26,11 @@ pub enum FarmRow {
     Frame(FrameRow),
     Depend(DependRow),
     Met(MetRow),
+    Limit { limit: LimitNo, row: LimitRow },
 }
 
 impl FarmRow {
-    /// The number of the row's kind, from 1 for the farm's own row to 10 for a met group.
+    /// The number of the row's kind, from 1 for the farm's own row to 11 for a limit.
     pub fn kind(&self) -> u8
         ensures { result ≡ row_kind self.now }
     {
@@ -44,6 +45,7 @@ impl FarmRow {
             FarmRow::Frame(_) => 8,
             FarmRow::Depend(_) => 9,
             FarmRow::Met(_) => 10,
+            FarmRow::Limit { .. } => 11,
         }
     }
 
@@ -62,6 +64,7 @@ impl FarmRow {
             FarmRow::Frame(row) => u64::from(row.slot.0),
             FarmRow::Depend(row) => u64::from(row.depend.0),
             FarmRow::Met(row) => group_id(row.depend.0, row.position),
+            FarmRow::Limit { limit, .. } => u64::from(limit.0),
         }
     }
 
@@ -86,6 +89,7 @@ impl FarmRow {
                 depend: row.depend,
                 position: row.position,
             },
+            FarmRow::Limit { limit, .. } => RowKey::Limit { limit: *limit },
         }
     }
 }

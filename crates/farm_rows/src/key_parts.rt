@@ -31,5 +31,6 @@ fn key_parts(key: &RowKey) -> (u8, u32, u32)
         RowKey::Frame { slot } => (7, slot.0, 0),
         RowKey::Depend { depend } => (8, depend.0, 0),
         RowKey::Met { depend, position } => (9, depend.0, *position),
+        RowKey::Limit { limit } => (10, u32::from(limit.0), 0),
     }
 }

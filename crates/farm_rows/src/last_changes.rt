@@ -20,7 +20,8 @@ pub fn exactly<R: OldRows>(
     rows: &R,
     changes: Vec<RowChange>,
 ) -> Result<Items<RowChange>, AllocError>
-    ensures { IfOk result (λ exact. (g : Farm) → ((k : RowKey) → row_at g k ≡ row_after changes.items k (row_at (R.farm rows.now) k)) → NamesExactly (R.farm rows.now) g exact) }
+    ensures { IfOk result (λ exact. (g : Farm) → ((k : RowKey) → row_at g k ≡ row_after changes.items k (row_at (R.farm rows.now) k))
+        → NamesExactly (R.farm rows.now) g exact) }
 {
     let mut changes = changes;
     let mut seen = IndexSet::new(alloc);

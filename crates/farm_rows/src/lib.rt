@@ -19,7 +19,7 @@ pub use book_lists::BookLists;
 pub use examples::{every_kind_has_its_rows, new_farms_have_one_row, unused_slots_have_no_row};
 pub use farm_row::FarmRow;
 pub use frame_row::{FrameRow, StoredFrame, StoredState};
-pub use head_row::HeadRow;
+pub use head_row::{HeadRow, ROW_FORMAT};
 pub use ids::{GROUP_IDS, LAYER_IDS, group_id, layer_id};
 pub use last_changes::exactly;
 pub use old_rows::OldRows;
@@ -28,5 +28,5 @@ pub use row_change::RowChange;
 pub use row_key::RowKey;
 pub use same_rows::{
     is_same_alloc, is_same_depend, is_same_frame, is_same_host, is_same_job, is_same_layer,
-    is_same_show,
+    is_same_limit, is_same_show,
 };

@@ -1,6 +1,6 @@
 //! Which row of the store.
 
-use farm_types::{AllocNo, DependNo, HostNo, JobNo, ShowNo, Slot, SubNo};
+use farm_types::{AllocNo, DependNo, HostNo, JobNo, LimitNo, ShowNo, Slot, SubNo};
 
 /// The row of a kind and a number: a layer's by its job and its place there, a met group's by its depend and its position.
 #[derive(Clone, Copy, Debug, PartialEq, Eq)]
@@ -15,4 +15,5 @@ pub enum RowKey {
     Frame { slot: Slot },
     Depend { depend: DependNo },
     Met { depend: DependNo, position: u32 },
+    Limit { limit: LimitNo },
 }

@@ -3,7 +3,9 @@
 ghost use Rattle.std.specs.Prelude.{◌≡◌, ◌↔◌, IsTrue};
 
 use crate::frame_row::{FrameRow, StoredFrame};
-use farm_types::{AllocRow, DependEnd, DependRow, HostRow, JobRow, LayerRow, ShowRow, Text};
+use farm_types::{
+    AllocRow, DependEnd, DependRow, HostRow, JobRow, LayerRow, LimitRow, ShowRow, Text,
+};
 
 /// Whether the shows are the same.
 pub fn is_same_show(one: &ShowRow, other: &ShowRow) -> bool
@@ -17,6 +19,13 @@ pub fn is_same_alloc(one: &AllocRow, other: &AllocRow) -> bool
     ensures { IsTrue result ↔ (one.now ≡ other.now) }
 {
     one.facility.is(other.facility.as_str()) && one.tag.is(other.tag.as_str())
+}
+
+/// Whether the limits are the same.
+pub fn is_same_limit(one: &LimitRow, other: &LimitRow) -> bool
+    ensures { IsTrue result ↔ (one.now ≡ other.now) }
+{
+    one.name.is(other.name.as_str()) && one.most == other.most
 }
 
 /// Whether the hosts are the same.
@@ -69,6 +78,7 @@ pub fn is_same_layer(one: &LayerRow, other: &LayerRow) -> bool
         && one.cores == other.cores
         && one.memory == other.memory
         && are_same_texts(one.tags.as_slice(), other.tags.as_slice())
+        && one.limit == other.limit
 }
 
 /// Whether the depends are the same.

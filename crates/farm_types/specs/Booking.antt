@@ -15,8 +15,8 @@ use Rattle.farm_types.specs.declared.states.HostState.{HostState}
 use Rattle.farm_types.specs.declared.states.HostState.TheVariants as host_state
 use Rattle.farm_types.specs.declared.states.LockState.{LockState}
 use Rattle.farm_types.specs.declared.states.LockState.TheVariants as lock_state
-use Rattle.farm_types.specs.Farm.{Farm, for_some, sub_at, job_at, layer_at, sub_of}
-use Rattle.farm_types.specs.Sums.{used_cores, used_memory, booked_in}
+use Rattle.farm_types.specs.Farm.{Farm, for_any, for_some, sub_at, job_at, layer_at, sub_of}
+use Rattle.farm_types.specs.Sums.{used_cores, used_memory, booked_in, running_in}
 use Rattle.farm_types.specs.Depends.{is_open}
 use Rattle.farm_types.specs.declared.limits.TheConstants.{LAST_VERSION}
 
@@ -56,11 +56,15 @@ has_capacity f host row layer = nat_le (used_cores f host + layer.cores) row.cor
 abbrev pub within_burst : Farm → ℕ → LayerRow → Bool
 within_burst f sub layer = for_some (sub_at f sub) (λ s. nat_le (booked_in f sub + layer.cores) s.burst)
 
+-- where the layer has a limit, it is there, and fewer of its frames run than may
+abbrev pub within_limit : Farm → LayerRow → Bool
+within_limit f layer = for_any layer.limit (λ limit. for_some (slice_get f.limits limit) (λ row. nat_lt (running_in f limit) row.most))
+
 -- whether the frame of that job and layer may be booked on the host
 abbrev pub may_place : Farm → ℕ → ℕ → ℕ → Frame → JobRow → LayerRow → HostRow → Bool
 may_place f slot host version frame job layer row =
     is_ready version frame job && is_open f slot && in_facility f row.alloc job.facility && takes_frames row && has_capacity f host row layer
-    && within_burst f (sub_of job.show row.alloc) layer
+    && within_burst f (sub_of job.show row.alloc) layer && within_limit f layer
 
 -- whether a booking of the slot's frame on the host may be recorded
 abbrev pub may_record : Farm → ℕ → ℕ → Bool

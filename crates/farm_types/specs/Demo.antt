@@ -57,6 +57,7 @@ demo_layer =
       cores = 100;
       memory = 3355443;
       tags = codes "general" ∷ [];
+      limit = None;
     }
 
 -- a waiting frame at a position, numbered from 1
@@ -79,6 +80,7 @@ demo_farm moment =
       shows = record { name = codes "demo" } ∷ [];
       allocs = record { facility = codes "farm"; tag = codes "general" } ∷ [];
       subs = record { sub = 0; size = 400; burst = 400 } ∷ [];
+      limits = [];
       hosts = demo_host moment ∷ [];
       jobs = demo_job ∷ [];
       layers = demo_layer ∷ [];

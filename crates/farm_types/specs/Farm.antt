@@ -1,9 +1,10 @@
 -- The farm: plain lists, each in the order of its numbers.
-use Rattle.std.specs.Prelude.{ℕ, ◌==◌, ◌&&◌, ◌+◌, ◌*◌, Bool, false, List, [], ◌∷◌, ◌++◌, filter, Option, None, Some, slice_get, slice_set, find, bytes_eq, if◌then◌else◌}
+use Rattle.std.specs.Prelude.{ℕ, ◌==◌, ◌&&◌, ◌+◌, ◌*◌, Bool, false, true, List, [], ◌∷◌, ◌++◌, filter, Option, None, Some, slice_get, slice_set, find, bytes_eq, if◌then◌else◌}
 use Rattle.std.specs.List.{list_any}
 use Rattle.farm_types.specs.declared.rows.ShowRow.{ShowRow}
 use Rattle.farm_types.specs.declared.rows.AllocRow.{AllocRow}
 use Rattle.farm_types.specs.declared.rows.SubRow.{SubRow}
+use Rattle.farm_types.specs.declared.rows.LimitRow.{LimitRow}
 use Rattle.farm_types.specs.declared.rows.HostRow.{HostRow}
 use Rattle.farm_types.specs.declared.rows.JobRow.{JobRow}
 use Rattle.farm_types.specs.declared.rows.LayerRow.{LayerRow}
@@ -12,13 +13,14 @@ use Rattle.farm_types.specs.declared.slot_row.SlotRow.{SlotRow}
 use Rattle.farm_types.specs.declared.depend.DependRow.{DependRow}
 use Rattle.farm_types.specs.declared.depend.MetRow.{MetRow}
 
--- Shows, allocations and hosts are numbered by their places. Subscriptions, jobs, layers, depends and met groups carry their numbers.
+-- Shows, allocations, limits and hosts are numbered by their places. Subscriptions, jobs, layers, depends and met groups carry their numbers.
 -- A slot is numbered by its place, and the list ends with the last slot that was ever used: a slot past it is free, at version 0.
 -- An entry sets `recorded`, which only the empty farm lacks.
 pub record Farm : Type 0 where
   pub shows : List ShowRow
   pub allocs : List AllocRow
   pub subs : List SubRow
+  pub limits : List LimitRow
   pub hosts : List HostRow
   pub jobs : List JobRow
   pub layers : List LayerRow
@@ -36,6 +38,11 @@ abbrev pub for_some : {X : Type 0} → Option X → (X → Bool) → Bool
 for_some None test = false
 for_some (Some x) test = test x
 
+-- what a test says of a thing, and true where there is none
+abbrev pub for_any : {X : Type 0} → Option X → (X → Bool) → Bool
+for_any None test = true
+for_any (Some x) test = test x
+
 -- the list with the item at that place changed
 abbrev pub changed_by : {X : Type 0} → List X → ℕ → (X → X) → Option X → List X
 changed_by xs place change None = xs
@@ -51,8 +58,11 @@ sub_at f sub = find (λ s. s.sub == sub) f.subs
 abbrev pub job_at : Farm → ℕ → Option JobRow
 job_at f job = find (λ j. j.job == job) f.jobs
 
+abbrev pub layer_in : List LayerRow → ℕ → ℕ → Option LayerRow
+layer_in layers job place = find (λ l. l.job == job && l.place == place) layers
+
 abbrev pub layer_at : Farm → ℕ → ℕ → Option LayerRow
-layer_at f job place = find (λ l. l.job == job && l.place == place) f.layers
+layer_at f job place = layer_in f.layers job place
 
 -- the layers of a job, in order
 abbrev pub layers_of : List LayerRow → ℕ → List LayerRow
@@ -87,6 +97,14 @@ show_from place name (row ∷ rows) = if bytes_eq row.name name then Some place 
 abbrev pub show_named : Farm → List ℕ → Option ℕ
 show_named f name = show_from 0 name f.shows
 
+-- the number of the first limit of that name, counted from a place
+abbrev pub limit_from : ℕ → List ℕ → List LimitRow → Option ℕ
+limit_from place name [] = None
+limit_from place name (row ∷ rows) = if bytes_eq row.name name then Some place else limit_from (place + 1) name rows
+
+abbrev pub limit_named : Farm → List ℕ → Option ℕ
+limit_named f name = limit_from 0 name f.limits
+
 -- a facility is there when an allocation has it
 abbrev pub is_facility : List ℕ → List AllocRow → Bool
 is_facility facility allocs = list_any (λ row. bytes_eq row.facility facility) allocs
@@ -113,6 +131,7 @@ empty_farm =
       shows = [];
       allocs = [];
       subs = [];
+      limits = [];
       hosts = [];
       jobs = [];
       layers = [];

@@ -19,7 +19,7 @@ use Rattle.farm_types.specs.Forms.{is_command_text, is_frame_number, is_name_or_
 use Rattle.farm_types.specs.Limits.{IsBetween, BootKeepsLimits, SubKeepsLimits}
 use Rattle.farm_types.specs.Ranges.{is_range_text, range_numbers}
 use Rattle.farm_types.specs.SpecLimits.{JobKeepsLimits, LayerKeepsLimits}
-use Rattle.farm_types.specs.declared.limits.TheConstants.{LAST_BOOT, LAST_DEPEND, LAST_SLOT, LAST_VERSION, MOST_CORES, MOST_EXIT}
+use Rattle.farm_types.specs.declared.limits.TheConstants.{LAST_BOOT, LAST_DEPEND, LAST_SLOT, LAST_VERSION, MOST_CORES, MOST_EXIT, MOST_RUNNING}
 
 -- a subscription: the show's name has its form; the allocation's may be any text
 pub record IsFormedSub (line : SubLine) : Type 0 where
@@ -60,6 +60,7 @@ pub record IsFormedLayer (layer : LayerSpec) : Type 0 where
   pub numbers_are : layer.numbers ≡ range_numbers layer.range
   pub command : is_command_text layer.command ≡ true
   pub tags : list_all is_tag_text layer.tags ≡ true
+  pub limit : is_name_or_empty layer.limit ≡ true
   pub limits : LayerKeepsLimits layer
 
 -- ---- depends
@@ -141,6 +142,7 @@ IsFormedAct act.Opened = Unit {0}
 IsFormedAct (act.Show name) = is_name_text name ≡ true
 IsFormedAct (act.Alloc facility tag) = (is_tag_text facility ≡ true) × (is_tag_text tag ≡ true)
 IsFormedAct (act.Sub line) = IsFormedSub line
+IsFormedAct (act.Limit name most) = (is_name_text name ≡ true) × (most ≤ MOST_RUNNING)
 IsFormedAct (act.Boot line) = IsFormedBoot line
 IsFormedAct (act.Heard heard) = IsFormedHeard heard
 IsFormedAct (act.Submit spec) = IsFormedJob spec

@@ -1,5 +1,5 @@
 -- The farm's jobs, their layers and the frame slots, and what a submitted job makes of them.
-use Rattle.std.specs.Prelude.{ℕ, ℤ, ◌+◌, ◌-◌, ◌&&◌, Bool, not, List, [], ◌∷◌, ◌++◌, length, map, filter, sum_by, is_none, Option, None, Some, nat_lt, bytes_eq, if◌then◌else◌}
+use Rattle.std.specs.Prelude.{ℕ, ℤ, ◌+◌, ◌-◌, ◌&&◌, Bool, not, List, [], ◌∷◌, ◌++◌, length, map, filter, sum_by, is_none, Option, None, Some, option_and_then, slice_get, nat_lt, bytes_eq, if◌then◌else◌}
 use Rattle.std.specs.List.{list_any}
 use Rattle.farm_types.specs.declared.job.JobSpec.{JobSpec}
 use Rattle.farm_types.specs.declared.job.LayerSpec.{LayerSpec}
@@ -62,14 +62,28 @@ job_row job show spec =
       succeeded = 0;
     }
 
-abbrev pub layer_row : ℕ → ℕ → LayerSpec → LayerRow
-layer_row job place l =
-    record { job = job; place = place; name = l.name; range = l.range; command = l.command; cores = l.cores; memory = l.memory; tags = l.tags }
+abbrev pub layer_row : ℕ → ℕ → Option ℕ → LayerSpec → LayerRow
+layer_row job place limit l =
+    record {
+      job = job;
+      place = place;
+      name = l.name;
+      range = l.range;
+      command = l.command;
+      cores = l.cores;
+      memory = l.memory;
+      tags = l.tags;
+      limit = limit;
+    }
 
--- the layers, numbered from a place
-abbrev pub layer_rows : ℕ → ℕ → List LayerSpec → List LayerRow
-layer_rows job place [] = []
-layer_rows job place (l ∷ ls) = layer_row job place l ∷ layer_rows job (place + 1) ls
+-- the limit of the layer at a place, of these by their places
+abbrev pub limit_in : List (Option ℕ) → ℕ → Option ℕ
+limit_in limits place = option_and_then (λ limit. limit) (slice_get limits place)
+
+-- the layers, numbered from a place, with the limits at their places
+abbrev pub layer_rows : ℕ → List (Option ℕ) → ℕ → List LayerSpec → List LayerRow
+layer_rows job limits place [] = []
+layer_rows job limits place (l ∷ ls) = layer_row job place (limit_in limits place) l ∷ layer_rows job limits (place + 1) ls
 
 -- ---- its frames
 
@@ -109,12 +123,12 @@ is_finished_named name j = not (is_pending j.state) && bytes_eq j.name name
 abbrev pub without_finished : List ℕ → List JobRow → List JobRow
 without_finished name jobs = filter (λ j. not (is_finished_named name j)) jobs
 
--- the lists with the job of a spec, of the show of that number; a finished job of its name goes
-abbrev pub with_job : JobLists → ℕ → JobSpec → JobLists
-with_job b show spec =
+-- the lists with the job of a spec, of the show of that number, its layers with these limits; a finished job of its name goes
+abbrev pub with_job : JobLists → ℕ → List (Option ℕ) → JobSpec → JobLists
+with_job b show limits spec =
     record {
       jobs = without_finished spec.name b.jobs ++ job_row b.next_job show spec ∷ [];
-      layers = b.layers ++ layer_rows b.next_job 0 spec.layers;
+      layers = b.layers ++ layer_rows b.next_job limits 0 spec.layers;
       slots = place_frames b.slots (frames_of b.next_job 0 spec.layers);
       next_job = b.next_job + 1;
       next_finish = b.next_finish;

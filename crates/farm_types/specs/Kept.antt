@@ -9,6 +9,7 @@ use Rattle.farm_types.specs.declared.rows.AllocRow.{AllocRow}
 use Rattle.farm_types.specs.declared.rows.HostRow.{HostRow}
 use Rattle.farm_types.specs.declared.rows.JobRow.{JobRow}
 use Rattle.farm_types.specs.declared.rows.LayerRow.{LayerRow}
+use Rattle.farm_types.specs.declared.rows.LimitRow.{LimitRow}
 use Rattle.farm_types.specs.declared.rows.ShowRow.{ShowRow}
 use Rattle.farm_types.specs.declared.rows.SubRow.{SubRow}
 use Rattle.farm_types.specs.declared.slot_row.Frame.{Frame}
@@ -18,7 +19,7 @@ use Rattle.farm_types.specs.declared.states.FrameState.TheVariants as frame_stat
 use Rattle.farm_types.specs.Booking.{is_pending, is_up, is_waiting}
 use Rattle.farm_types.specs.DependActs.{has_number, is_running, waits_for_itself}
 use Rattle.farm_types.specs.Depends.{groups_left, groups_of, is_open}
-use Rattle.farm_types.specs.Farm.{Farm, empty_farm, for_some, alloc_name, sub_of, is_placed, slot_from, layers_of}
+use Rattle.farm_types.specs.Farm.{Farm, empty_farm, for_any, for_some, alloc_name, sub_of, is_placed, layer_in, slot_from, layers_of}
 use Rattle.farm_types.specs.Finish.{finishes, is_finished}
 use Rattle.farm_types.specs.Formed.{is_layer_name, names_frame, names_layer, names_target_frame, names_target_layer}
 use Rattle.farm_types.specs.Forms.{is_between, is_command_text, is_name_or_empty, is_name_text, is_tag_text}
@@ -28,7 +29,7 @@ use Rattle.farm_types.specs.Rising.{IsRising, depend_key, job_key, layer_key, su
 use Rattle.farm_types.specs.Run.{IsSound}
 use Rattle.farm_types.specs.Settle.{opens, with_met}
 use Rattle.farm_types.specs.Step.{lists_of}
-use Rattle.farm_types.specs.declared.limits.TheConstants.{LAST_BOOT, LAST_DEPEND, LAST_JOB, LAST_VERSION, LEAST_CORES, LEAST_MEMORY, MOST_ALLOCS, MOST_BURST, MOST_COMMAND, MOST_CORES, MOST_DEPENDS, MOST_FINISHED, MOST_FRAMES, MOST_GROUPS, MOST_HOSTS, MOST_LAYERS, MOST_MEMORY, MOST_PRIORITY, MOST_RETRIES, MOST_SHOWS, MOST_TAGS, SLOT_LIMIT, SUB_NUMBERS}
+use Rattle.farm_types.specs.declared.limits.TheConstants.{LAST_BOOT, LAST_DEPEND, LAST_JOB, LAST_VERSION, LEAST_CORES, LEAST_MEMORY, MOST_ALLOCS, MOST_BURST, MOST_COMMAND, MOST_CORES, MOST_DEPENDS, MOST_FINISHED, MOST_FRAMES, MOST_GROUPS, MOST_HOSTS, MOST_LAYERS, MOST_LIMITS, MOST_MEMORY, MOST_PRIORITY, MOST_RETRIES, MOST_RUNNING, MOST_SHOWS, MOST_TAGS, SLOT_LIMIT, SUB_NUMBERS}
 
 -- no name stands twice
 abbrev pub AllDiffer : {X : Type 0} → (X → List ℕ) → List X → Type 0
@@ -68,6 +69,25 @@ is_kept_sub shows allocs s = nat_lt (s.sub / MOST_ALLOCS) shows && (nat_lt (s.su
 pub record KeepsSubs (subs : List SubRow) (shows allocs : ℕ) : Type 0 where
   pub rise : IsRising sub_key 0 subs SUB_NUMBERS
   pub each : list_all (is_kept_sub shows allocs) subs ≡ true
+
+-- ---- limits
+
+abbrev pub limit_label : LimitRow → List ℕ
+limit_label row = row.name
+
+abbrev pub is_formed_limit : LimitRow → Bool
+is_formed_limit row = is_name_text row.name && nat_le row.most MOST_RUNNING
+
+-- the layer has no limit, or one of so many
+abbrev pub has_its_limit : ℕ → LayerRow → Bool
+has_its_limit limits l = for_any l.limit (λ limit. nat_lt limit limits)
+
+-- limits, and layers that have them
+pub record KeepsLimits (limits : List LimitRow) (layers : List LayerRow) : Type 0 where
+  pub count : length limits ≤ MOST_LIMITS
+  pub differ : AllDiffer limit_label limits
+  pub formed : list_all is_formed_limit limits ≡ true
+  pub there : list_all (has_its_limit (length limits)) layers ≡ true
 
 -- ---- hosts
 
@@ -132,10 +152,6 @@ pub record HasItsLayers (layers : List LayerRow) (j : JobRow) : Type 0 where
 abbrev pub is_of_pending : List JobRow → ℕ → Bool
 is_of_pending jobs job = for_some (find (λ j. j.job == job) jobs) is_pending_job
 
--- the layer at that place of a job
-abbrev pub layer_in : List LayerRow → ℕ → ℕ → Option LayerRow
-layer_in layers job place = find (λ l. l.job == job && l.place == place) layers
-
 abbrev pub is_setup : FrameState → Bool
 is_setup frame_state.Setup = true
 is_setup other = false
@@ -145,11 +161,6 @@ abbrev pub is_kept_frame : List LayerRow → Frame → Bool
 is_kept_frame layers x =
     for_some (layer_in layers x.job x.layer) (λ l. for_some (slice_get (range_numbers l.range) x.position) (λ number. int_eq number x.number))
     && (nat_le x.retries MOST_RETRIES && not (is_setup x.state))
-
--- what a test says of a thing, and true where there is none
-abbrev pub for_any : {X : Type 0} → Option X → (X → Bool) → Bool
-for_any None test = true
-for_any (Some x) test = test x
 
 abbrev pub is_kept_slot : List LayerRow → SlotRow → Bool
 is_kept_slot layers s = nat_le s.version LAST_VERSION && for_any s.frame (is_kept_frame layers)
@@ -249,6 +260,7 @@ pub record KeepsRows (f : Farm) : Type 0 where
   pub shows : KeepsShows f.shows
   pub allocs : KeepsAllocs f.allocs
   pub subs : KeepsSubs f.subs (length f.shows) (length f.allocs)
+  pub limits : KeepsLimits f.limits f.layers
   pub hosts : KeepsHosts f.hosts (length f.allocs) f.moment
   pub jobs : KeepsJobs (lists_of f) (length f.shows)
   pub attempts : KeepsAttempts f

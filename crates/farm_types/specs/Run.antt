@@ -1,5 +1,5 @@
 -- Runs of entries: when a run is legal, and what makes it safe.
-use Rattle.std.specs.Prelude.{ℕ, ◌≡◌, ◌≤◌, ◌<◌, ◌==◌, ◌&&◌, List, [], ◌∷◌, ◌++◌, length, Bool, true, false, Option, None, Some, IsSomeAnd, option_and_then, slice_get, if◌then◌else◌}
+use Rattle.std.specs.Prelude.{ℕ, ◌≡◌, ◌≤◌, ◌<◌, ◌==◌, ◌&&◌, List, [], ◌∷◌, ◌++◌, length, Bool, true, false, Option, None, Some, IfSome, IsSomeAnd, option_and_then, slice_get, if◌then◌else◌}
 use Rattle.std.specs.List.{list_any}
 use Rattle.farm_types.specs.declared.attempt.DoneItem.{DoneItem}
 use Rattle.farm_types.specs.declared.attempt.Attempt.{Attempt}
@@ -13,8 +13,8 @@ use Rattle.farm_types.specs.declared.slot_row.Frame.{Frame}
 use Rattle.farm_types.specs.declared.slot_row.SlotRow.{SlotRow}
 use Rattle.farm_types.specs.declared.states.FrameState.{FrameState}
 use Rattle.farm_types.specs.declared.states.FrameState.TheVariants as frame_state
-use Rattle.farm_types.specs.Farm.{Farm, changed_at, sub_at, host_named}
-use Rattle.farm_types.specs.Sums.{used_cores, used_memory, booked_in}
+use Rattle.farm_types.specs.Farm.{Farm, changed_at, layer_at, sub_at, host_named}
+use Rattle.farm_types.specs.Sums.{used_cores, used_memory, booked_in, running_in}
 use Rattle.farm_types.specs.Depends.{is_open}
 use Rattle.farm_types.specs.Formed.{IsFormed}
 use Rattle.farm_types.specs.Hosts.{heard_row}
@@ -73,12 +73,22 @@ live_at f slot = option_and_then (λ s. s.proc) (slice_get f.slots slot)
 abbrev pub IsWithinBurst : Farm → ℕ → Type 0
 IsWithinBurst f sub = IsSomeAnd (sub_at f sub) (λ s. booked_in f sub ≤ s.burst)
 
--- A booking finds its frame open. Afterwards the slot has a live attempt on the host, and the attempt's subscription is there and within
--- its burst.
+-- the limit of the layer of the slot's frame
+abbrev pub limit_at : Farm → ℕ → Option ℕ
+limit_at f slot =
+    option_and_then (λ s. option_and_then (λ frame. option_and_then (λ layer. layer.limit) (layer_at f frame.job frame.layer)) s.frame) (slice_get f.slots slot)
+
+-- the limit is there, and no more frames run in it than may
+abbrev pub IsWithinLimit : Farm → ℕ → Type 0
+IsWithinLimit f limit = IsSomeAnd (slice_get f.limits limit) (λ row. running_in f limit ≤ row.most)
+
+-- A booking finds its frame open. Afterwards the slot has a live attempt on the host, the attempt's subscription is there and within
+-- its burst, and so is the limit of the frame's layer, where it has one.
 pub record BooksSafely (old new : Farm) (slot host : ℕ) : Type 0 where
   pub unblocked : is_open old slot ≡ true
   pub attempt : IsSomeAnd (live_at new slot) (λ p. p.host ≡ host)
   pub burst : IsSomeAnd (live_at new slot) (λ p. IsWithinBurst new p.sub)
+  pub limit : IfSome (limit_at new slot) (IsWithinLimit new)
 
 abbrev pub ActsSafely : Farm → Farm → Act → Type 0
 ActsSafely old new (Book slot host) = BooksSafely old new slot host

@@ -1,5 +1,5 @@
 -- What an entry does to the farm, and when the farm refuses it.
-use Rattle.std.specs.Prelude.{ℕ, ◌==◌, ◌&&◌, ◌+◌, ◌≡◌, List, [], ◌∷◌, ◌++◌, map, filter, max, length, Bool, true, false, Option, None, Some, option_map, is_some, slice_get, nat_lt, if◌then◌else◌}
+use Rattle.std.specs.Prelude.{ℕ, ◌==◌, ◌&&◌, ◌||◌, ◌+◌, ◌≡◌, List, [], ◌∷◌, ◌++◌, map, filter, max, length, Bool, true, false, Option, None, Some, option_map, is_some, slice_get, nat_lt, if◌then◌else◌}
 use Rattle.std.specs.Prelude.{option_and_then}
 use Rattle.farm_types.specs.declared.attempt.DoneItem.{DoneItem}
 use Rattle.farm_types.specs.declared.attempt.Exit.{Exit}
@@ -18,7 +18,9 @@ use Rattle.farm_types.specs.declared.rows.AllocRow.{AllocRow}
 use Rattle.farm_types.specs.declared.rows.HostRow.{HostRow}
 use Rattle.farm_types.specs.declared.rows.JobRow.{JobRow}
 use Rattle.farm_types.specs.declared.rows.LayerRow.{LayerRow}
+use Rattle.farm_types.specs.declared.rows.LimitRow.{LimitRow}
 use Rattle.farm_types.specs.declared.rows.SubRow.{SubRow}
+use Rattle.farm_types.specs.declared.job.LayerSpec.{LayerSpec}
 use Rattle.farm_types.specs.declared.slot_row.Frame.{Frame}
 use Rattle.farm_types.specs.declared.slot_row.SlotRow.{SlotRow}
 use Rattle.farm_types.specs.declared.states.FrameState.TheVariants as frame_state
@@ -26,7 +28,7 @@ use Rattle.farm_types.specs.declared.states.LockState.{LockState}
 use Rattle.farm_types.specs.declared.sub_line.SubLine.{SubLine}
 use Rattle.farm_types.specs.declared.verdict.Verdict.{Verdict}
 use Rattle.farm_types.specs.declared.verdict.Verdict.TheVariants as verdict
-use Rattle.farm_types.specs.Farm.{Farm, for_some, changed_at, job_at, layer_at, sub_of, host_named, show_named, has_facility, alloc_name, alloc_named}
+use Rattle.farm_types.specs.Farm.{Farm, for_some, changed_at, job_at, layer_at, sub_of, host_named, limit_from, limit_named, show_named, has_facility, alloc_name, alloc_named}
 use Rattle.farm_types.specs.Verdict.{verdict_of}
 use Rattle.farm_types.specs.Booking.{may_record}
 use Rattle.farm_types.specs.DependActs.{after_depend, depend_at, depend_refusal, depends_refusal, drop_refusal, dropped, or_else, pending_named, with_depends}
@@ -37,7 +39,7 @@ use Rattle.farm_types.specs.Hosts.{heard_row, reopened_row, locked_row, is_unhea
 use Rattle.farm_types.specs.Jobs.{JobLists, with_job, job_refusal}
 use Rattle.farm_types.specs.Lost.{lose_on}
 use Rattle.farm_types.specs.Subs.{with_sub}
-use Rattle.farm_types.specs.declared.limits.TheConstants.{LAST_BOOT, MOST_ALLOCS, MOST_HOSTS, MOST_SHOWS}
+use Rattle.farm_types.specs.declared.limits.TheConstants.{LAST_BOOT, MOST_ALLOCS, MOST_HOSTS, MOST_LIMITS, MOST_SHOWS}
 
 -- ---- refusals
 
@@ -54,6 +56,11 @@ show_refusal f name = new_refusal name (is_some (show_named f name)) (full_refus
 
 abbrev pub alloc_refusal : Farm → List ℕ → Option Refusal
 alloc_refusal f name = new_refusal name (is_some (alloc_named f name)) (full_refusal MOST_ALLOCS (length f.allocs) counted.Allocs)
+
+-- a limit of a new name finds room
+abbrev pub limit_refusal : Farm → Option ℕ → Option Refusal
+limit_refusal f None = full_refusal MOST_LIMITS (length f.limits) counted.Limits
+limit_refusal f (Some limit) = None
 
 -- a thing of that name is there
 abbrev pub name_refusal : List ℕ → Option ℕ → Option Refusal
@@ -102,17 +109,28 @@ lists_of f = record { jobs = f.jobs; layers = f.layers; slots = f.slots; next_jo
 abbrev pub with_lists : Farm → JobLists → Farm
 with_lists f b = record f { jobs = b.jobs; layers = b.layers; slots = b.slots; next_job = b.next_job; next_finish = b.next_finish }
 
--- the job's show is there, then its facility; then its names are new, and there is room for its frames
+-- the first name of a limit that isn't there; a layer without a limit names none
+abbrev pub unknown_limit : List LimitRow → List LayerSpec → Option (List ℕ)
+unknown_limit limits [] = None
+unknown_limit limits (l ∷ ls) = if length l.limit == 0 || is_some (limit_from 0 l.limit limits) then unknown_limit limits ls else Some l.limit
+
+abbrev pub limits_refusal : Farm → JobSpec → Option (List ℕ) → Option Refusal
+limits_refusal f spec None = job_refusal (lists_of f) spec
+limits_refusal f spec (Some name) = Some (Unknown name)
+
+-- the job's show is there, then its facility, then its layers' limits; then its names are new, and there is room for its frames
 abbrev pub submit_refusal : Farm → JobSpec → Option ℕ → Option Refusal
 submit_refusal f spec None = Some (Unknown spec.show)
-submit_refusal f spec (Some show) = if has_facility f spec.facility then job_refusal (lists_of f) spec else Some (Unknown spec.facility)
+submit_refusal f spec (Some show) =
+    if has_facility f spec.facility then limits_refusal f spec (unknown_limit f.limits spec.layers) else Some (Unknown spec.facility)
 
--- the first refusal that the farm gives of hosts, shows, allocations, subscriptions and jobs, or none
+-- the first refusal that the farm gives of hosts, shows, allocations, subscriptions, limits and jobs, or none
 abbrev pub act_refusal : Farm → Act → Option Refusal
 act_refusal f act.Opened = None
 act_refusal f (act.Show name) = show_refusal f name
 act_refusal f (act.Alloc facility tag) = alloc_refusal f (alloc_name facility tag)
 act_refusal f (act.Sub line) = sub_refusal f line (show_named f line.show)
+act_refusal f (act.Limit name most) = limit_refusal f (limit_named f name)
 act_refusal f (act.Boot line) = boot_refusal f line (alloc_named f line.alloc)
 act_refusal f (act.Heard heard) = host_refusal f heard (host_named f heard.host)
 act_refusal f (act.Submit spec) = submit_refusal f spec (show_named f spec.show)
@@ -230,10 +248,14 @@ abbrev pub after_heard : Farm → HeardAct → ℕ → Option ℕ → Farm
 after_heard f act moment None = f
 after_heard f act moment (Some host) = end_all (record f { hosts = changed_at f.hosts host (heard_row act.seq moment) }) host act.boot act.done
 
+-- the numbers of the limits that the layers name, each at its layer's place
+abbrev pub limits_of : List LimitRow → List LayerSpec → List (Option ℕ)
+limits_of limits layers = map (λ (l : LayerSpec). limit_from 0 l.limit limits) layers
+
 -- the farm with the job, of the show of that name
 abbrev pub after_submit : Farm → JobSpec → Option ℕ → Farm
 after_submit f spec None = f
-after_submit f spec (Some show) = with_lists f (with_job (lists_of f) show spec)
+after_submit f spec (Some show) = with_lists f (with_job (lists_of f) show (limits_of f.limits spec.layers) spec)
 
 -- the number of the subscription that the line speaks of
 abbrev pub sub_named : Farm → SubLine → Option ℕ
@@ -247,17 +269,29 @@ abbrev pub after_sub : Farm → SubLine → Option ℕ → Farm
 after_sub f line None = f
 after_sub f line (Some sub) = record f { subs = with_sub (sub_row sub line) f.subs }
 
+-- the farm in which the limit of that number, or a new one, lets so many frames run
+abbrev pub limit_row : List ℕ → ℕ → LimitRow
+limit_row name most = record { name = name; most = most }
+
+abbrev pub with_most : ℕ → LimitRow → LimitRow
+with_most most row = record row { most = most }
+
+abbrev pub after_limit : Farm → List ℕ → ℕ → Option ℕ → Farm
+after_limit f name most None = record f { limits = f.limits ++ limit_row name most ∷ [] }
+after_limit f name most (Some limit) = record f { limits = changed_at f.limits limit (with_most most) }
+
 -- the farm with the host locked or opened
 abbrev pub after_lock : Farm → LockState → Option ℕ → Farm
 after_lock f lock None = f
 after_lock f lock (Some host) = record f { hosts = changed_at f.hosts host (locked_row lock) }
 
--- What an act does to hosts, shows, allocations, subscriptions, jobs and attempts. A report, a boot and a tick first see which hosts are silent.
+-- What an act does to hosts, shows, allocations, subscriptions, limits, jobs and attempts. A report, a boot and a tick first see which hosts are silent.
 abbrev pub after_act : Farm → ℕ → Act → Farm
 after_act f moment act.Opened = record f { hosts = map (reopened_row moment) f.hosts }
 after_act f moment (act.Show name) = record f { shows = f.shows ++ record { name = name } ∷ [] }
 after_act f moment (act.Alloc facility tag) = record f { allocs = f.allocs ++ record { facility = facility; tag = tag } ∷ [] }
 after_act f moment (act.Sub line) = after_sub f line (sub_named f line)
+after_act f moment (act.Limit name most) = after_limit f name most (limit_named f name)
 after_act f moment (act.Boot line) = after_boot (expire f moment) line moment (alloc_named f line.alloc)
 after_act f moment (act.Heard heard) = after_heard (expire f moment) heard moment (host_named f heard.host)
 after_act f moment (act.Submit spec) = after_submit f spec (show_named f spec.show)

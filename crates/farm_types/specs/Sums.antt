@@ -1,8 +1,9 @@
 -- What live attempts use, added up anew each time.
-use Rattle.std.specs.Prelude.{ℕ, ◌==◌, List, Option, None, Some, sum_by, slice_get, if◌then◌else◌}
+use Rattle.std.specs.Prelude.{ℕ, ◌==◌, ◌&&◌, Bool, List, Option, None, Some, is_some, sum_by, slice_get, if◌then◌else◌}
 use Rattle.farm_types.specs.declared.attempt.ProcRow.{ProcRow}
 use Rattle.farm_types.specs.declared.slot_row.SlotRow.{SlotRow}
-use Rattle.farm_types.specs.Farm.{Farm}
+use Rattle.farm_types.specs.declared.rows.LayerRow.{LayerRow}
+use Rattle.farm_types.specs.Farm.{Farm, for_some, layer_in}
 
 -- the cores and the memory that a live attempt uses on a host
 abbrev pub cores_on : ℕ → Option ProcRow → ℕ
@@ -31,6 +32,21 @@ used_on f host = (used_cores f host, used_memory f host)
 -- the cores that are booked of a subscription
 abbrev pub booked_in : Farm → ℕ → ℕ
 booked_in f sub = sum_by (λ (s : SlotRow). cores_in sub s.proc) f.slots
+
+-- whether the layer has the limit of that number
+abbrev pub has_limit : ℕ → LayerRow → Bool
+has_limit limit l = for_some l.limit (λ n. n == limit)
+
+-- the slot has a live attempt, and the layer of its frame has the limit
+abbrev pub runs_under : List LayerRow → ℕ → SlotRow → Bool
+runs_under layers limit s = is_some s.proc && for_some s.frame (λ x. for_some (layer_in layers x.job x.layer) (has_limit limit))
+
+-- how many live attempts count in a limit
+abbrev pub running_among : List LayerRow → ℕ → List SlotRow → ℕ
+running_among layers limit slots = sum_by (λ (s : SlotRow). if runs_under layers limit s then 1 else 0) slots
+
+abbrev pub running_in : Farm → ℕ → ℕ
+running_in f limit = running_among f.layers limit f.slots
 
 -- ---- kept totals
 

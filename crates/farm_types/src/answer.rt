@@ -14,6 +14,11 @@ pub enum Answer {
         burst: Cores,
         size: Cores,
     },
+    /// How many frames of the layers that have the limit run at most, and how many run.
+    Limit {
+        most: u32,
+        running: u32,
+    },
     /// The host's boot number, and the nonce of the boot.
     Boot {
         boot: u32,

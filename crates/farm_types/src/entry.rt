@@ -17,7 +17,7 @@ pub struct Entry {
     pub act: Act,
 }
 
-/// What an entry does: the scheduler was opened; a show or an allocation is added; a subscription is set; a host
+/// What an entry does: the scheduler was opened; a show or an allocation is added; a subscription or a limit is set; a host
 /// booted; a host was heard; a job is submitted; a depend is added or dropped; a job is paused or resumed, or killed; a frame is killed, eaten or
 /// retried; a host is locked or opened; time passed; or a waiting frame is booked on a host. Each amount is within its limits.
 #[derive(Debug, Drop)]
@@ -26,6 +26,7 @@ pub enum Act {
     Show { name: Text },
     Alloc { facility: Text, tag: Text },
     Sub(SubLine),
+    Limit { name: Text, most: u32 },
     Boot(BootLine),
     Heard(HeardAct),
     Submit(JobSpec),

@@ -27,8 +27,8 @@ pub struct JobSpec {
     pub depends: Items<DependSpec>,
 }
 
-/// A layer: its frame range as it is printed and the range's numbers in order, its command, and what each
-/// attempt at one of its frames books.
+/// A layer: its frame range as it is printed and the range's numbers in order, its command, what each
+/// attempt at one of its frames books, its tags, and the name of its limit (empty where it has none).
 #[derive(Debug, Drop)]
 pub struct LayerSpec {
     pub name: Text,
@@ -38,6 +38,7 @@ pub struct LayerSpec {
     pub cores: Cores,
     pub memory: Kb,
     pub tags: Items<Text>,
+    pub limit: Text,
 }
 
 impl JobSpec {
@@ -74,6 +75,7 @@ impl LayerSpec {
             cores: self.cores,
             memory: self.memory,
             tags: self.tags.copy(alloc)?,
+            limit: self.limit.copy(alloc)?,
         })
     }
 }

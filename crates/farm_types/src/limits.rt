@@ -1,6 +1,6 @@
 //! The limits of the farm, which code and rules share.
 
-/// How many bytes a name of a show, job, layer or host has at most.
+/// How many bytes a name of a show, job, layer, host or limit has at most.
 pub const MOST_NAME: u32 = 64;
 
 /// How many bytes a tag or a facility has at most.
@@ -11,6 +11,12 @@ pub const MOST_SHOWS: u32 = 64;
 
 /// How many allocations there are at most.
 pub const MOST_ALLOCS: u32 = 16;
+
+/// How many limits there are at most.
+pub const MOST_LIMITS: u32 = 255;
+
+/// The greatest count of frames that a limit lets run.
+pub const MOST_RUNNING: u32 = 65_536;
 
 /// How many hosts there are at most.
 pub const MOST_HOSTS: u32 = 4096;

@@ -88,6 +88,18 @@ impl Model for SubNo {
     ghost inverse = { λ n. record { 0 = n } };
 }
 
+/// The number of a limit, from 0.
+#[derive(Clone, Copy, Debug, PartialEq, Eq, PartialOrd, Ord)]
+pub struct LimitNo(pub u8);
+
+impl Model for LimitNo {
+    ghost Value = { ℕ };
+
+    ghost view = { λ a. a.0 };
+
+    ghost inverse = { λ n. record { 0 = n } };
+}
+
 /// The number of a job, from 1, rising.
 #[derive(Clone, Copy, Debug, PartialEq, Eq, PartialOrd, Ord)]
 pub struct JobNo(pub u32);

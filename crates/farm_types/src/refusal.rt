@@ -56,12 +56,13 @@ impl fmt::Display for Refusal {
     }
 }
 
-/// What is counted up to a limit: shows, allocations, hosts, a host's boot numbers, the numbers that were given to jobs,
+/// What is counted up to a greatest number: shows, allocations, limits, hosts, a host's boot numbers, the numbers that were given to jobs,
 /// depends, the groups of those that aren't satisfied, and the numbers that were given to depends.
 #[derive(Clone, Copy, Debug, PartialEq, Eq)]
 pub enum Counted {
     Shows,
     Allocs,
+    Limits,
     Hosts,
     Boots,
     Jobs,
@@ -75,6 +76,7 @@ impl fmt::Display for Counted {
         match self {
             Counted::Shows => write!(f, "shows"),
             Counted::Allocs => write!(f, "allocations"),
+            Counted::Limits => write!(f, "limits"),
             Counted::Hosts => write!(f, "hosts"),
             Counted::Boots => write!(f, "boots"),
             Counted::Jobs => write!(f, "jobs"),

@@ -1,9 +1,9 @@
-//! The records of shows, allocations, subscriptions, hosts, jobs and layers.
+//! The records of shows, allocations, subscriptions, limits, hosts, jobs and layers.
 
 ghost use Rattle.std.specs.Prelude.{◌≡◌, IfOk};
 
 use crate::items::Items;
-use crate::numbers::{AllocNo, Cores, JobNo, Kb, ShowNo, SubNo};
+use crate::numbers::{AllocNo, Cores, JobNo, Kb, LimitNo, ShowNo, SubNo};
 use crate::states::{HostState, JobState, LockState};
 use crate::text::Text;
 use std::alloc::{AllocError, Global};
@@ -27,6 +27,14 @@ pub struct SubRow {
     pub sub: SubNo,
     pub size: Cores,
     pub burst: Cores,
+}
+
+/// A limit, as of a studio's licences: at most so many frames of the layers that have it run at once. Its number
+/// is its place in the list of limits.
+#[derive(Debug, Drop)]
+pub struct LimitRow {
+    pub name: Text,
+    pub most: u32,
 }
 
 /// A host. Its number is its place in the list of hosts. `seq` is the sequence number of its last report, 0
@@ -68,7 +76,7 @@ pub struct JobRow {
 }
 
 /// A layer of a job, at its place (from 0) in the job. `range` is its frame range as it is printed, and
-/// `cores` and `memory` are what each attempt at one of its frames books.
+/// `cores` and `memory` are what each attempt at one of its frames books. Where it has a limit, that counts its running frames.
 #[derive(Debug, Drop)]
 pub struct LayerRow {
     pub job: JobNo,
@@ -79,6 +87,7 @@ pub struct LayerRow {
     pub cores: Cores,
     pub memory: Kb,
     pub tags: Items<Text>,
+    pub limit: Option<LimitNo>,
 }
 
 impl ShowRow {
@@ -100,6 +109,18 @@ impl AllocRow {
         Ok(AllocRow {
             facility: self.facility.copy(alloc)?,
             tag: self.tag.copy(alloc)?,
+        })
+    }
+}
+
+impl LimitRow {
+    /// An equal limit.
+    pub fn copy(&self, alloc: Global) -> Result<LimitRow, AllocError>
+        ensures { IfOk result (λ copy. copy ≡ self.now) }
+    {
+        Ok(LimitRow {
+            name: self.name.copy(alloc)?,
+            most: self.most,
         })
     }
 }
@@ -164,6 +185,7 @@ impl LayerRow {
             cores: self.cores,
             memory: self.memory,
             tags: self.tags.copy(alloc)?,
+            limit: self.limit,
         })
     }
 }

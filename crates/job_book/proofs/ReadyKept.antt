@@ -82,7 +82,7 @@ module _ (jobs : List JobRow) (high : ℕ) (most : high ≤ JOB_NUMBERS) (rise :
       in_state_ready = kept_by (slice_get jobs place) refl
 
 -- a job is placed
-module _ (b : JobLists) (show : ℕ) (spec : JobSpec) (limits : JobKeepsLimits spec) (ok : IsBook b) (placed : IsBook (with_new_job b show spec)) (few : length b.jobs + 1 < MOST_JOBS) (ready : List (List ℕ)) (keeps : KeepsReady b.jobs b.slots ready) where
+module _ (b : JobLists) (show : ℕ) (layer_limits : List (Option ℕ)) (spec : JobSpec) (limits : JobKeepsLimits spec) (ok : IsBook b) (placed : IsBook (with_new_job b show layer_limits spec)) (few : length b.jobs + 1 < MOST_JOBS) (ready : List (List ℕ)) (keeps : KeepsReady b.jobs b.slots ready) where
   abbrev row : JobRow
   row = job_row b.next_job show spec
 

@@ -24,28 +24,29 @@ no_jobs = record { jobs = []; layers = []; slots = []; next_job = 1; next_finish
 
 -- ---- placing
 
--- where a job is placed: its number and show, the lowest free slots, one for each of its frames, and how many frames it has
-abbrev pub placing_of : JobLists → ℕ → JobSpec → Placing
-placing_of b show spec =
+-- where a job is placed: its number and show, its layers' limits, the lowest free slots, one for each of its frames, and how many frames it has
+abbrev pub placing_of : JobLists → ℕ → List (Option ℕ) → JobSpec → Placing
+placing_of b show limits spec =
     record {
       job = b.next_job;
       show = show;
+      limits = limits;
       slots = lowest_free 0 b.slots (frames_in spec.layers);
       frames = frames_in spec.layers;
     }
 
 -- the place of a job that isn't refused, or exactly its refusal; out of memory needs no cause
-abbrev pub Checks : JobLists → ℕ → JobSpec → Result Placing FarmFault → Type 0
-Checks b show spec (Ok placing) = (job_refusal b spec ≡ None) × (placing ≡ placing_of b show spec)
-Checks b show spec (Err (fault.Refused why)) = job_refusal b spec ≡ Some why
-Checks b show spec (Err fault.NoMemory) = Unit {0}
+abbrev pub Checks : JobLists → ℕ → List (Option ℕ) → JobSpec → Result Placing FarmFault → Type 0
+Checks b show limits spec (Ok placing) = (job_refusal b spec ≡ None) × (placing ≡ placing_of b show limits spec)
+Checks b show limits spec (Err (fault.Refused why)) = job_refusal b spec ≡ Some why
+Checks b show limits spec (Err fault.NoMemory) = Unit {0}
 
--- the lists with the job of a spec, whose name no job has
-abbrev pub with_new_job : JobLists → ℕ → JobSpec → JobLists
-with_new_job b show spec =
+-- the lists with the job of a spec, whose name no job has, its layers with these limits
+abbrev pub with_new_job : JobLists → ℕ → List (Option ℕ) → JobSpec → JobLists
+with_new_job b show limits spec =
     record {
       jobs = b.jobs ++ job_row b.next_job show spec ∷ [];
-      layers = b.layers ++ layer_rows b.next_job 0 spec.layers;
+      layers = b.layers ++ layer_rows b.next_job limits 0 spec.layers;
       slots = place_frames b.slots (frames_of b.next_job 0 spec.layers);
       next_job = b.next_job + 1;
       next_finish = b.next_finish;

@@ -4,8 +4,7 @@ use Rattle.std.specs.List.{find, slice_get, list_all, position_or_len}
 use Rattle.std.proofs.lemmas.Bool.{eqb-true, ne_eqb, and_from, le-ltb}
 use Rattle.std.specs.Option.{option_or}
 use Rattle.std.proofs.lemmas.List.{drop_more}
-use Rattle.farm_types.specs.Farm.{changed_at}
-use Rattle.farm_types.specs.Kept.{for_any}
+use Rattle.farm_types.specs.Farm.{changed_at, for_any}
 use Rattle.farm_types.specs.Rising.{IsRising}
 use Rattle.farm_types.proofs.ChangedLists.{changed_at_suc}
 use Rattle.farm_types.proofs.Lists.{and_both}

@@ -8,8 +8,7 @@ use Rattle.std.proofs.lemmas.List.Folds.{list_all-append}
 use Rattle.farm_types.specs.declared.rows.JobRow.{JobRow}
 use Rattle.farm_types.specs.declared.rows.LayerRow.{LayerRow}
 use Rattle.farm_types.specs.declared.states.FrameState.{FrameState}
-use Rattle.farm_types.specs.Farm.{changed_at}
-use Rattle.farm_types.specs.Kept.{for_any}
+use Rattle.farm_types.specs.Farm.{changed_at, for_any}
 use Rattle.farm_types.specs.Operators.{paused_row}
 use Rattle.farm_types.specs.Rising.{IsRising}
 use Rattle.farm_types.proofs.ChangedLists.{changed_at_suc, list_all-changed_at, map-map_kept}

@@ -7,7 +7,8 @@ use Rattle.farm_types.specs.declared.limits.TheConstants.{LAST_VERSION, MOST_LAY
 use Rattle.farm_types.specs.declared.rows.LayerRow.{LayerRow}
 use Rattle.farm_types.specs.declared.slot_row.Frame.{Frame}
 use Rattle.farm_types.specs.declared.slot_row.SlotRow.{SlotRow}
-use Rattle.farm_types.specs.Kept.{for_any, is_formed_layer, is_kept_frame, is_kept_slot, layer_in}
+use Rattle.farm_types.specs.Farm.{for_any, layer_in}
+use Rattle.farm_types.specs.Kept.{is_formed_layer, is_kept_frame, is_kept_slot}
 use Rattle.farm_types.specs.Rising.{layer_key}
 use Rattle.farm_types.proofs.Lists.{and_both, find_passes, for_some_true, found_is}
 use Rattle.farm_law.proofs.FormedParts.{layer_formed}

@@ -6,8 +6,7 @@ use Rattle.farm_types.specs.declared.rows.JobRow.{JobRow}
 use Rattle.farm_types.specs.declared.rows.LayerRow.{LayerRow}
 use Rattle.farm_types.specs.declared.states.FrameState.{FrameState}
 use Rattle.farm_types.specs.declared.states.JobState.TheVariants as job_state
-use Rattle.farm_types.specs.Farm.{changed_at}
-use Rattle.farm_types.specs.Kept.{for_any}
+use Rattle.farm_types.specs.Farm.{changed_at, for_any}
 use Rattle.farm_types.specs.Rising.{IsRising}
 use Rattle.job_entries.specs.declared.counts.Counts.{Counts}
 use Rattle.job_entries.specs.declared.entries.At.{At}

@@ -7,9 +7,9 @@ ghost use Rattle.farm_types.specs.Forms.{is_name_or_empty};
 ghost use Rattle.farm_lines.specs.Fields.{name_at, or_default};
 ghost use Rattle.farm_lines.specs.Spec.{number_at, tags_at, text_of};
 
-use crate::{tags, words};
+use crate::tags;
 use cue_json::{FieldFault, Map};
-use farm_lines::{read_name, read_text};
+use farm_lines::{read_name, read_name_or_empty, read_text};
 use farm_types::{Items, Text};
 use std::alloc::Global;
 
@@ -18,7 +18,7 @@ pub fn name(alloc: Global, object: &Map, field: &str) -> Result<Text, FieldFault
     ensures { Gives (λ name. name) result (or_default [] (text_of is_name_or_empty) field.now (members_view object.now.entries)) }
 {
     if cue_json::has(object, field) {
-        words::name_or_empty(alloc, object, field)
+        read_name_or_empty(alloc, object, field)
     } else {
         Ok(Text::from_str(alloc, "")?)
     }

@@ -104,6 +104,7 @@ fn made_layer(
         cores,
         memory: Kb(form.memory),
         tags: form.tags.copy(alloc)?,
+        limit: form.limit.copy(alloc)?,
     })
 }
 

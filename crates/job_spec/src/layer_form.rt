@@ -24,10 +24,13 @@ impl ItemReader for LayerReader {
         let cores = defaults::text(alloc, object, "cores", "1")?;
         let memory = defaults::number(alloc, object, "memory", 3_355_443)?;
         let tags = defaults::tags(alloc, object, "tags")?;
+        let limit = defaults::name(alloc, object, "limit")?;
         cue_json::no_others(
             alloc,
             object,
-            &["command", "cores", "memory", "name", "range", "tags"],
+            &[
+                "command", "cores", "limit", "memory", "name", "range", "tags",
+            ],
         )?;
         Ok(LayerForm {
             name,
@@ -36,6 +39,7 @@ impl ItemReader for LayerReader {
             cores,
             memory,
             tags,
+            limit,
         })
     }
 }

@@ -1,23 +1,15 @@
-//! Fields whose texts have a form: names, facilities, commands.
+//! Fields whose texts have a form: facilities, commands.
 
 ghost use Rattle.std.specs.Prelude.{◌≡◌, Ok, Err, if◌then◌else◌};
 ghost use Rattle.std.specs.List.{list_all};
 ghost use Rattle.serde_json.specs.View.{members_view};
 ghost use Rattle.cue_json.specs.Fields.{Gives, WrongKind};
-ghost use Rattle.farm_types.specs.Forms.{is_command_byte, is_command_text, is_name_or_empty, is_tag_text};
+ghost use Rattle.farm_types.specs.Forms.{is_command_byte, is_command_text, is_tag_text};
 ghost use Rattle.farm_lines.specs.Spec.{text_of};
 
 use cue_json::{FieldFault, Map};
-use farm_types::{Text, is_name, is_tag};
+use farm_types::{Text, is_tag};
 use std::alloc::Global;
-
-/// The field's name or empty text.
-pub fn name_or_empty(alloc: Global, object: &Map, field: &str) -> Result<Text, FieldFault>
-    ensures { Gives (λ name. name) result (text_of is_name_or_empty field.now (members_view object.now.entries)) }
-{
-    let text = cue_json::text(alloc, object, field)?;
-    kept(alloc, field, text, text.is_empty() || is_name(text))
-}
 
 /// The field's facility, which has the form of a tag.
 pub fn facility(alloc: Global, object: &Map, field: &str) -> Result<Text, FieldFault>

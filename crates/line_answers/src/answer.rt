@@ -117,6 +117,7 @@ fn asked_of(request: Request) -> Asked
         Request::Show { name } => Asked::Act(Act::Show { name }),
         Request::Alloc { facility, tag } => Asked::Act(Act::Alloc { facility, tag }),
         Request::Sub(line) => Asked::Act(Act::Sub(line)),
+        Request::Limit { name, most } => Asked::Act(Act::Limit { name, most }),
         Request::Boot(line) => Asked::Act(Act::Boot(line)),
         Request::Report(report) => Asked::Report(report),
         Request::Lock { host, lock } => Asked::Act(Act::Lock { host, lock }),

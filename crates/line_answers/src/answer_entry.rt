@@ -117,6 +117,7 @@ fn ok_reply(alloc: Global, act: &Act, answer: Answer) -> Result<Reply, AllocErro
             burst,
             size,
         }),
+        Answer::Limit { most, running } => Ok(Reply::Limit { most, running }),
         Answer::Boot { boot, nonce } => Ok(Reply::Boot { boot, nonce }),
         Answer::Submitted { frames } => Ok(Reply::Submitted {
             frames,

@@ -130,7 +130,8 @@ fn take_recorded<K: Keeper>(
     moment: u64,
 ) -> Taken
     requires { IfOk recorded (TellsHost act.now) }
-    ensures taken { (f : Farm) (before : K) (report : Report) → IsReport act.now running.now report → Hears f (heard_entry report moment) recorded recorder.old.farm
+    ensures taken { (f : Farm) (before : K) (report : Report) → IsReport act.now running.now report
+        → Hears f (heard_entry report moment) recorded recorder.old.farm
         → Continues K.tells K.faults before recorder.old.keeper (is_store_refusal recorded)
         → TellsCommit K.commits f (heard_entry report moment) recorded before recorder.old.keeper
         → TakesReport f report moment recorder.new.farm result (GoesOn K.commits K.tells K.faults f before recorder.new.keeper) }

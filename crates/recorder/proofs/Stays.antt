@@ -17,7 +17,7 @@ use Rattle.farm_keeper.specs.declared.fault.KeeperFault.TheVariants as keeper_fa
 use Rattle.farm_keeper.specs.Keeping.{Committing, HoldsWith, Keeps, LeavesTaken, MayLeave}
 use Rattle.farm_keeper.specs.Rows.{Rows, rows_from}
 use Rattle.farm_keeper.specs.Rows as batched
-use Rattle.store_law.specs.Stored.{batch_of, stored, stored_row}
+use Rattle.store_law.specs.Stored.{batch_of, stored, stored_in, stored_row}
 use Rattle.recorder.specs.declared.refusal.RecordFault.{RecordFault}
 use Rattle.recorder.specs.declared.refusal.RecordFault.TheVariants as fault
 use Rattle.recorder.specs.Recording.{HasRecorded, HasSameRows, MayBe, StaysRecorded}
@@ -90,7 +90,7 @@ module _ (rows : (f g : Farm) (cs : List RowChange) → IsKeptFarm f → IsKeptF
 
   -- one that names a change changes a row
   rows_differ : (cs ≡ [] → ⊥) → rows_of f ≡ rows_of (after f e) → ⊥
-  unfolding stored
+  unfolding stored_in
   rows_differ some same =
       let same_stores : stored f ≡ stored (after f e) = ap (λ (rs : List FarmRow). rows_from (map stored_row rs)) same in
       same_farm f (after f e) cs some (differ f (after f e) kept then_kept same_stores) names

@@ -60,5 +60,6 @@ fn key_pair(key: RowKey) -> (u8, u64)
         RowKey::Frame { slot } => (8, u64::from(slot.0)),
         RowKey::Depend { depend } => (9, u64::from(depend.0)),
         RowKey::Met { depend, position } => (10, group_id(depend.0, position)),
+        RowKey::Limit { limit } => (11, u64::from(limit.0)),
     }
 }

@@ -1,3 +1,4 @@
+pub mod Migrated
 pub mod Reached
 pub mod Spelled
 pub mod Taken

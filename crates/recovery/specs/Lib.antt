@@ -1,3 +1,4 @@
 -- Recovery: the farm of rows of bytes.
 pub mod Drafts
+pub mod Migration
 pub mod Recovered

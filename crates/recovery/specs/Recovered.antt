@@ -1,13 +1,14 @@
--- The farm of rows of bytes, or why there is none.
-use Rattle.std.specs.Prelude.{ℕ, ◌≡◌, ◌==◌, ◌&&◌, Bool, true, false, List, [], ◌∷◌, Option, None, Some, Result, Ok, Err, if◌then◌else◌}
+-- The farm of rows of bytes and their format, or why there is none.
+use Rattle.std.specs.Prelude.{ℕ, ◌≡◌, ◌==◌, ◌&&◌, Bool, true, false, List, [], ◌∷◌, map, Option, None, Some, Result, Ok, Err, if◌then◌else◌}
 use Rattle.farm_keeper.specs.declared.row.Row.{Row}
 use Rattle.farm_types.specs.Farm.{Farm}
 use Rattle.farm_rows.specs.declared.farm_row.FarmRow.{FarmRow}
-use Rattle.farm_rows.specs.Recovery.{StoredKey, end_fault, is_before, key_of, row_fits, with_stored}
-use Rattle.farm_rows.specs.Rows.{row_id, row_kind}
+use Rattle.farm_rows.specs.Recovery.{Said, StoredKey, end_fault, format_after, is_before, key_of, row_fits, with_stored}
+use Rattle.farm_rows.specs.Rows.{row_id, row_kind, rows_in}
 use Rattle.recovery.specs.declared.fault.RecoverFault.{RecoverFault}
+use Rattle.recovery.specs.declared.recovering.Recovered.{Recovered}
 use Rattle.recovery.specs.declared.fault.RecoverFault.TheVariants.{BadBytes, BreaksFarm, NoMemory}
-use Rattle.row_codec.specs.RowFields.{row_text}
+use Rattle.row_codec.specs.RowFields.{text_in}
 use Rattle.row_codec.specs.RowReading.{row_from}
 use Rattle.stored_rows.specs.Told.{Accepts, Told, none_told}
 
@@ -26,38 +27,40 @@ may_follow None key = key.0 == 1 && key.1 == 0
 may_follow (Some last) key = is_before last key
 
 -- after the last row none may be at fault
-abbrev pub all_ended : Farm → Option StoredKey → Result Farm RecoverFault
-all_ended f None = Ok f
-all_ended f (Some key) = Err (breaks_farm key)
+abbrev pub all_ended : ℕ → Farm → Option StoredKey → Result Said RecoverFault
+all_ended format f None = Ok (record { farm = f; format = format })
+all_ended format f (Some key) = Err (breaks_farm key)
 
--- The row that bytes are. A row of the farm's own kind is read as the farm's own whatever its id is, so that one of another id breaks the farm.
+-- The row that bytes are in a format. A row of the farm's own kind is read as the farm's own whatever its id is, so that one of another id breaks the farm.
 abbrev pub read_id : ℕ → ℕ → ℕ
 read_id kind id = if kind == 1 then 0 else id
 
-abbrev pub row_given : Row → Option FarmRow
-row_given r = row_from r.kind (read_id r.kind r.id) r.bytes
+abbrev pub row_given : ℕ → Row → Option FarmRow
+row_given format r = row_from format r.kind (read_id r.kind r.id) r.bytes
 
 -- the bytes are a row of that id, which fits the farm so far
-abbrev pub read_with : Option FarmRow → Farm → StoredKey → (FarmRow → Result Farm RecoverFault) → Result Farm RecoverFault
-read_with None f key rest = Err (bad_bytes key)
-read_with (Some r) f key rest = if row_id r == key.1 && row_fits f r then rest r else Err (breaks_farm key)
+abbrev pub read_with : Option FarmRow → ℕ → Farm → StoredKey → (FarmRow → Result Said RecoverFault) → Result Said RecoverFault
+read_with None format f key rest = Err (bad_bytes key)
+read_with (Some r) format f key rest = if row_id r == key.1 && row_fits format f r then rest r else Err (breaks_farm key)
 
--- the farm that rows say with those before them, or the first one at fault
-abbrev pub recovered_with : Option StoredKey → Farm → List Row → Result Farm RecoverFault
-recovered_with last f [] = all_ended f (end_fault f)
-recovered_with last f (r ∷ rs) =
-    if may_follow last (given_key r) then read_with (row_given r) f (given_key r) (λ row. recovered_with (Some (given_key r)) (with_stored f row) rs)
+-- what rows say with those before them, which were of that format, or the first one at fault: each is read in the format that the rows before it say
+abbrev pub recovered_with : ℕ → Option StoredKey → Farm → List Row → Result Said RecoverFault
+recovered_with format last f [] = all_ended format f (end_fault f)
+recovered_with format last f (r ∷ rs) =
+    if may_follow last (given_key r)
+    then read_with (row_given format r) format f (given_key r) (λ row. recovered_with (format_after format row) (Some (given_key r)) (with_stored f row) rs)
     else Err (breaks_farm (given_key r))
 
-abbrev pub recovered_from : Told → List Row → Result Farm RecoverFault
-recovered_from t rows = recovered_with t.last t.farm rows
+abbrev pub recovered_from : Told → List Row → Result Said RecoverFault
+recovered_from t rows = recovered_with t.format t.last t.farm rows
 
-abbrev pub recovered : List Row → Result Farm RecoverFault
+-- the farm of a store's rows and their format, or the first row at fault
+abbrev pub recovered : List Row → Result Said RecoverFault
 recovered rows = recovered_from none_told rows
 
 -- what was answered is what was said, unless memory ran out
-abbrev pub IsRecovered : {X : Type 0} → Result X RecoverFault → Result X RecoverFault → Type 0
-IsRecovered said (Ok x) = said ≡ Ok x
+abbrev pub IsRecovered : Result Said RecoverFault → Result Recovered RecoverFault → Type 0
+IsRecovered said (Ok x) = said ≡ Ok (record { farm = x.farm; format = x.format })
 IsRecovered said (Err (BadBytes kind id)) = said ≡ Err (BadBytes kind id)
 IsRecovered said (Err (BreaksFarm kind id)) = said ≡ Err (BreaksFarm kind id)
 IsRecovered said (Err NoMemory) = Unit {0}
@@ -70,11 +73,11 @@ IsAccepted old r new (Err (BreaksFarm kind id)) = (rest : List Row) → recovere
 IsAccepted old r new (Err NoMemory) = Unit {0}
 
 -- the row that the bytes are, or there is none, unless memory ran out
-abbrev pub IsRead : Row → Result FarmRow RecoverFault → Type 0
-IsRead r (Ok x) = row_given r ≡ Some x
-IsRead r (Err (BadBytes kind id)) = (row_given r ≡ None) × (kind ≡ r.kind) × (id ≡ r.id)
-IsRead r (Err (BreaksFarm kind id)) = ⊥
-IsRead r (Err NoMemory) = Unit {0}
+abbrev pub IsRead : ℕ → Row → Result FarmRow RecoverFault → Type 0
+IsRead format r (Ok x) = row_given format r ≡ Some x
+IsRead format r (Err (BadBytes kind id)) = (row_given format r ≡ None) × (kind ≡ r.kind) × (id ≡ r.id)
+IsRead format r (Err (BreaksFarm kind id)) = ⊥
+IsRead format r (Err NoMemory) = Unit {0}
 
 -- the row was added, or breaks the farm, unless memory ran out
 abbrev pub IsJoined : Told → FarmRow → Told → Result (Unit {0}) RecoverFault → Type 0
@@ -83,6 +86,10 @@ IsJoined old r new (Err (BreaksFarm kind id)) = Accepts false old r new × ((kin
 IsJoined old r new (Err (BadBytes kind id)) = ⊥
 IsJoined old r new (Err NoMemory) = Unit {0}
 
--- a row with its kind, its id and its bytes
-abbrev pub spelled_row : FarmRow → Row
-spelled_row r = record { kind = row_kind r; id = row_id r; bytes = row_text r }
+-- a row with its kind, its id and its bytes in a format
+abbrev pub spelled_row : ℕ → FarmRow → Row
+spelled_row format r = record { kind = row_kind r; id = row_id r; bytes = text_in format r }
+
+-- the rows that a farm has in a format
+abbrev pub spelled_rows : ℕ → Farm → List Row
+spelled_rows format f = map (spelled_row format) (rows_in format f)

@@ -1,7 +1,7 @@
 //! A farm that is made of rows, one by one.
 
 ghost use Rattle.std.specs.Prelude.{◌≡◌, [], None, true, IfOk};
-ghost use Rattle.farm_rows.specs.Recovery.{end_fault};
+ghost use Rattle.farm_rows.specs.Recovery.{IsFormat, end_fault};
 ghost use Rattle.recovery.specs.Drafts.{IsAdded, IsFinished, IsReached, IsSaid, LeadsOn, LeadsTo};
 ghost use Rattle.stored_rows.specs.Told.{Accepts, none_told};
 
@@ -12,7 +12,8 @@ use std::alloc::{AllocError, Global};
 use std::marker::Model;
 use stored_farm::StoredFarm;
 
-/// The rows so far of a farm, in order, which contracts see as the key of the last one and the farm that they say (`Told` of `stored_rows`).
+/// The rows so far of a farm, in order, which contracts see as the key of the last one, the farm that they say and their format (`Told` of
+/// `stored_rows`).
 #[derive(Drop)]
 pub struct FarmDraft {
     farm: StoredFarm,
@@ -59,6 +60,14 @@ impl FarmDraft {
         ensures { result ≡ self.now.last }
     {
         self.farm.last()
+    }
+
+    /// The format of the rows so far, that in which rows are written where there are none.
+    pub fn format(&self) -> u64
+        ensures value { result ≡ self.now.format }
+        ensures known { IsFormat result }
+    {
+        self.farm.format()
     }
 
     /// The farm of the rows, or the kind and the id of the first row at fault, now that all are there. Where a call ran out of memory before, so does this one.

@@ -1,9 +1,10 @@
-//! Recovery: the farm of a store's rows, or the first row at fault.
+//! Recovery: the farm of a store's rows, or the first row at fault; and the rows of an older format made those in which rows are written.
 #![tactic(auto)]
 
 mod draft;
 mod fault;
 mod laws;
+mod migration;
 mod recovering;
 
 pub use draft::FarmDraft;
@@ -12,4 +13,5 @@ pub use laws::{
     farms_are_recovered, farms_of_runs_are_recovered, no_rows_are_the_empty_farm,
     rows_recovered_are_the_farms,
 };
-pub use recovering::recover;
+pub use migration::migrate;
+pub use recovering::{Recovered, recover};

@@ -1,6 +1,7 @@
 //! The farm of a store's rows.
 
 ghost use Rattle.std.specs.Prelude.{◌≡◌, [], Some, true};
+ghost use Rattle.farm_rows.specs.Recovery.{IsFormat};
 ghost use Rattle.recovery.specs.Recovered.{IsJoined, IsRead, IsRecovered, IsAccepted, given_key, may_follow, read_id, recovered, recovered_from, row_given};
 
 use crate::draft::FarmDraft;
@@ -11,10 +12,18 @@ use farm_rows::FarmRow;
 use row_codec::{RowFault, decode};
 use std::alloc::Global;
 
-/// The farm of these rows, which are taken as they are given, or the first row at fault. Of each in turn: one that doesn't come after the one before it by
-/// its kind, then its id, or that is the first one and isn't the farm's own, breaks the farm; then one whose bytes are no row is bad; then one that doesn't
-/// fit those before it, or is of the farm's own kind and another id, breaks the farm. After the last row one may break the farm that all are there of. No rows at all are the empty farm.
-pub fn recover(alloc: Global, rows: &[Row]) -> Result<Farm, RecoverFault>
+/// The farm of a store's rows, and the format of the rows.
+#[derive(Drop)]
+pub struct Recovered {
+    pub farm: Farm,
+    pub format: u64,
+}
+
+/// The farm of these rows, which are taken as they are given, and their format, or the first row at fault. Of each in turn: one that doesn't come after
+/// the one before it by its kind, then its id, or that is the first one and isn't the farm's own, breaks the farm; then one whose bytes are no row in the
+/// format that the farm's own row says is bad; then one that doesn't fit those before it, or is of the farm's own kind and another id, breaks the farm.
+/// After the last row one may break the farm that all are there of. No rows at all are the empty farm, in the format in which rows are written.
+pub fn recover(alloc: Global, rows: &[Row]) -> Result<Recovered, RecoverFault>
     ensures { IsRecovered (recovered rows.now) result }
 {
     let mut draft = FarmDraft::make(alloc)?;
@@ -43,7 +52,7 @@ fn take_next(alloc: Global, draft: &mut FarmDraft, row: &Row) -> Result<(), Reco
     requires { may_follow draft.old.last (given_key row.now) ≡ true }
     ensures { IsAccepted draft.old row.now draft.new result }
 {
-    match read(alloc, row) {
+    match read(alloc, draft.format(), row) {
         Ok(found) => take_found(alloc, draft, row, found),
         Err(fault) => Err(fault),
     }
@@ -57,7 +66,7 @@ fn take_found(
     found: FarmRow,
 ) -> Result<(), RecoverFault>
     requires next { may_follow draft.old.last (given_key row.now) ≡ true }
-    requires found { row_given row.now ≡ Some found }
+    requires found { row_given draft.old.format row.now ≡ Some found }
     ensures { IsAccepted draft.old row.now draft.new result }
 {
     row_codec::rows_are_read_as_spelled();
@@ -79,13 +88,14 @@ fn may_follow(last: Option<(u8, u64)>, key: (u8, u64)) -> bool
     }
 }
 
-// The row that the bytes are.
-fn read(alloc: Global, row: &Row) -> Result<FarmRow, RecoverFault>
-    ensures { IsRead row.now result }
+// The row that the bytes are in the format.
+fn read(alloc: Global, format: u64, row: &Row) -> Result<FarmRow, RecoverFault>
+    requires { IsFormat format }
+    ensures { IsRead format row.now result }
 {
     let kind = row.kind;
     let id = row.id;
-    match decode(alloc, kind, read_id(kind, id), row.bytes.as_slice()) {
+    match decode(alloc, format, kind, read_id(kind, id), row.bytes.as_slice()) {
         Ok(row) => Ok(row),
         Err(RowFault::BadBytes { .. }) => Err(RecoverFault::BadBytes { kind, id }),
         Err(RowFault::NoMemory) => Err(RecoverFault::NoMemory),
@@ -110,12 +120,13 @@ fn add(alloc: Global, draft: &mut FarmDraft, row: FarmRow) -> Result<(), Recover
     }
 }
 
-// The farm of the draft's rows.
-fn finish(alloc: Global, draft: FarmDraft) -> Result<Farm, RecoverFault>
+// The farm of the draft's rows, and their format.
+fn finish(alloc: Global, draft: FarmDraft) -> Result<Recovered, RecoverFault>
     ensures { IsRecovered (recovered_from draft []) result }
 {
+    let format = draft.format();
     match draft.finish(alloc) {
-        Ok(farm) => Ok(farm),
+        Ok(farm) => Ok(Recovered { farm, format }),
         Err(DraftFault::Breaks { kind, id }) => Err(RecoverFault::BreaksFarm { kind, id }),
         Err(DraftFault::NoMemory) => Err(RecoverFault::NoMemory),
     }

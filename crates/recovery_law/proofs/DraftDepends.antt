@@ -10,6 +10,7 @@ use Rattle.farm_types.specs.declared.depend.DependRow.{DependRow}
 use Rattle.farm_types.specs.declared.depend.Group.{Group}
 use Rattle.farm_types.specs.declared.depend.MetRow.{MetRow}
 use Rattle.farm_types.specs.declared.limits.TheConstants.{MOST_DEPENDS, MOST_GROUPS}
+use Rattle.farm_types.specs.declared.rows.LimitRow.{LimitRow}
 use Rattle.farm_types.specs.DependActs.{waits_for_itself}
 use Rattle.farm_types.specs.Depends.{groups_left, groups_of}
 use Rattle.farm_types.specs.Farm.{Farm, for_some}
@@ -45,36 +46,36 @@ no_depends_yet f none =
     }
 
 -- groups are told by layers and slots
-pub groups_beside : (f : Farm) (depends : List DependRow) (met : List MetRow) (d : DependRow) → groups_of (record f { depends = depends; met = met }) d ≡ groups_of f d
+pub groups_beside : (f : Farm) (depends : List DependRow) (met : List MetRow) (limits : List LimitRow) (d : DependRow) → groups_of (record f { depends = depends; met = met; limits = limits }) d ≡ groups_of f d
 unfolding groups_of
-groups_beside f depends met d = refl
+groups_beside f depends met limits d = refl
 
-pub so_far_beside : (f : Farm) (depends : List DependRow) (met : List MetRow) (d : DependRow) → groups_so_far (record f { depends = depends; met = met }) d ≡ groups_so_far f d
+pub so_far_beside : (f : Farm) (depends : List DependRow) (met : List MetRow) (limits : List LimitRow) (d : DependRow) → groups_so_far (record f { depends = depends; met = met; limits = limits }) d ≡ groups_so_far f d
 unfolding groups_so_far
-so_far_beside f depends met d = refl
+so_far_beside f depends met limits d = refl
 
-draft_beside : (f : Farm) (depends : List DependRow) (met : List MetRow) (ds : List DependRow) → list_all (is_draft_depend (record f { depends = depends; met = met })) ds ≡ list_all (is_draft_depend f) ds
-draft_beside f depends met ds =
+draft_beside : (f : Farm) (depends : List DependRow) (met : List MetRow) (limits : List LimitRow) (ds : List DependRow) → list_all (is_draft_depend (record f { depends = depends; met = met; limits = limits })) ds ≡ list_all (is_draft_depend f) ds
+draft_beside f depends met limits ds =
     ap (λ (groups : DependRow → List Group). list_all (λ (d : DependRow). end_is_there f d.waiter && (d.met_all || (end_is_there f d.target && not (is_some (waits_for_itself (groups d)))))) ds)
-    (λ i d. so_far_beside f depends met d i)
+    (λ i d. so_far_beside f depends met limits d i)
 
-left_beside : (f : Farm) (depends : List DependRow) (met : List MetRow) (ds : List DependRow)
-    → sum_by (λ (d : DependRow). cond d.met_all 0 (length (groups_of (record f { depends = depends; met = met }) d))) ds ≡ sum_by (λ (d : DependRow). cond d.met_all 0 (length (groups_of f d))) ds
-left_beside f depends met ds =
-    ap (λ (groups : DependRow → List Group). sum_by (λ (d : DependRow). cond d.met_all 0 (length (groups d))) ds) (λ i d. groups_beside f depends met d i)
+left_beside : (f : Farm) (depends : List DependRow) (met : List MetRow) (limits : List LimitRow) (ds : List DependRow)
+    → sum_by (λ (d : DependRow). cond d.met_all 0 (length (groups_of (record f { depends = depends; met = met; limits = limits }) d))) ds ≡ sum_by (λ (d : DependRow). cond d.met_all 0 (length (groups_of f d))) ds
+left_beside f depends met limits ds =
+    ap (λ (groups : DependRow → List Group). sum_by (λ (d : DependRow). cond d.met_all 0 (length (groups d))) ds) (λ i d. groups_beside f depends met limits d i)
 
-all_beside : (f : Farm) (depends : List DependRow) (met : List MetRow) → HasAllGroups (record f { depends = depends; met = met }) → HasAllGroups f
-all_beside f depends met all d = sym (so_far_beside f depends met d) ∙ all d ∙ groups_beside f depends met d
+all_beside : (f : Farm) (depends : List DependRow) (met : List MetRow) (limits : List LimitRow) → HasAllGroups (record f { depends = depends; met = met; limits = limits }) → HasAllGroups f
+all_beside f depends met limits all d = sym (so_far_beside f depends met limits d) ∙ all d ∙ groups_beside f depends met limits d
 
--- met groups more
-pub depends_beside : (f : Farm) (met : List MetRow) → DraftDepends f → DraftDepends (record f { met = met })
-depends_beside f met k =
+-- met groups or limits more
+pub depends_beside : (f : Farm) (met : List MetRow) (limits : List LimitRow) → DraftDepends f → DraftDepends (record f { met = met; limits = limits })
+depends_beside f met limits k =
     record {
       within = k.within;
       count = k.count;
       formed = k.formed;
-      each = draft_beside f f.depends met f.depends ∙ k.each;
-      groups = λ all. subst (λ (n : ℕ). n ≤ MOST_GROUPS) (sym (left_beside f f.depends met f.depends)) (k.groups (all_beside f f.depends met all));
+      each = draft_beside f f.depends met limits f.depends ∙ k.each;
+      groups = λ all. subst (λ (n : ℕ). n ≤ MOST_GROUPS) (sym (left_beside f f.depends met limits f.depends)) (k.groups (all_beside f f.depends met limits all));
     }
 
 -- ---- a depend more
@@ -105,20 +106,21 @@ depend_kept f r fits k =
       within = list_all-more (λ (d : DependRow). is_between 1 (f.next_depend - 1) d.depend) f.depends r k.within within.0;
       count = omega (arith, length-append f.depends (r ∷ []), ltb-true _ MOST_DEPENDS room.0);
       formed = list_all-more is_formed_depend f.depends r k.formed formed.0;
-      each = draft_beside f ds f.met ds ∙ list_all-more (is_draft_depend f) f.depends r k.each (both_true waiter.0 (unmet_by f r r.met_all waiter.1));
+      each = draft_beside f ds f.met f.limits ds ∙ list_all-more (is_draft_depend f) f.depends r k.each (both_true waiter.0 (unmet_by f r r.met_all waiter.1));
       groups = λ all.
-          let olds = all_beside f ds f.met all in
+          let olds = all_beside f ds f.met f.limits all in
           let weight = λ (d : DependRow). cond d.met_all 0 (length (groups_of f d)) in
           let sum : sum_by weight ds ≡ groups_left f + weight r = omega (arith, sum_by-append weight f.depends (r ∷ []), sum_by-cons weight r []) in
-          subst (λ (n : ℕ). n ≤ MOST_GROUPS) (sym (left_beside f ds f.met ds ∙ sum)) (room_by f r r.met_all waiter.1 (olds r) (k.groups olds));
+          subst (λ (n : ℕ). n ≤ MOST_GROUPS) (sym (left_beside f ds f.met f.limits ds ∙ sum)) (room_by f r r.met_all waiter.1 (olds r) (k.groups olds));
     }
 
 -- ---- met groups
 
+-- marks fit beside other marks and limits
+pub met_beside : (f : Farm) (met : List MetRow) (limits : List LimitRow) (ms : List MetRow) → list_all (met_fits (record f { met = met; limits = limits })) ms ≡ list_all (met_fits f) ms
+met_beside f met limits ms =
+    ap (λ (groups : DependRow → List Group). list_all (λ (m : MetRow). for_some (find (λ (d : DependRow). eqb d.depend m.depend) f.depends) (λ (d : DependRow). not d.met_all && list_any (λ (g : Group). eqb g.position m.position) (groups d))) ms)
+    (λ i d. so_far_beside f f.depends met limits d i)
+
 pub met_kept : (f : Farm) (r : MetRow) → met_fits f r ≡ true → list_all (met_fits f) f.met ≡ true → list_all (met_fits (record f { met = f.met ++ r ∷ [] })) (f.met ++ r ∷ []) ≡ true
-met_kept f r fits all = met_beside ∙ list_all-more (met_fits f) f.met r all fits
-  where
-    met_beside : list_all (met_fits (record f { met = f.met ++ r ∷ [] })) (f.met ++ r ∷ []) ≡ list_all (met_fits f) (f.met ++ r ∷ [])
-    met_beside =
-        ap (λ (groups : DependRow → List Group). list_all (λ (m : MetRow). for_some (find (λ (d : DependRow). eqb d.depend m.depend) f.depends) (λ (d : DependRow). not d.met_all && list_any (λ (g : Group). eqb g.position m.position) (groups d))) (f.met ++ r ∷ []))
-        (λ i d. so_far_beside f f.depends (f.met ++ r ∷ []) d i)
+met_kept f r fits all = met_beside f (f.met ++ r ∷ []) f.limits (f.met ++ r ∷ []) ∙ list_all-more (met_fits f) f.met r all fits

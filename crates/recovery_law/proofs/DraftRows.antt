@@ -1,4 +1,4 @@
--- What rows of shows, allocations, subscriptions, hosts, jobs and layers keep that fit the rows before them.
+-- What rows of shows, allocations, subscriptions, hosts, limits, jobs and layers keep that fit the rows before them.
 use Rattle.std.proofs.Common.{◌≡◌, ◌≤◌, ℕ, ◌+◌, ◌-◌, Bool, true, false, cond, ◌&&◌, ◌||◌, not, eqb, leb, ltb, List, [], ◌∷◌, ◌++◌, map, length, refl, sym, ap, subst, ◌∙◌, arith, append-nil}
 use Rattle.std.specs.Prelude.{bytes_eq, nat_eq}
 use Rattle.std.specs.List.{IsDistinct, filter, list_all, list_any}
@@ -8,20 +8,22 @@ use Rattle.std.proofs.lemmas.List.{length-append, map_push}
 use Rattle.std.proofs.lemmas.List.Elements.{filter-append}
 use Rattle.std.proofs.lemmas.Map.Keys.{IsDistinct-push}
 use Rattle.farm_types.specs.Booking.{is_pending}
-use Rattle.farm_types.specs.declared.limits.TheConstants.{MOST_ALLOCS, MOST_FINISHED, MOST_HOSTS, MOST_SHOWS}
+use Rattle.farm_types.specs.declared.limits.TheConstants.{MOST_ALLOCS, MOST_FINISHED, MOST_HOSTS, MOST_LIMITS, MOST_SHOWS}
 use Rattle.farm_types.specs.declared.rows.AllocRow.{AllocRow}
 use Rattle.farm_types.specs.declared.rows.HostRow.{HostRow}
 use Rattle.farm_types.specs.declared.rows.JobRow.{JobRow}
 use Rattle.farm_types.specs.declared.rows.LayerRow.{LayerRow}
+use Rattle.farm_types.specs.declared.rows.LimitRow.{LimitRow}
 use Rattle.farm_types.specs.declared.rows.ShowRow.{ShowRow}
 use Rattle.farm_types.specs.Farm.{Farm, layers_of}
 use Rattle.farm_types.specs.Finish.{is_finished}
 use Rattle.farm_types.specs.Forms.{is_between}
-use Rattle.farm_types.specs.Kept.{AllDiffer, AreAtPlaces, KeepsAllocs, KeepsHosts, KeepsShows, alloc_label, finish_of, has_its_counts, has_its_finish, host_label, is_formed_alloc, is_formed_host, is_formed_job, is_formed_layer, is_formed_show, is_of_pending, job_label, layer_label, show_label}
+use Rattle.farm_types.specs.Kept.{AllDiffer, AreAtPlaces, KeepsAllocs, KeepsHosts, KeepsShows, alloc_label, finish_of, has_its_counts, has_its_finish, host_label, is_formed_alloc, is_formed_host, is_formed_job, is_formed_layer, is_formed_limit, is_formed_show, is_of_pending, job_label, layer_label, limit_label, show_label}
 use Rattle.farm_types.proofs.Lists.{and_both}
 use Rattle.farm_law.proofs.KeptJobsLists.{names_none, nothing_differs}
 use Rattle.farm_law.proofs.KeptLists.{list_all-more}
-use Rattle.farm_rows.specs.Recovery.{alloc_fits, host_fits, is_new, job_fits, layer_fits, show_fits}
+use Rattle.farm_rows.specs.declared.head_row.TheConstants.{ROW_FORMAT}
+use Rattle.farm_rows.specs.Recovery.{alloc_fits, host_fits, is_new, job_fits, layer_fits, limit_fits, show_fits}
 
 -- ---- names
 
@@ -70,6 +72,22 @@ host_kept f n r fits k =
       allocated = list_all-more (λ (row : HostRow). ltb row.alloc (length f.allocs)) f.hosts r k.allocated allocated.0;
       heard = list_all-more (λ (row : HostRow). leb row.heard f.moment) f.hosts r k.heard allocated.1;
     }
+
+-- ---- limits
+
+-- limits, whatever layers have them
+pub record DraftLimits (limits : List LimitRow) : Type 0 where
+  pub count : length limits ≤ MOST_LIMITS
+  pub differ : AllDiffer limit_label limits
+  pub formed : list_all is_formed_limit limits ≡ true
+
+pub limit_kept : (format : ℕ) (f : Farm) (n : ℕ) (r : LimitRow) → limit_fits format f n r ≡ true → DraftLimits f.limits → DraftLimits (f.limits ++ r ∷ [])
+limit_kept format f n r fits k =
+    let formatted = and_both (eqb format ROW_FORMAT) _ fits in
+    let at = and_both (eqb n (length f.limits)) _ formatted.1 in
+    let below = and_both (ltb n MOST_LIMITS) _ at.1 in
+    let formed = and_both (is_formed_limit r) _ below.1 in
+    record { count = count_more f.limits r n MOST_LIMITS at.0 below.0; differ = new_differs limit_label f.limits r formed.1 k.differ; formed = list_all-more is_formed_limit f.limits r k.formed formed.0 }
 
 -- ---- jobs
 

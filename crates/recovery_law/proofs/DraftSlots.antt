@@ -15,10 +15,11 @@ use Rattle.farm_types.specs.declared.limits.TheConstants.{LAST_VERSION, MOST_RET
 use Rattle.farm_types.specs.declared.rows.HostRow.{HostRow}
 use Rattle.farm_types.specs.declared.rows.JobRow.{JobRow}
 use Rattle.farm_types.specs.declared.rows.LayerRow.{LayerRow}
+use Rattle.farm_types.specs.declared.rows.LimitRow.{LimitRow}
 use Rattle.farm_types.specs.declared.slot_row.Frame.{Frame}
 use Rattle.farm_types.specs.declared.slot_row.SlotRow.{SlotRow}
-use Rattle.farm_types.specs.Farm.{Farm, for_some, is_placed, layer_at, slot_from, sub_of}
-use Rattle.farm_types.specs.Kept.{EachOnce, EndsUsed, KeepsAttempts, is_kept_slot, is_setup, is_used, layer_in}
+use Rattle.farm_types.specs.Farm.{Farm, for_some, is_placed, layer_at, slot_from, sub_of, layer_in}
+use Rattle.farm_types.specs.Kept.{EachOnce, EndsUsed, KeepsAttempts, is_kept_slot, is_setup, is_used}
 use Rattle.farm_types.specs.Ranges.{range_numbers}
 use Rattle.farm_types.specs.Run.{HasItsAttempt, IsSound}
 use Rattle.farm_types.specs.Sums.{cores_on, memory_on, used_cores, used_memory}
@@ -289,9 +290,9 @@ slot_kept f r fits past k =
       };
     }
 
--- with other depends
-pub slots_beside : (f : Farm) (depends : List DependRow) (met : List MetRow) → DraftSlots f → DraftSlots (record f { depends = depends; met = met })
-slots_beside f depends met k =
+-- with other depends and limits
+pub slots_beside : (f : Farm) (depends : List DependRow) (met : List MetRow) (limits : List LimitRow) → DraftSlots f → DraftSlots (record f { depends = depends; met = met; limits = limits })
+slots_beside f depends met limits k =
     record {
       count = k.count;
       kept = k.kept;

@@ -1,5 +1,5 @@
 -- The farm that rows say that fit: what it keeps before the last row is known.
-use Rattle.std.proofs.Common.{◌≡◌, ◌<◌, ◌≤◌, ℕ, ◌+◌, true, not, eqb, leb, ltb, List, [], ◌∷◌, ◌++◌, map, length, Option, Some, None, refl, sym, ap, subst, ◌∙◌, arith}
+use Rattle.std.proofs.Common.{◌≡◌, ◌<◌, ◌≤◌, ℕ, ◌+◌, true, not, leb, ltb, List, [], ◌∷◌, ◌++◌, map, length, Option, Some, None, refl, sym, ap, subst, ◌∙◌, arith}
 use Rattle.std.specs.Prelude.{◌^◌}
 use Rattle.std.specs.List.{list_all}
 use Rattle.std.proofs.lemmas.Bool.{false≢true, leb-true, ltb-true}
@@ -18,14 +18,15 @@ use Rattle.farm_law.proofs.KeptLists.{list_all-more}
 use Rattle.farm_rows.specs.declared.farm_row.FarmRow.{FarmRow}
 use Rattle.farm_rows.specs.declared.farm_row.FarmRow.TheVariants as row
 use Rattle.farm_rows.specs.declared.head_row.HeadRow.{HeadRow}
+use Rattle.farm_rows.specs.declared.head_row.TheConstants.{ROW_FORMAT}
 use Rattle.farm_rows.specs.Recovery.{StoredKey, is_before, key_of, met_fits, row_fits, slot_row, with_slot, with_stored}
 use Rattle.farm_rows.specs.Rows.{numbered}
-use Rattle.recovery_law.proofs.DraftDepends.{DraftDepends, depend_kept, depends_beside, met_kept, no_depends_yet}
-use Rattle.recovery_law.proofs.DraftRows.{DraftJobs, DraftLayers, alloc_kept, host_kept, job_kept, layer_kept, no_jobs_yet, no_layers_yet, show_kept}
+use Rattle.recovery_law.proofs.DraftDepends.{DraftDepends, depend_kept, depends_beside, met_beside, met_kept, no_depends_yet}
+use Rattle.recovery_law.proofs.DraftRows.{DraftJobs, DraftLayers, DraftLimits, alloc_kept, host_kept, job_kept, layer_kept, limit_kept, no_jobs_yet, no_layers_yet, show_kept}
 use Rattle.recovery_law.proofs.DraftSlots.{DraftSlots, no_slots_yet, slot_kept, slots_beside}
 use Rattle.recovery_law.proofs.Ordered.{Follow, follow_more}
-use Rattle.recovery_law.proofs.RowKinds.{from_hosts, from_jobs, from_layers, from_slots}
-use Rattle.recovery_law.proofs.RowsSaid.{Said, kind_before, next_said, no_depends, no_hosts, no_jobs, no_layers, no_met, no_subs, none_yet, said_step, slots_behind, unsaid}
+use Rattle.recovery_law.proofs.RowKinds.{from_hosts, from_jobs, from_layers, from_limits, from_met, from_slots}
+use Rattle.recovery_law.proofs.RowsSaid.{SaidBy, kind_before, next_said, no_depends, no_hosts, no_jobs, no_layers, no_met, no_subs, none_yet, said_step, slots_behind, unsaid}
 use Rattle.recovery_law.proofs.Steps.{IsStep}
 
 -- what each farm keeps that rows say
@@ -38,6 +39,7 @@ pub record Draft (f : Farm) : Type 0 where
   pub from_depend : 1 ≤ f.next_depend
   pub shows : KeepsShows f.shows
   pub allocs : KeepsAllocs f.allocs
+  pub limits : DraftLimits f.limits
   pub subs : list_all (is_kept_sub (length f.shows) (length f.allocs)) f.subs ≡ true
   pub hosts : KeepsHosts f.hosts (length f.allocs) f.moment
   pub jobs : DraftJobs f.jobs (length f.shows) f.next_job f.next_finish
@@ -47,9 +49,9 @@ pub record Draft (f : Farm) : Type 0 where
   pub met : list_all (met_fits f) f.met ≡ true
 
 -- the rows so far are the farm's, one after the other, and it keeps that
-abbrev pub IsDraft : Option StoredKey → Farm → List FarmRow → Type 0
-IsDraft None f done = (f ≡ empty_farm) × (done ≡ [])
-IsDraft (Some key) f done = Said key f done × Follow (0, 0) done key × Draft f
+abbrev pub IsDraft : ℕ → Option StoredKey → Farm → List FarmRow → Type 0
+IsDraft format None f done = (f ≡ empty_farm) × (done ≡ []) × (format ≡ ROW_FORMAT)
+IsDraft format (Some key) f done = SaidBy format key f done × Follow (0, 0) done key × Draft f
 
 -- ---- before the first row of a kind
 
@@ -75,27 +77,27 @@ none_long (x ∷ xs) h = absurd (omega (arith, h))
 no_hosts_yet : (allocs moment : ℕ) → KeepsHosts [] allocs moment
 no_hosts_yet allocs moment = record { count = omega arith; differ = names_none; formed = refl; allocated = refl; heard = refl }
 
-module _ (key : StoredKey) (f : Farm) (done : List FarmRow) (k : Said key f done) where
+module _ (format : ℕ) (key : StoredKey) (f : Farm) (done : List FarmRow) (k : SaidBy format key f done) where
   subs_none : key.0 ≤ 3 → f.subs ≡ []
-  subs_none h = none_mapped row.Sub f.subs (none_first (map row.Sub f.subs) (from_hosts f) (no_subs key f done k h))
+  subs_none h = none_mapped row.Sub f.subs (none_first (map row.Sub f.subs) (from_hosts f) (no_subs format key f done k h))
 
   hosts_none : key.0 ≤ 4 → f.hosts ≡ []
-  hosts_none h = none_numbered row.Host f.hosts (none_first (numbered row.Host 0 f.hosts) (from_jobs f) (no_hosts key f done k h))
+  hosts_none h = none_numbered row.Host f.hosts (none_first (numbered row.Host 0 f.hosts) (from_jobs f) (no_hosts format key f done k h))
 
   jobs_none : key.0 ≤ 5 → f.jobs ≡ []
-  jobs_none h = none_mapped row.Job f.jobs (none_first (map row.Job f.jobs) (from_layers f) (no_jobs key f done k h))
+  jobs_none h = none_mapped row.Job f.jobs (none_first (map row.Job f.jobs) (from_layers f) (no_jobs format key f done k h))
 
   layers_none : key.0 ≤ 6 → f.layers ≡ []
-  layers_none h = none_mapped row.Layer f.layers (none_first (map row.Layer f.layers) (from_slots f) (no_layers key f done k h))
+  layers_none h = none_mapped row.Layer f.layers (none_first (map row.Layer f.layers) (from_slots f) (no_layers format key f done k h))
 
   slots_none : key.0 ≤ 7 → f.slots ≡ []
-  slots_none h = none_long f.slots (none_yet key f done k 7 h (omega arith))
+  slots_none h = none_long f.slots (none_yet format key f done k 7 h (omega arith))
 
   depends_none : key.0 ≤ 8 → f.depends ≡ []
-  depends_none h = none_mapped row.Depend f.depends (none_first (map row.Depend f.depends) (map row.Met f.met) (no_depends key f done k h))
+  depends_none h = none_mapped row.Depend f.depends (none_first (map row.Depend f.depends) (from_met f) (no_depends format key f done k h))
 
   met_none : key.0 ≤ 9 → f.met ≡ []
-  met_none h = none_mapped row.Met f.met (no_met key f done k h)
+  met_none h = none_mapped row.Met f.met (none_first (map row.Met f.met) (from_limits f) (no_met format key f done k h))
 
   -- no met group yet, for any farm
   met_bare : (g : Farm) → key.0 ≤ 9 → list_all (met_fits g) f.met ≡ true
@@ -103,7 +105,7 @@ module _ (key : StoredKey) (f : Farm) (done : List FarmRow) (k : Said key f done
 
   -- ---- one row more
 
-  next_draft : (d : Draft f) (r : FarmRow) → is_before key (key_of r) ≡ true → row_fits f r ≡ true → Draft (with_stored f r)
+  next_draft : (d : Draft f) (r : FarmRow) → is_before key (key_of r) ≡ true → row_fits format f r ≡ true → Draft (with_stored f r)
   next_draft d (row.Head x) after fits = absurd (headed (and_both (not f.recorded) _ fits).0)
     where
       headed : not f.recorded ≡ true → ⊥
@@ -121,6 +123,7 @@ module _ (key : StoredKey) (f : Farm) (done : List FarmRow) (k : Said key f done
         from_depend = d.from_depend;
         shows = show_kept f n x said.1 d.shows;
         allocs = d.allocs;
+        limits = d.limits;
         subs = subst (λ (xs : List SubRow). list_all (is_kept_sub (length g.shows) (length g.allocs)) xs ≡ true) (sym (subs_none (omega (arith, h)))) refl;
         hosts = d.hosts;
         jobs = subst (λ (xs : List JobRow). DraftJobs xs (length g.shows) g.next_job g.next_finish) (sym (jobs_none (omega (arith, h)))) (no_jobs_yet (length g.shows) g.next_job g.next_finish);
@@ -142,6 +145,7 @@ module _ (key : StoredKey) (f : Farm) (done : List FarmRow) (k : Said key f done
         from_depend = d.from_depend;
         shows = d.shows;
         allocs = alloc_kept f n x said.1 d.allocs;
+        limits = d.limits;
         subs = subst (λ (xs : List SubRow). list_all (is_kept_sub (length g.shows) (length g.allocs)) xs ≡ true) (sym (subs_none (omega (arith, h)))) refl;
         hosts = subst (λ (xs : List HostRow). KeepsHosts xs (length g.allocs) g.moment) (sym (hosts_none (omega (arith, h)))) (no_hosts_yet (length g.allocs) g.moment);
         jobs = d.jobs;
@@ -163,6 +167,7 @@ module _ (key : StoredKey) (f : Farm) (done : List FarmRow) (k : Said key f done
         from_depend = d.from_depend;
         shows = d.shows;
         allocs = d.allocs;
+        limits = d.limits;
         subs = list_all-more (is_kept_sub (length f.shows) (length f.allocs)) f.subs x d.subs said.1;
         hosts = d.hosts;
         jobs = d.jobs;
@@ -184,6 +189,7 @@ module _ (key : StoredKey) (f : Farm) (done : List FarmRow) (k : Said key f done
         from_depend = d.from_depend;
         shows = d.shows;
         allocs = d.allocs;
+        limits = d.limits;
         subs = d.subs;
         hosts = host_kept f n x said.1 d.hosts;
         jobs = d.jobs;
@@ -205,6 +211,7 @@ module _ (key : StoredKey) (f : Farm) (done : List FarmRow) (k : Said key f done
         from_depend = d.from_depend;
         shows = d.shows;
         allocs = d.allocs;
+        limits = d.limits;
         subs = d.subs;
         hosts = d.hosts;
         jobs = job_kept f x said.1 d.jobs;
@@ -226,6 +233,7 @@ module _ (key : StoredKey) (f : Farm) (done : List FarmRow) (k : Said key f done
         from_depend = d.from_depend;
         shows = d.shows;
         allocs = d.allocs;
+        limits = d.limits;
         subs = d.subs;
         hosts = d.hosts;
         jobs = d.jobs;
@@ -247,11 +255,12 @@ module _ (key : StoredKey) (f : Farm) (done : List FarmRow) (k : Said key f done
         from_depend = d.from_depend;
         shows = d.shows;
         allocs = d.allocs;
+        limits = d.limits;
         subs = d.subs;
         hosts = d.hosts;
         jobs = d.jobs;
         layers = d.layers;
-        slots = slot_kept f x said.1 (slots_behind key f done k x.slot after) d.slots;
+        slots = slot_kept f x said.1 (slots_behind format key f done k x.slot after) d.slots;
         depends = no_depends_yet g (depends_none (omega (arith, h)));
         met = met_bare g (omega (arith, h));
       }
@@ -268,11 +277,12 @@ module _ (key : StoredKey) (f : Farm) (done : List FarmRow) (k : Said key f done
         from_depend = d.from_depend;
         shows = d.shows;
         allocs = d.allocs;
+        limits = d.limits;
         subs = d.subs;
         hosts = d.hosts;
         jobs = d.jobs;
         layers = d.layers;
-        slots = slots_beside f (f.depends ++ x ∷ []) f.met d.slots;
+        slots = slots_beside f (f.depends ++ x ∷ []) f.met f.limits d.slots;
         depends = depend_kept f x said.1 d.depends;
         met = met_bare g (omega (arith, h));
       }
@@ -289,13 +299,35 @@ module _ (key : StoredKey) (f : Farm) (done : List FarmRow) (k : Said key f done
         from_depend = d.from_depend;
         shows = d.shows;
         allocs = d.allocs;
+        limits = d.limits;
         subs = d.subs;
         hosts = d.hosts;
         jobs = d.jobs;
         layers = d.layers;
-        slots = slots_beside f f.depends (f.met ++ x ∷ []) d.slots;
-        depends = depends_beside f (f.met ++ x ∷ []) d.depends;
+        slots = slots_beside f f.depends (f.met ++ x ∷ []) f.limits d.slots;
+        depends = depends_beside f (f.met ++ x ∷ []) f.limits d.depends;
         met = met_kept f x said.1 d.met;
+      }
+  next_draft d (row.Limit n x) after fits =
+      let said = and_both f.recorded _ fits in
+      let limits = f.limits ++ x ∷ [] in
+      record {
+        moment = d.moment;
+        next_job = d.next_job;
+        from_job = d.from_job;
+        from_finish = d.from_finish;
+        next_depend = d.next_depend;
+        from_depend = d.from_depend;
+        shows = d.shows;
+        allocs = d.allocs;
+        limits = limit_kept format f n x said.1 d.limits;
+        subs = d.subs;
+        hosts = d.hosts;
+        jobs = d.jobs;
+        layers = d.layers;
+        slots = slots_beside f f.depends f.met limits d.slots;
+        depends = depends_beside f f.met limits d.depends;
+        met = met_beside f f.met limits f.met ∙ d.met;
       }
 
 -- ---- the first row, and all
@@ -303,10 +335,10 @@ module _ (key : StoredKey) (f : Farm) (done : List FarmRow) (k : Said key f done
 between_parts : (least most n : ℕ) → is_between least most n ≡ true → (least ≤ n) × (n ≤ most)
 between_parts least most n h = let both = and_both (leb least n) (leb n most) h in (leb-true least n both.0, leb-true n most both.1)
 
-head_draft : (x : HeadRow) → row_fits empty_farm (row.Head x) ≡ true → Draft (with_stored empty_farm (row.Head x))
-head_draft x fits =
+head_draft : (format : ℕ) (x : HeadRow) → row_fits format empty_farm (row.Head x) ≡ true → Draft (with_stored empty_farm (row.Head x))
+head_draft format x fits =
     let g = with_stored empty_farm (row.Head x) in
-    let formatted = and_both (eqb x.format 1) _ fits in
+    let formatted = and_both (is_between 1 ROW_FORMAT x.format) _ fits in
     let moment = and_both (ltb x.moment (2 ^ 64)) _ formatted.1 in
     let depends = and_both (is_between 1 (LAST_DEPEND + 1) x.depends) _ moment.1 in
     let finishes = and_both (is_between 1 (LAST_JOB + 1) x.finishes) _ depends.1 in
@@ -322,6 +354,7 @@ head_draft x fits =
       from_depend = of_depends.0;
       shows = record { count = omega arith; differ = names_none; formed = refl };
       allocs = record { count = omega arith; differ = names_none; formed = refl };
+      limits = record { count = omega arith; differ = names_none; formed = refl };
       subs = refl;
       hosts = no_hosts_yet 0 x.moment;
       jobs = no_jobs_yet 0 x.jobs x.finishes;
@@ -331,18 +364,19 @@ head_draft x fits =
       met = refl;
     }
 
-first_draft : (f : Farm) (r : FarmRow) → f ≡ empty_farm → row_fits f r ≡ true → Draft (with_stored f r)
-first_draft f (row.Head x) is fits =
-    subst (λ (g : Farm). Draft (with_stored g (row.Head x))) (sym is) (head_draft x (subst (λ (g : Farm). row_fits g (row.Head x) ≡ true) is fits))
-first_draft f (row.Show n x) is fits = absurd (unsaid f _ is fits)
-first_draft f (row.Alloc n x) is fits = absurd (unsaid f _ is fits)
-first_draft f (row.Sub x) is fits = absurd (unsaid f _ is fits)
-first_draft f (row.Host n x) is fits = absurd (unsaid f _ is fits)
-first_draft f (row.Job x) is fits = absurd (unsaid f _ is fits)
-first_draft f (row.Layer x) is fits = absurd (unsaid f _ is fits)
-first_draft f (row.Frame x) is fits = absurd (unsaid f _ is fits)
-first_draft f (row.Depend x) is fits = absurd (unsaid f _ is fits)
-first_draft f (row.Met x) is fits = absurd (unsaid f _ is fits)
+first_draft : (format : ℕ) (f : Farm) (r : FarmRow) → f ≡ empty_farm → row_fits format f r ≡ true → Draft (with_stored f r)
+first_draft format f (row.Head x) is fits =
+    subst (λ (g : Farm). Draft (with_stored g (row.Head x))) (sym is) (head_draft format x (subst (λ (g : Farm). row_fits format g (row.Head x) ≡ true) is fits))
+first_draft format f (row.Show n x) is fits = absurd (unsaid f _ is fits)
+first_draft format f (row.Alloc n x) is fits = absurd (unsaid f _ is fits)
+first_draft format f (row.Sub x) is fits = absurd (unsaid f _ is fits)
+first_draft format f (row.Host n x) is fits = absurd (unsaid f _ is fits)
+first_draft format f (row.Job x) is fits = absurd (unsaid f _ is fits)
+first_draft format f (row.Layer x) is fits = absurd (unsaid f _ is fits)
+first_draft format f (row.Frame x) is fits = absurd (unsaid f _ is fits)
+first_draft format f (row.Depend x) is fits = absurd (unsaid f _ is fits)
+first_draft format f (row.Met x) is fits = absurd (unsaid f _ is fits)
+first_draft format f (row.Limit n x) is fits = absurd (unsaid f _ is fits)
 
 from_first : (r : FarmRow) → is_before (0, 0) (key_of r) ≡ true
 from_first (row.Head x) = refl
@@ -355,13 +389,14 @@ from_first (row.Layer x) = refl
 from_first (row.Frame x) = refl
 from_first (row.Depend x) = refl
 from_first (row.Met x) = refl
+from_first (row.Limit n x) = refl
 
 -- each row that fits keeps it
 pub draft_step : IsStep IsDraft
-draft_step None f done r k after fits = (
-  said_step None f done r k after fits,
+draft_step format None f done r k after fits = (
+  said_step format None f done r k after fits,
   subst (λ (olds : List FarmRow). Follow (0, 0) (olds ++ r ∷ []) (key_of r)) (sym k.1) (from_first r, refl),
-  first_draft f r k.0 fits,
+  first_draft format f r k.0 fits,
 )
-draft_step (Some key) f done r k after fits =
-    (next_said key f done k.0 r after fits, follow_more (0, 0) done key r k.1 after, next_draft key f done k.0 k.2 r after fits)
+draft_step format (Some key) f done r k after fits =
+    (next_said format key f done k.0 r after fits, follow_more (0, 0) done key r k.1 after, next_draft format key f done k.0 k.2 r after fits)

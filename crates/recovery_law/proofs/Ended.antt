@@ -4,7 +4,7 @@ use Rattle.std.specs.Prelude.{◌/◌, bytes_eq, is_some, slice_get}
 use Rattle.std.specs.List.{filter, find, list_all, list_any, position_or_len}
 use Rattle.std.specs.Ordering.{int_eq}
 use Rattle.std.specs.Cmp.Derive.{both_true}
-use Rattle.std.proofs.lemmas.Bool.{eqb-true, false≢true, leb-true, ltb-true, or_left, or_right}
+use Rattle.std.proofs.lemmas.Bool.{eqb-true, false≢true, leb-true, ltb-true, not-false, or_left, or_right}
 use Rattle.std.proofs.lemmas.Cmp.{int_eq_equiv}
 use Rattle.std.proofs.lemmas.List.Folds.{find_at}
 use Rattle.std.proofs.lemmas.Option.{none-some, same_Some}
@@ -16,10 +16,10 @@ use Rattle.farm_types.specs.declared.rows.JobRow.{JobRow}
 use Rattle.farm_types.specs.declared.rows.LayerRow.{LayerRow}
 use Rattle.farm_types.specs.declared.slot_row.Frame.{Frame}
 use Rattle.farm_types.specs.declared.slot_row.SlotRow.{SlotRow}
-use Rattle.farm_types.specs.Farm.{Farm, for_some, layers_of, slot_from}
+use Rattle.farm_types.specs.Farm.{Farm, for_some, layers_of, slot_from, for_any, layer_in}
 use Rattle.farm_types.specs.Finish.{finishes}
 use Rattle.farm_types.specs.Forms.{is_between, is_name_text}
-use Rattle.farm_types.specs.Kept.{EachThere, KeepsJobs, KeepsRows, KeepsWork, for_any, frames_said, has_frame_in, has_part, is_end_there, is_formed_layer, is_kept_frame, is_kept_slot, is_kept_sub, is_of_pending, is_pending_job, layer_in, runs_unmet}
+use Rattle.farm_types.specs.Kept.{EachThere, KeepsJobs, KeepsRows, KeepsWork, frames_said, has_frame_in, has_its_limit, has_part, is_end_there, is_formed_layer, is_kept_frame, is_kept_slot, is_kept_sub, is_of_pending, is_pending_job, runs_unmet}
 use Rattle.farm_types.specs.Ranges.{range_numbers}
 use Rattle.farm_types.specs.Rising.{IsRising, depend_key, job_key, layer_key, sub_key}
 use Rattle.farm_types.specs.Settle.{opens}
@@ -29,7 +29,7 @@ use Rattle.farm_types.proofs.Passes.{for_some-there}
 use Rattle.farm_law.proofs.KeptJobsRows.{frame_kept}
 use Rattle.depend_law.proofs.Among.{In, kept_from, rising_once}
 use Rattle.farm_rows.specs.declared.farm_row.FarmRow.TheVariants as row
-use Rattle.farm_rows.specs.Recovery.{StoredKey, end_fault, end_is_there, first_depend, first_job, first_layer, first_slot, head_ends, is_frame_in, is_part_in, is_wrongly_marked, lacks_frames, lacks_slots}
+use Rattle.farm_rows.specs.Recovery.{StoredKey, end_fault, end_is_there, first_depend, first_job, first_layer, first_slot, head_ends, is_frame_in, is_part_in, is_wrongly_marked, lacks_frames, lacks_limit, lacks_slots}
 use Rattle.farm_rows.proofs.Faultless.{each_there, first_fails, groups_alike, neither, none_told}
 use Rattle.recovery_law.proofs.DraftDepends.{HasAllGroups}
 use Rattle.recovery_law.proofs.Drafts.{Draft}
@@ -46,6 +46,7 @@ no_slot test place (t ∷ ts) e (suc n) s at =
 
 -- what no fault says
 pub record NoFault (f : Farm) : Type 0 where
+  pub limits : (n : ℕ) (l : LayerRow) → slice_get f.layers n ≡ Some l → lacks_limit f l ≡ false
   pub head : head_ends f ≡ None
   pub frames : (n : ℕ) (j : JobRow) → slice_get f.jobs n ≡ Some j → lacks_frames f j ≡ false
   pub slots : (n : ℕ) (l : LayerRow) → slice_get f.layers n ≡ Some l → lacks_slots f l ≡ false
@@ -56,13 +57,15 @@ pub record NoFault (f : Farm) : Type 0 where
 
 pub no_fault : (f : Farm) → end_fault f ≡ None → NoFault f
 no_fault f e =
-    let head = neither (head_ends f) _ e in
+    let limits = neither (first_layer (lacks_limit f) f.layers) _ e in
+    let head = neither (head_ends f) _ limits.1 in
     let frames = neither (first_job (lacks_frames f) f.jobs) _ head.1 in
     let slots = neither (first_layer (lacks_slots f) f.layers) _ frames.1 in
     let work = neither (first_job (finishes f.slots) f.jobs) _ slots.1 in
     let marked = neither (first_depend (is_wrongly_marked f) f.depends) _ work.1 in
     let runs = neither (first_slot (runs_unmet f) 0 f.slots) (first_slot (opens f) 0 f.slots) marked.1 in
     record {
+      limits = none_told _ (lacks_limit f) f.layers limits.0;
       head = head.0;
       frames = none_told _ (lacks_frames f) f.jobs frames.0;
       slots = none_told _ (lacks_slots f) f.layers slots.0;
@@ -243,6 +246,13 @@ module _ (f : Farm) (d : Draft f) (o : InOrder f) where
           shows = d.shows;
           allocs = d.allocs;
           subs = record { rise = subs_rise; each = d.subs };
+          limits =
+              record {
+                count = d.limits.count;
+                differ = d.limits.differ;
+                formed = d.limits.formed;
+                there = list_all-from_at (has_its_limit (length f.limits)) f.layers (λ n l at. not-false (has_its_limit (length f.limits) l) (fine.limits n l at));
+              };
           hosts = d.hosts;
           jobs = keeps_jobs;
           attempts = d.slots.attempts;

@@ -16,8 +16,8 @@ use Rattle.farm_types.specs.declared.slot_row.SlotRow.{SlotRow}
 use Rattle.farm_types.specs.declared.limits.TheConstants.{LAST_VERSION, MOST_LAYERS}
 use Rattle.farm_types.specs.DependActs.{has_number}
 use Rattle.farm_types.specs.Depends.{groups_of}
-use Rattle.farm_types.specs.Farm.{Farm, for_some, is_placed, layers_of, slot_from}
-use Rattle.farm_types.specs.Kept.{KeepsRows, for_any, has_frame_in, has_part, is_end_there, is_kept_frame, is_kept_slot, is_of_pending, layer_in}
+use Rattle.farm_types.specs.Farm.{Farm, for_some, is_placed, layers_of, slot_from, for_any, layer_in}
+use Rattle.farm_types.specs.Kept.{KeepsRows, has_frame_in, has_part, is_end_there, is_kept_frame, is_kept_slot, is_of_pending}
 use Rattle.farm_types.specs.Ranges.{range_numbers}
 use Rattle.farm_types.specs.Rising.{IsRising, layer_key}
 use Rattle.farm_types.proofs.Lists.{and_both, for_some_true, list_all-at}

@@ -15,6 +15,7 @@ pub mod Said
 pub mod SaidDepends
 pub mod SaidEnd
 pub mod SaidJobs
+pub mod SaidLimits
 pub mod SaidMet
 pub mod SaidShows
 pub mod SaidSlots

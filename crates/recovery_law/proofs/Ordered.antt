@@ -6,8 +6,8 @@ use Rattle.farm_types.specs.Rising.{IsRising}
 use Rattle.farm_rows.specs.declared.farm_row.FarmRow.{FarmRow}
 use Rattle.farm_rows.specs.declared.farm_row.FarmRow.TheVariants as row
 use Rattle.farm_rows.specs.Recovery.{StoredKey, is_before, key_of}
-use Rattle.farm_rows.specs.Rows.{head_row, numbered, recorded_rows, slot_rows}
-use Rattle.recovery_law.proofs.RowKinds.{from_allocs, from_depends, from_hosts, from_jobs, from_layers, from_shows, from_slots, from_subs}
+use Rattle.farm_rows.specs.Rows.{head_in, numbered, recorded_in, slot_rows}
+use Rattle.recovery_law.proofs.RowKinds.{from_allocs, from_depends, from_hosts, from_jobs, from_layers, from_limits, from_met, from_shows, from_slots, from_subs}
 use Rattle.farm_rows.proofs.RowOrder.{before_parts}
 
 -- each row comes after the one before it, the first one after a key, and the last one has a key
@@ -43,9 +43,9 @@ pub record InOrder (f : Farm) : Type 0 where
   pub depends : Follows (map row.Depend f.depends)
   pub met : Follows (map row.Met f.met)
 
-pub in_order : (f : Farm) → Follows (recorded_rows f) → InOrder f
-in_order f all =
-    let shows = second_of (row.Head (head_row f) ∷ []) (from_shows f) all in
+pub in_order : (format : ℕ) (f : Farm) → Follows (recorded_in format f) → InOrder f
+in_order format f all =
+    let shows = second_of (row.Head (head_in format f) ∷ []) (from_shows f) all in
     let allocs = second_of (numbered row.Show 0 f.shows) (from_allocs f) shows in
     let subs = second_of (numbered row.Alloc 0 f.allocs) (from_subs f) allocs in
     let hosts = second_of (map row.Sub f.subs) (from_hosts f) subs in
@@ -57,8 +57,8 @@ in_order f all =
       subs = first_of (map row.Sub f.subs) (from_hosts f) subs;
       jobs = first_of (map row.Job f.jobs) (from_layers f) jobs;
       layers = first_of (map row.Layer f.layers) (from_slots f) layers;
-      depends = first_of (map row.Depend f.depends) (map row.Met f.met) depends;
-      met = second_of (map row.Depend f.depends) (map row.Met f.met) depends;
+      depends = first_of (map row.Depend f.depends) (from_met f) depends;
+      met = first_of (map row.Met f.met) (from_limits f) (second_of (map row.Depend f.depends) (from_met f) depends);
     }
 
 module _ {X : Type 0} (make : X → FarmRow) (kind : ℕ) (id : X → ℕ) (is : (x : X) → key_of (make x) ≡ (kind, id x)) (most : ℕ) where

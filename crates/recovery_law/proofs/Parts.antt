@@ -6,6 +6,7 @@ use Rattle.farm_types.specs.declared.rows.AllocRow.{AllocRow}
 use Rattle.farm_types.specs.declared.rows.HostRow.{HostRow}
 use Rattle.farm_types.specs.declared.rows.JobRow.{JobRow}
 use Rattle.farm_types.specs.declared.rows.LayerRow.{LayerRow}
+use Rattle.farm_types.specs.declared.rows.LimitRow.{LimitRow}
 use Rattle.farm_types.specs.declared.rows.ShowRow.{ShowRow}
 use Rattle.farm_types.specs.declared.rows.SubRow.{SubRow}
 use Rattle.farm_types.specs.declared.slot_row.SlotRow.{SlotRow}
@@ -18,6 +19,7 @@ with_head f =
       shows = [];
       allocs = [];
       subs = [];
+      limits = [];
       hosts = [];
       jobs = [];
       layers = [];
@@ -58,3 +60,6 @@ upto_depends f xs = record (upto_slots f f.slots) { depends = xs }
 
 abbrev pub upto_met : Farm → List MetRow → Farm
 upto_met f xs = record (upto_depends f f.depends) { met = xs }
+
+abbrev pub upto_limits : Farm → List LimitRow → Farm
+upto_limits f xs = record (upto_met f f.met) { limits = xs }

@@ -18,8 +18,14 @@ use Rattle.farm_rows.specs.Rows.{frame_row, is_unused, numbered, row_kind, slot_
 -- ---- rows by kind
 
 -- the rows of a kind and all later ones
+abbrev pub from_limits : Farm → List FarmRow
+from_limits f = numbered row.Limit 0 f.limits
+
+abbrev pub from_met : Farm → List FarmRow
+from_met f = map row.Met f.met ++ from_limits f
+
 abbrev pub from_depends : Farm → List FarmRow
-from_depends f = map row.Depend f.depends ++ map row.Met f.met
+from_depends f = map row.Depend f.depends ++ from_met f
 
 abbrev pub from_slots : Farm → List FarmRow
 from_slots f = slot_rows 0 f.slots ++ from_depends f
@@ -86,11 +92,14 @@ then_from : (least next : ℕ) (rows later : List FarmRow) → least ≤ next �
 then_from least next rows later h first second =
     list_all-append (λ (r : FarmRow). leb least (row_kind r)) rows later ∙ both_true first (later_from least next later h second)
 
-pub met_are : (f : Farm) → IsFrom 10 (map row.Met f.met)
-met_are f = map_from row.Met 10 (λ x. refl) f.met
+pub limits_are : (f : Farm) → IsFrom 11 (from_limits f)
+limits_are f = numbered_from row.Limit 11 (λ n x. refl) 0 f.limits
+
+pub met_are : (f : Farm) → IsFrom 10 (from_met f)
+met_are f = then_from 10 11 (map row.Met f.met) (from_limits f) (omega arith) (map_from row.Met 10 (λ x. refl) f.met) (limits_are f)
 
 pub depends_are : (f : Farm) → IsFrom 9 (from_depends f)
-depends_are f = then_from 9 10 (map row.Depend f.depends) (map row.Met f.met) (omega arith) (map_from row.Depend 9 (λ x. refl) f.depends) (met_are f)
+depends_are f = then_from 9 10 (map row.Depend f.depends) (from_met f) (omega arith) (map_from row.Depend 9 (λ x. refl) f.depends) (met_are f)
 
 pub slots_are : (f : Farm) → IsFrom 8 (from_slots f)
 slots_are f = then_from 8 9 (slot_rows 0 f.slots) (from_depends f) (omega arith) (slots_from 0 f.slots) (depends_are f)

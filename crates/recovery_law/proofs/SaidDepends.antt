@@ -17,7 +17,7 @@ use Rattle.farm_types.specs.Settle.{is_met_now}
 use Rattle.farm_types.proofs.Lists.{and_both}
 use Rattle.farm_rows.specs.declared.farm_row.FarmRow.{FarmRow}
 use Rattle.farm_rows.specs.declared.farm_row.FarmRow.TheVariants as row
-use Rattle.farm_rows.specs.Recovery.{StoredKey, depend_fits, farm_with, groups_fit, unmet_fits}
+use Rattle.farm_rows.specs.Recovery.{Said, StoredKey, depend_fits, farm_with, groups_fit, unmet_fits}
 use Rattle.recovery_law.proofs.Firsts.{by_keys, first_fewer, next_passes, numbered_map, rising_next, rising_under}
 use Rattle.recovery_law.proofs.FramesThere.{end_there, groups_alike}
 use Rattle.recovery_law.proofs.Parts.{upto_depends}
@@ -48,7 +48,7 @@ left_within weight done rest x most all =
     let own = sum_by-cons weight x rest in
     omega (arith, all, parts, own)
 
-module _ (f : Farm) (k : IsKeptFarm f) where
+module _ (format : ℕ) (f : Farm) (k : IsKeptFarm f) where
   same_groups : (done : List DependRow) → groups_of (upto_depends f done) ≡ groups_of f
   unfolding groups_of
   same_groups done = refl
@@ -95,11 +95,11 @@ module _ (f : Farm) (k : IsKeptFarm f) where
       (both_true (end_there f k.rows done x.waiter kept.0)
       (either done rest x is kept.1 self x.met_all refl))))
 
-  depends_stage : Stage (depend_rows f) f.depends
-  depends_stage = record { keys = λ n x. refl; adds = λ done x. refl; fits = depend_fit }
+  depends_stage : Stage format (depend_rows f) f.depends
+  depends_stage = record { keys = λ n x. refl; formats = λ n x. refl; adds = λ done x. refl; fits = depend_fit }
 
-  pub depends_said : (more : List FarmRow) (said : Result Farm StoredKey) → ((last : Option StoredKey) → IsPast last 9 → farm_with last (upto_depends f f.depends) more ≡ said)
-      → (last : Option StoredKey) → IsPast last 8 → farm_with last (upto_depends f []) (map row.Depend f.depends ++ more) ≡ said
+  pub depends_said : (more : List FarmRow) (said : Result Said StoredKey) → ((last : Option StoredKey) → IsPast last 9 → farm_with format last (upto_depends f f.depends) more ≡ said)
+      → (last : Option StoredKey) → IsPast last 8 → farm_with format last (upto_depends f []) (map row.Depend f.depends ++ more) ≡ said
   depends_said more said next last past =
-      ap (λ (rows : List FarmRow). farm_with last (upto_depends f []) (rows ++ more)) (sym (numbered_map row.Depend 0 f.depends))
-      ∙ all_staged (depend_rows f) f.depends depends_stage more said next last 1 8 (omega arith) (by_keys depend_key 1 0 f.depends f.next_depend k.depends.rise) past
+      ap (λ (rows : List FarmRow). farm_with format last (upto_depends f []) (rows ++ more)) (sym (numbered_map row.Depend 0 f.depends))
+      ∙ all_staged format (depend_rows f) f.depends depends_stage more said next last 1 8 (omega arith) (by_keys depend_key 1 0 f.depends f.next_depend k.depends.rise) past

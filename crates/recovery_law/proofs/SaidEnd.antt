@@ -12,14 +12,14 @@ use Rattle.farm_types.specs.DependActs.{or_else}
 use Rattle.farm_types.specs.Depends.{groups_of, is_met}
 use Rattle.farm_types.specs.Farm.{Farm, is_placed, layers_of, slot_from}
 use Rattle.farm_types.specs.Finish.{finishes}
-use Rattle.farm_types.specs.Kept.{IsKeptFarm, frames_said, is_pending_job, runs_unmet}
+use Rattle.farm_types.specs.Kept.{IsKeptFarm, frames_said, has_its_limit, is_pending_job, runs_unmet}
 use Rattle.farm_types.specs.Ranges.{range_numbers}
 use Rattle.farm_types.specs.Settle.{is_met_now, opens, settled_row, with_met}
 use Rattle.farm_types.proofs.Lists.{list_all-at}
 use Rattle.farm_law.proofs.KeptJobsLists.{find_none}
 use Rattle.farm_law.proofs.KeptLists.{list_all-weaker}
 use Rattle.depend_law.proofs.MetAgain.{met_is}
-use Rattle.farm_rows.specs.Recovery.{end_fault, first_slot, is_wrongly_marked, lacks_frames, lacks_number, lacks_slots}
+use Rattle.farm_rows.specs.Recovery.{end_fault, first_slot, is_wrongly_marked, lacks_frames, lacks_limit, lacks_number, lacks_slots}
 
 -- ---- nothing is found
 
@@ -96,10 +96,11 @@ module _ (f : Farm) (k : IsKeptFarm f) where
 
   pub none_at_fault : end_fault f ≡ None
   none_at_fault =
-      neither _ _ (ap (λ (b : Bool). cond b None (Some (1, 0))) (le-leb _ _ k.rows.jobs.finish_within))
+      neither _ _ (ap (option_map (λ (l : LayerRow). (7, 64 * l.job + l.place))) (find_none (lacks_limit f) f.layers (λ n l at. ap not (list_all-at (has_its_limit (length f.limits)) f.layers n l k.rows.limits.there at))))
+      (neither _ _ (ap (λ (b : Bool). cond b None (Some (1, 0))) (le-leb _ _ k.rows.jobs.finish_within))
       (neither _ _ (ap (option_map (λ (j : JobRow). (6, j.job))) (find_none (lacks_frames f) f.jobs lacks_none))
       (neither _ _ (ap (option_map (λ (l : LayerRow). (7, 64 * l.job + l.place))) (find_none (lacks_slots f) f.layers (λ n l at. no_number f l 0 (range_numbers l.range) (λ p low high. k.rows.jobs.frames_there n l at p (omega (arith, high))))))
       (neither _ _ (ap (option_map (λ (j : JobRow). (6, j.job))) (find_none (finishes f.slots) f.jobs (λ n j at. not-true _ (list_all-at (λ (j : JobRow). not (finishes f.slots j)) f.jobs n j k.work at))))
       (neither _ _ (ap (option_map (λ (d : DependRow). (9, d.depend))) (find_none (is_wrongly_marked f) f.depends rightly_marked))
       (neither _ _ (none_of (runs_unmet f) f.slots k.depends.free_to_run)
-      (none_of (opens f) f.slots k.depends.blocked))))))
+      (none_of (opens f) f.slots k.depends.blocked)))))))

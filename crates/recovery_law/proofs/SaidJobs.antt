@@ -22,7 +22,7 @@ use Rattle.farm_law.proofs.Filtered.{filter_among, kept_at}
 use Rattle.farm_law.proofs.KeptJobsLists.{any_fails}
 use Rattle.farm_rows.specs.declared.farm_row.FarmRow.{FarmRow}
 use Rattle.farm_rows.specs.declared.farm_row.FarmRow.TheVariants as row
-use Rattle.farm_rows.specs.Recovery.{StoredKey, end_fits, farm_with, job_fits, layer_fits}
+use Rattle.farm_rows.specs.Recovery.{Said, StoredKey, end_fits, farm_with, job_fits, layer_fits}
 use Rattle.recovery_law.proofs.Firsts.{by_keys, first_fewer, first_pass, new_label, next_passes, none_alike, numbered_map, rising_next, rising_under}
 use Rattle.recovery_law.proofs.Parts.{upto_jobs, upto_layers}
 use Rattle.recovery_law.proofs.SaidEnd.{none_pass}
@@ -76,7 +76,7 @@ place_next : (place : ℕ) (done rest : List LayerRow) (x : LayerRow) → AreAtP
 place_next place [] rest x places = omega (arith, places.0)
 place_next place (y ∷ ys) rest x places = omega (arith, place_next (place + 1) ys rest x places.1)
 
-module _ (f : Farm) (k : KeepsJobs (lists_of f) (length f.shows)) where
+module _ (format : ℕ) (f : Farm) (k : KeepsJobs (lists_of f) (length f.shows)) where
   ends_fit : (done : List JobRow) (x : JobRow) (rest : List JobRow) → done ++ x ∷ rest ≡ f.jobs → end_fits (upto_jobs f done) x ≡ true
   ends_fit done x rest is =
       let finishes = subst (λ (xs : List JobRow). list_all (has_its_finish f.next_finish) xs ≡ true) (sym is) k.finishes_within in
@@ -101,14 +101,14 @@ module _ (f : Farm) (k : KeepsJobs (lists_of f) (length f.shows)) where
       (both_true (new_label job_label done rest x (subst (λ (xs : List JobRow). AllDiffer job_label xs) (sym is) k.jobs_differ))
       (ends_fit done x rest is)))
 
-  jobs_stage : Stage (job_rows f) f.jobs
-  jobs_stage = record { keys = λ n x. refl; adds = λ done x. refl; fits = job_fit }
+  jobs_stage : Stage format (job_rows f) f.jobs
+  jobs_stage = record { keys = λ n x. refl; formats = λ n x. refl; adds = λ done x. refl; fits = job_fit }
 
-  pub jobs_said : (more : List FarmRow) (said : Result Farm StoredKey) → ((last : Option StoredKey) → IsPast last 6 → farm_with last (upto_jobs f f.jobs) more ≡ said)
-      → (last : Option StoredKey) → IsPast last 5 → farm_with last (upto_jobs f []) (map row.Job f.jobs ++ more) ≡ said
+  pub jobs_said : (more : List FarmRow) (said : Result Said StoredKey) → ((last : Option StoredKey) → IsPast last 6 → farm_with format last (upto_jobs f f.jobs) more ≡ said)
+      → (last : Option StoredKey) → IsPast last 5 → farm_with format last (upto_jobs f []) (map row.Job f.jobs ++ more) ≡ said
   jobs_said more said next last past =
-      ap (λ (rows : List FarmRow). farm_with last (upto_jobs f []) (rows ++ more)) (sym (numbered_map row.Job 0 f.jobs))
-      ∙ all_staged (job_rows f) f.jobs jobs_stage more said next last 1 5 (omega arith) (by_keys job_key 1 0 f.jobs f.next_job k.jobs_rise) past
+      ap (λ (rows : List FarmRow). farm_with format last (upto_jobs f []) (rows ++ more)) (sym (numbered_map row.Job 0 f.jobs))
+      ∙ all_staged format (job_rows f) f.jobs jobs_stage more said next last 1 5 (omega arith) (by_keys job_key 1 0 f.jobs f.next_job k.jobs_rise) past
 
   -- ---- layers
 
@@ -139,11 +139,11 @@ module _ (f : Farm) (k : KeepsJobs (lists_of f) (length f.shows)) where
           let own = sum_by-cons weight l last in
           omega (arith, all, parts, own)
 
-  layers_stage : Stage (layer_rows f) f.layers
-  layers_stage = record { keys = λ n x. refl; adds = λ done x. refl; fits = layer_fit }
+  layers_stage : Stage format (layer_rows f) f.layers
+  layers_stage = record { keys = λ n x. refl; formats = λ n x. refl; adds = λ done x. refl; fits = layer_fit }
 
-  pub layers_said : (more : List FarmRow) (said : Result Farm StoredKey) → ((last : Option StoredKey) → IsPast last 7 → farm_with last (upto_layers f f.layers) more ≡ said)
-      → (last : Option StoredKey) → IsPast last 6 → farm_with last (upto_layers f []) (map row.Layer f.layers ++ more) ≡ said
+  pub layers_said : (more : List FarmRow) (said : Result Said StoredKey) → ((last : Option StoredKey) → IsPast last 7 → farm_with format last (upto_layers f f.layers) more ≡ said)
+      → (last : Option StoredKey) → IsPast last 6 → farm_with format last (upto_layers f []) (map row.Layer f.layers ++ more) ≡ said
   layers_said more said next last past =
-      ap (λ (rows : List FarmRow). farm_with last (upto_layers f []) (rows ++ more)) (sym (numbered_map row.Layer 0 f.layers))
-      ∙ all_staged (layer_rows f) f.layers layers_stage more said next last 0 6 (omega arith) (by_keys layer_key 0 0 f.layers (MOST_LAYERS * f.next_job) k.layers_rise) past
+      ap (λ (rows : List FarmRow). farm_with format last (upto_layers f []) (rows ++ more)) (sym (numbered_map row.Layer 0 f.layers))
+      ∙ all_staged format (layer_rows f) f.layers layers_stage more said next last 0 6 (omega arith) (by_keys layer_key 0 0 f.layers (MOST_LAYERS * f.next_job) k.layers_rise) past

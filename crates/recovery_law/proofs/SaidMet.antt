@@ -1,8 +1,7 @@
--- The rows of met groups say them, and with them the whole farm.
-use Rattle.std.proofs.Common.{◌≡◌, ◌≤◌, ℕ, suc, ◌+◌, ◌*◌, eqb, inl, inr, Bool, true, false, not, cond, ◌||◌, List, [], ◌∷◌, ◌++◌, map, length, Option, Some, Ok, refl, ap, sym, subst, ◌∙◌, arith}
+-- The rows of met groups say them.
+use Rattle.std.proofs.Common.{◌≡◌, ◌≤◌, ℕ, suc, ◌+◌, ◌*◌, eqb, inl, inr, Bool, true, false, not, cond, ◌||◌, List, [], ◌∷◌, ◌++◌, map, length, Option, Some, Result, refl, ap, sym, subst, ◌∙◌, arith}
 use Rattle.std.specs.List.{filter, find, list_any, slice_get}
 use Rattle.std.proofs.lemmas.Bool.{eq-eqb, eqb-true}
-use Rattle.std.proofs.lemmas.List.{append-nil}
 use Rattle.std.proofs.lemmas.Map.Keys.{any_passes_from_place}
 use Rattle.std.proofs.lemmas.Option.{none-some, slice_get-map}
 use Rattle.std.specs.Cmp.Derive.{both_true}
@@ -22,14 +21,15 @@ use Rattle.farm_law.proofs.KeptJobsAdded.{in_either}
 use Rattle.farm_law.proofs.KeptJobsLists.{rising-append, rising_lower}
 use Rattle.depend_law.proofs.GroupSlots.{group_key}
 use Rattle.depend_law.proofs.Waiters.{depend_holds}
+use Rattle.farm_rows.specs.declared.farm_row.FarmRow.{FarmRow}
 use Rattle.farm_rows.specs.declared.farm_row.FarmRow.TheVariants as row
 use Rattle.farm_rows.specs.declared.ids.TheConstants.{GROUP_IDS}
-use Rattle.farm_rows.specs.Recovery.{StoredKey, ended, farm_with, groups_so_far, has_group, met_fits}
+use Rattle.farm_rows.specs.Recovery.{Said, StoredKey, farm_with, groups_so_far, has_group, met_fits}
 use Rattle.recovery_law.proofs.Firsts.{by_keys, numbered_map}
 use Rattle.recovery_law.proofs.FramesThere.{find_itself, groups_alike}
 use Rattle.recovery_law.proofs.Parts.{upto_depends, upto_met}
 use Rattle.recovery_law.proofs.SaidDepends.{other_by}
-use Rattle.recovery_law.proofs.SaidEnd.{none_at_fault, settled_at}
+use Rattle.recovery_law.proofs.SaidEnd.{settled_at}
 use Rattle.recovery_law.proofs.SaidSlots.{at_place}
 use Rattle.recovery_law.proofs.Stage.{IsPast, Kind, Stage, all_staged}
 
@@ -125,14 +125,12 @@ module _ (f : Farm) (k : IsKeptFarm f) where
       let unmet = sym (ap (λ (e : DependRow). e.met_all) (settled_at f k own.0 own.1 own.2)) ∙ mark.0 in
       subst (λ (r : MetRow). met_fits (upto_met f done) r ≡ true) mark.4 (mark_fits done own.0 mark.1 own.1 mark.2 own.2 unmet mark.3)
 
-  met_stage : Stage (met_kind f) f.met
-  met_stage = record { keys = λ n x. refl; adds = λ done x. refl; fits = met_fit }
+module _ (format : ℕ) (f : Farm) (k : IsKeptFarm f) where
+  met_stage : Stage format (met_kind f) f.met
+  met_stage = record { keys = λ n x. refl; formats = λ n x. refl; adds = λ done x. refl; fits = met_fit f k }
 
-  whole : f.recorded ≡ true → upto_met f f.met ≡ f
-  whole is = ap (λ (b : Bool). record f { recorded = b }) (sym is)
-
-  pub met_said : f.recorded ≡ true → (last : Option StoredKey) → IsPast last 9 → farm_with last (upto_met f []) (map row.Met f.met) ≡ Ok f
-  met_said is last past =
-      ap (farm_with last (upto_met f [])) (sym (append-nil (map row.Met f.met)) ∙ ap (λ rows. rows ++ []) (sym (numbered_map row.Met 0 f.met)))
-      ∙ all_staged (met_kind f) f.met met_stage [] (Ok f) (λ key later. ap (λ (g : Farm). farm_with key g []) (whole is) ∙ ap (ended f) (none_at_fault f k)) last (GROUP_IDS * 1) 9 (omega arith)
-      (by_keys met_key (GROUP_IDS * 1) 0 f.met (GROUP_IDS * f.next_depend) met_rise) past
+  pub met_said : (more : List FarmRow) (said : Result Said StoredKey) → ((last : Option StoredKey) → IsPast last 10 → farm_with format last (upto_met f f.met) more ≡ said)
+      → (last : Option StoredKey) → IsPast last 9 → farm_with format last (upto_met f []) (map row.Met f.met ++ more) ≡ said
+  met_said more said next last past =
+      ap (λ (rows : List FarmRow). farm_with format last (upto_met f []) (rows ++ more)) (sym (numbered_map row.Met 0 f.met))
+      ∙ all_staged format (met_kind f) f.met met_stage more said next last (GROUP_IDS * 1) 9 (omega arith) (by_keys met_key (GROUP_IDS * 1) 0 f.met (GROUP_IDS * f.next_depend) (met_rise f k)) past

@@ -13,7 +13,7 @@ use Rattle.farm_types.specs.Kept.{AllDiffer, KeepsRows, alloc_label, host_label,
 use Rattle.farm_types.specs.Rising.{sub_key}
 use Rattle.farm_rows.specs.declared.farm_row.FarmRow.{FarmRow}
 use Rattle.farm_rows.specs.declared.farm_row.FarmRow.TheVariants as row
-use Rattle.farm_rows.specs.Recovery.{StoredKey, alloc_fits, farm_with, host_fits, show_fits}
+use Rattle.farm_rows.specs.Recovery.{Said, StoredKey, alloc_fits, farm_with, host_fits, show_fits}
 use Rattle.farm_rows.specs.Rows.{numbered}
 use Rattle.recovery_law.proofs.Firsts.{by_keys, first_fewer, new_label, next_passes, numbered_map}
 use Rattle.recovery_law.proofs.Parts.{upto_allocs, upto_hosts, upto_shows, upto_subs}
@@ -40,7 +40,7 @@ fewer done rest all x most is count =
     let same = ap length is in
     omega (arith, within, same, count)
 
-module _ (f : Farm) (k : KeepsRows f) where
+module _ (format : ℕ) (f : Farm) (k : KeepsRows f) where
   show_fit : (done : List ShowRow) (x : ShowRow) (rest : List ShowRow) → done ++ x ∷ rest ≡ f.shows → show_fits (upto_shows f done) (length done) x ≡ true
   show_fit done x rest is =
       both_true (eq-eqb (length done) (length done) refl)
@@ -48,8 +48,8 @@ module _ (f : Farm) (k : KeepsRows f) where
       (both_true (next_passes is_formed_show done rest x (subst (λ (xs : List ShowRow). list_all is_formed_show xs ≡ true) (sym is) k.shows.formed))
       (new_label show_label done rest x (subst (λ (xs : List ShowRow). AllDiffer show_label xs) (sym is) k.shows.differ))))
 
-  shows_stage : Stage (show_rows f) f.shows
-  shows_stage = record { keys = λ n x. refl; adds = λ done x. refl; fits = show_fit }
+  shows_stage : Stage format (show_rows f) f.shows
+  shows_stage = record { keys = λ n x. refl; formats = λ n x. refl; adds = λ done x. refl; fits = show_fit }
 
   alloc_fit : (done : List AllocRow) (x : AllocRow) (rest : List AllocRow) → done ++ x ∷ rest ≡ f.allocs → alloc_fits (upto_allocs f done) (length done) x ≡ true
   alloc_fit done x rest is =
@@ -58,14 +58,14 @@ module _ (f : Farm) (k : KeepsRows f) where
       (both_true (next_passes is_formed_alloc done rest x (subst (λ (xs : List AllocRow). list_all is_formed_alloc xs ≡ true) (sym is) k.allocs.formed))
       (new_label alloc_label done rest x (subst (λ (xs : List AllocRow). AllDiffer alloc_label xs) (sym is) k.allocs.differ))))
 
-  allocs_stage : Stage (alloc_rows f) f.allocs
-  allocs_stage = record { keys = λ n x. refl; adds = λ done x. refl; fits = alloc_fit }
+  allocs_stage : Stage format (alloc_rows f) f.allocs
+  allocs_stage = record { keys = λ n x. refl; formats = λ n x. refl; adds = λ done x. refl; fits = alloc_fit }
 
   sub_fit : (done : List SubRow) (x : SubRow) (rest : List SubRow) → done ++ x ∷ rest ≡ f.subs → is_kept_sub (length f.shows) (length f.allocs) x ≡ true
   sub_fit done x rest is = next_passes (is_kept_sub (length f.shows) (length f.allocs)) done rest x (subst (λ (xs : List SubRow). list_all (is_kept_sub (length f.shows) (length f.allocs)) xs ≡ true) (sym is) k.subs.each)
 
-  subs_stage : Stage (sub_rows f) f.subs
-  subs_stage = record { keys = λ n x. refl; adds = λ done x. refl; fits = sub_fit }
+  subs_stage : Stage format (sub_rows f) f.subs
+  subs_stage = record { keys = λ n x. refl; formats = λ n x. refl; adds = λ done x. refl; fits = sub_fit }
 
   host_fit : (done : List HostRow) (x : HostRow) (rest : List HostRow) → done ++ x ∷ rest ≡ f.hosts → host_fits (upto_hosts f done) (length done) x ≡ true
   host_fit done x rest is =
@@ -82,24 +82,24 @@ module _ (f : Farm) (k : KeepsRows f) where
       was_heard : HostRow → Bool
       was_heard row = leb row.heard f.moment
 
-  hosts_stage : Stage (host_rows f) f.hosts
-  hosts_stage = record { keys = λ n x. refl; adds = λ done x. refl; fits = host_fit }
+  hosts_stage : Stage format (host_rows f) f.hosts
+  hosts_stage = record { keys = λ n x. refl; formats = λ n x. refl; adds = λ done x. refl; fits = host_fit }
 
   -- what they say with the rows after them
-  pub shows_said : (more : List FarmRow) (said : Result Farm StoredKey) → ((last : Option StoredKey) → IsPast last 2 → farm_with last (upto_shows f f.shows) more ≡ said)
-      → (last : Option StoredKey) → IsPast last 1 → farm_with last (upto_shows f []) (numbered row.Show 0 f.shows ++ more) ≡ said
-  shows_said more said next last past = all_staged (show_rows f) f.shows shows_stage more said next last 0 1 (omega arith) (by_places 0 f.shows) past
+  pub shows_said : (more : List FarmRow) (said : Result Said StoredKey) → ((last : Option StoredKey) → IsPast last 2 → farm_with format last (upto_shows f f.shows) more ≡ said)
+      → (last : Option StoredKey) → IsPast last 1 → farm_with format last (upto_shows f []) (numbered row.Show 0 f.shows ++ more) ≡ said
+  shows_said more said next last past = all_staged format (show_rows f) f.shows shows_stage more said next last 0 1 (omega arith) (by_places 0 f.shows) past
 
-  pub allocs_said : (more : List FarmRow) (said : Result Farm StoredKey) → ((last : Option StoredKey) → IsPast last 3 → farm_with last (upto_allocs f f.allocs) more ≡ said)
-      → (last : Option StoredKey) → IsPast last 2 → farm_with last (upto_allocs f []) (numbered row.Alloc 0 f.allocs ++ more) ≡ said
-  allocs_said more said next last past = all_staged (alloc_rows f) f.allocs allocs_stage more said next last 0 2 (omega arith) (by_places 0 f.allocs) past
+  pub allocs_said : (more : List FarmRow) (said : Result Said StoredKey) → ((last : Option StoredKey) → IsPast last 3 → farm_with format last (upto_allocs f f.allocs) more ≡ said)
+      → (last : Option StoredKey) → IsPast last 2 → farm_with format last (upto_allocs f []) (numbered row.Alloc 0 f.allocs ++ more) ≡ said
+  allocs_said more said next last past = all_staged format (alloc_rows f) f.allocs allocs_stage more said next last 0 2 (omega arith) (by_places 0 f.allocs) past
 
-  pub subs_said : (more : List FarmRow) (said : Result Farm StoredKey) → ((last : Option StoredKey) → IsPast last 4 → farm_with last (upto_subs f f.subs) more ≡ said)
-      → (last : Option StoredKey) → IsPast last 3 → farm_with last (upto_subs f []) (map row.Sub f.subs ++ more) ≡ said
+  pub subs_said : (more : List FarmRow) (said : Result Said StoredKey) → ((last : Option StoredKey) → IsPast last 4 → farm_with format last (upto_subs f f.subs) more ≡ said)
+      → (last : Option StoredKey) → IsPast last 3 → farm_with format last (upto_subs f []) (map row.Sub f.subs ++ more) ≡ said
   subs_said more said next last past =
-      ap (λ (rows : List FarmRow). farm_with last (upto_subs f []) (rows ++ more)) (sym (numbered_map row.Sub 0 f.subs))
-      ∙ all_staged (sub_rows f) f.subs subs_stage more said next last 0 3 (omega arith) (by_keys sub_key 0 0 f.subs SUB_NUMBERS k.subs.rise) past
+      ap (λ (rows : List FarmRow). farm_with format last (upto_subs f []) (rows ++ more)) (sym (numbered_map row.Sub 0 f.subs))
+      ∙ all_staged format (sub_rows f) f.subs subs_stage more said next last 0 3 (omega arith) (by_keys sub_key 0 0 f.subs SUB_NUMBERS k.subs.rise) past
 
-  pub hosts_said : (more : List FarmRow) (said : Result Farm StoredKey) → ((last : Option StoredKey) → IsPast last 5 → farm_with last (upto_hosts f f.hosts) more ≡ said)
-      → (last : Option StoredKey) → IsPast last 4 → farm_with last (upto_hosts f []) (numbered row.Host 0 f.hosts ++ more) ≡ said
-  hosts_said more said next last past = all_staged (host_rows f) f.hosts hosts_stage more said next last 0 4 (omega arith) (by_places 0 f.hosts) past
+  pub hosts_said : (more : List FarmRow) (said : Result Said StoredKey) → ((last : Option StoredKey) → IsPast last 5 → farm_with format last (upto_hosts f f.hosts) more ≡ said)
+      → (last : Option StoredKey) → IsPast last 4 → farm_with format last (upto_hosts f []) (numbered row.Host 0 f.hosts ++ more) ≡ said
+  hosts_said more said next last past = all_staged format (host_rows f) f.hosts hosts_stage more said next last 0 4 (omega arith) (by_places 0 f.hosts) past

@@ -11,7 +11,7 @@ use Rattle.farm_types.specs.Kept.{EndsUsed, KeepsRows, is_used}
 use Rattle.farm_types.specs.Run.{HasItsAttempt}
 use Rattle.farm_rows.specs.declared.farm_row.FarmRow.{FarmRow}
 use Rattle.farm_rows.specs.declared.farm_row.FarmRow.TheVariants as row
-use Rattle.farm_rows.specs.Recovery.{StoredKey, farm_with, unused_slot, with_slot}
+use Rattle.farm_rows.specs.Recovery.{Said, StoredKey, farm_with, unused_slot, with_slot}
 use Rattle.farm_rows.specs.Rows.{frame_row, is_unused, slot_rows}
 use Rattle.recovery_law.proofs.Parts.{upto_slots}
 use Rattle.recovery_law.proofs.SlotBack.{fit_back}
@@ -37,7 +37,7 @@ unused_is place version None None own unused = ap (λ (n : ℕ). record { versio
 unused_is place version None (Some p) own unused = absurd own
 unused_is place version (Some x) proc own unused = absurd (true≢false (sym unused))
 
-module _ (f : Farm) (k : KeepsRows f) (more : List FarmRow) (said : Result Farm StoredKey) (next : (last : Option StoredKey) → IsPast last 8 → farm_with last (upto_slots f f.slots) more ≡ said) where
+module _ (format : ℕ) (f : Farm) (k : KeepsRows f) (more : List FarmRow) (said : Result Said StoredKey) (next : (last : Option StoredKey) → IsPast last 8 → farm_with format last (upto_slots f f.slots) more ≡ said) where
   at_end : (had : List SlotRow) (gap : ℕ) → had ++ (replicate gap unused_slot ++ []) ≡ f.slots → had ≡ f.slots
   at_end had zero is = sym (append-nil had) ∙ is
   at_end had (suc gap) is =
@@ -51,7 +51,7 @@ module _ (f : Farm) (k : KeepsRows f) (more : List FarmRow) (said : Result Farm 
   abbrev AreSaid : List SlotRow → Type 0
   AreSaid rest =
       (had : List SlotRow) (gap place : ℕ) (last : Option StoredKey) → had ++ (replicate gap unused_slot ++ rest) ≡ f.slots → place ≡ length had + gap → IsPast last 8 → IsFrom last 8 place
-      → farm_with last (upto_slots f had) (slot_rows place rest ++ more) ≡ said
+      → farm_with format last (upto_slots f had) (slot_rows place rest ++ more) ≡ said
 
   module _ (s : SlotRow) (ss : List SlotRow) (later : AreSaid ss) (had : List SlotRow) (gap place : ℕ) (last : Option StoredKey) (is : had ++ (replicate gap unused_slot ++ s ∷ ss) ≡ f.slots) (place_is : place ≡ length had + gap) (past : IsPast last 8) (from : IsFrom last 8 place) where
     long : length (replicate gap unused_slot) ≡ gap
@@ -64,7 +64,7 @@ module _ (f : Farm) (k : KeepsRows f) (more : List FarmRow) (said : Result Farm 
         let here : length (had ++ replicate gap unused_slot) ≡ place = omega (arith, count, long, place_is) in
         subst (λ (n : ℕ). slice_get f.slots n ≡ Some s) here (subst (λ (xs : List SlotRow). slice_get xs (length (had ++ replicate gap unused_slot)) ≡ Some s) whole (at_place (had ++ replicate gap unused_slot) ss s))
 
-    passed : is_unused s ≡ true → farm_with last (upto_slots f had) (slot_rows (place + 1) ss ++ more) ≡ said
+    passed : is_unused s ≡ true → farm_with format last (upto_slots f had) (slot_rows (place + 1) ss ++ more) ≡ said
     passed unused =
         let same = unused_is place s.version s.frame s.proc (k.sound.attempts place s at) unused in
         let whole : had ++ (replicate (gap + 1) unused_slot ++ ss) ≡ f.slots =
@@ -72,7 +72,7 @@ module _ (f : Farm) (k : KeepsRows f) (more : List FarmRow) (said : Result Farm 
         ∙ ap (λ (t : SlotRow). had ++ (replicate gap unused_slot ++ t ∷ ss)) (sym same) ∙ is in
         later had (gap + 1) (place + 1) last whole (omega (arith, place_is)) past (λ n h. from n (omega (arith, h)))
 
-    told : is_unused s ≡ false → farm_with last (upto_slots f had) (row.Frame (frame_row place s) ∷ (slot_rows (place + 1) ss ++ more)) ≡ said
+    told : is_unused s ≡ false → farm_with format last (upto_slots f had) (row.Frame (frame_row place s) ∷ (slot_rows (place + 1) ss ++ more)) ≡ said
     told used =
         let back = fit_back f had k (replicate gap unused_slot) ss s is place (omega (arith, place_is, long)) at used in
         let gap_is : place - length had ≡ gap = omega (arith, place_is) in
@@ -80,18 +80,18 @@ module _ (f : Farm) (k : KeepsRows f) (more : List FarmRow) (said : Result Farm 
         let second = length-append (replicate gap unused_slot) (s ∷ []) in
         let whole : (had ++ (replicate gap unused_slot ++ s ∷ [])) ++ ss ≡ f.slots =
         append_assoc had (replicate gap unused_slot ++ s ∷ []) ss ∙ ap (λ (xs : List SlotRow). had ++ xs) (append_assoc (replicate gap unused_slot) (s ∷ []) ss) ∙ is in
-        row_next last (upto_slots f had) (row.Frame (frame_row place s)) (slot_rows (place + 1) ss ++ more) (from place (omega arith)) back.0
-        ∙ ap (λ (t : SlotRow). farm_with (Some (8, place)) (upto_slots f (with_slot had place t)) (slot_rows (place + 1) ss ++ more)) back.1
-        ∙ ap (λ (n : ℕ). farm_with (Some (8, place)) (upto_slots f (had ++ (replicate n unused_slot ++ s ∷ []))) (slot_rows (place + 1) ss ++ more)) gap_is
+        row_next format last (upto_slots f had) (row.Frame (frame_row place s)) (slot_rows (place + 1) ss ++ more) (from place (omega arith)) back.0
+        ∙ ap (λ (t : SlotRow). farm_with format (Some (8, place)) (upto_slots f (with_slot had place t)) (slot_rows (place + 1) ss ++ more)) back.1
+        ∙ ap (λ (n : ℕ). farm_with format (Some (8, place)) (upto_slots f (had ++ (replicate n unused_slot ++ s ∷ []))) (slot_rows (place + 1) ss ++ more)) gap_is
         ∙ later (had ++ (replicate gap unused_slot ++ s ∷ [])) 0 (place + 1) (Some (8, place)) whole (omega (arith, first, second, long, place_is)) (past_key 8 place) (from_key 8 place)
 
-    either : (b : Bool) → is_unused s ≡ b → farm_with last (upto_slots f had) (cond b (slot_rows (place + 1) ss) (row.Frame (frame_row place s) ∷ slot_rows (place + 1) ss) ++ more) ≡ said
+    either : (b : Bool) → is_unused s ≡ b → farm_with format last (upto_slots f had) (cond b (slot_rows (place + 1) ss) (row.Frame (frame_row place s) ∷ slot_rows (place + 1) ss) ++ more) ≡ said
     either true unused = passed unused
     either false used = told used
 
   slots_from : (rest : List SlotRow) → AreSaid rest
-  slots_from [] had gap place last is place_is past from = ap (λ (ss : List SlotRow). farm_with last (upto_slots f ss) more) (at_end had gap is) ∙ next last past
+  slots_from [] had gap place last is place_is past from = ap (λ (ss : List SlotRow). farm_with format last (upto_slots f ss) more) (at_end had gap is) ∙ next last past
   slots_from (s ∷ ss) had gap place last is place_is past from = either s ss (slots_from ss) had gap place last is place_is past from (is_unused s) refl
 
-  pub slots_said : (last : Option StoredKey) → IsPast last 7 → farm_with last (upto_slots f []) (slot_rows 0 f.slots ++ more) ≡ said
+  pub slots_said : (last : Option StoredKey) → IsPast last 7 → farm_with format last (upto_slots f []) (slot_rows 0 f.slots ++ more) ≡ said
   slots_said last past = slots_from f.slots [] 0 0 last refl refl (λ kind n later. past kind n (omega (arith, later))) (λ n from. past 8 n (omega arith))

@@ -19,8 +19,8 @@ use Rattle.farm_types.specs.declared.states.FrameState.{FrameState}
 use Rattle.farm_types.specs.declared.states.FrameState.TheVariants as frame_state
 use Rattle.farm_types.specs.declared.limits.TheConstants.{LAST_VERSION, MOST_RETRIES, SLOT_LIMIT}
 use Rattle.farm_types.specs.Booking.{is_up}
-use Rattle.farm_types.specs.Farm.{Farm, for_some, is_placed, job_at, layer_at, slot_from, sub_of}
-use Rattle.farm_types.specs.Kept.{KeepsRows, for_any, is_kept_frame, is_kept_slot, is_setup, is_subscribed, layer_in}
+use Rattle.farm_types.specs.Farm.{Farm, for_some, is_placed, job_at, layer_at, slot_from, sub_of, for_any, layer_in}
+use Rattle.farm_types.specs.Kept.{KeepsRows, is_kept_frame, is_kept_slot, is_setup, is_subscribed}
 use Rattle.farm_types.specs.Ranges.{range_numbers}
 use Rattle.farm_types.specs.Run.{HasItsAttempt, IsAttemptOf}
 use Rattle.farm_types.specs.Sums.{cores_on, memory_on, used_cores, used_memory}

@@ -86,6 +86,7 @@ module _ (f : Farm) (kept : IsKeptFarm f) (moment : ℕ) (low : moment < 2 ^ 64)
   request_replies (request.Show name) formed = act_replies f kept moment (act.Show name) formed tt mark
   request_replies (request.Alloc facility tag) formed = act_replies f kept moment (act.Alloc facility tag) formed tt mark
   request_replies (request.Sub line) formed = act_replies f kept moment (act.Sub line) formed.0 formed.1 mark
+  request_replies (request.Limit name most) formed = act_replies f kept moment (act.Limit name most) formed tt mark
   request_replies (request.Boot line) formed = act_replies f kept moment (act.Boot line) formed.0 formed.1 mark
   request_replies (request.Report report) formed =
       report_replies f kept report moment (record { moment_within = low; act_formed = formed.0 }) formed.1 mark (refusal_of f (heard_entry report moment)) refl

@@ -10,8 +10,8 @@ use Rattle.farm_types.specs.declared.rows.JobRow.{JobRow}
 use Rattle.farm_types.specs.declared.rows.LayerRow.{LayerRow}
 use Rattle.farm_types.specs.declared.slot_row.Frame.{Frame}
 use Rattle.farm_types.specs.declared.slot_row.SlotRow.{SlotRow}
-use Rattle.farm_types.specs.Farm.{Farm, job_at}
-use Rattle.farm_types.specs.Kept.{KeepsRows, for_any, for_both, has_amounts, is_formed_job, is_formed_layer, is_kept_frame, is_kept_slot, is_of_pending, is_on_host, is_pending_job, layer_in}
+use Rattle.farm_types.specs.Farm.{Farm, job_at, for_any, layer_in}
+use Rattle.farm_types.specs.Kept.{KeepsRows, for_both, has_amounts, is_formed_job, is_formed_layer, is_kept_frame, is_kept_slot, is_of_pending, is_on_host, is_pending_job}
 use Rattle.farm_types.specs.Limits.{IsBetween}
 use Rattle.farm_types.specs.Run.{HasItsAttempt}
 use Rattle.farm_types.proofs.Lists.{and_both, find_passes, for_some_true, found_is, list_all-at}

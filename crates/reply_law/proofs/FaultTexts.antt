@@ -27,7 +27,7 @@ use Rattle.farm_lines.specs.FormedLines.{IsFormedAttempt, IsFormedListed, IsForm
 use Rattle.farm_lines.specs.ListLines.{by_word, listed_at, of_job_at, query_at, query_keys}
 use Rattle.farm_lines.specs.OperatorLines.{frame_at, frame_keys, frame_of_job_at, job_at}
 use Rattle.farm_lines.specs.OperatorLines as operators
-use Rattle.farm_lines.specs.Request.{alloc_at, alloc_name_at, alloc_of_name, attempt_at, attempt_keys, boot_form_at, boot_keys, done_at, done_keys, drop_at, drop_keys, lock_keys, lock_line_at, name_keys, report_at, report_keys, show_at, sub_form_at, sub_keys}
+use Rattle.farm_lines.specs.Request.{alloc_at, alloc_name_at, alloc_of_name, attempt_at, attempt_keys, boot_form_at, boot_keys, done_at, done_keys, drop_at, drop_keys, limit_form_at, limit_keys, lock_keys, lock_line_at, name_keys, report_at, report_keys, show_at, sub_form_at, sub_keys}
 use Rattle.farm_lines.specs.Spec.{job_form_at, layer_form_at, layer_keys, number_at, tags_at, text_of}
 use Rattle.farm_lines.specs.Spec as spec
 use Rattle.reply_law.proofs.FieldTexts.{IsPlain, NamesText, Reads, any_reads, default_reads, form_reads, kind_reads, list_reads, name_reads, optional_reads, others_read, signed_reads, tags_read, text_reads, then_reads, whole_reads, word_reads}
@@ -93,6 +93,15 @@ sub_form_reads ms all =
     then_reads Any SubText (number_at (codes "size") ms) _ (any_reads (codes "size") (as_whole 0 18446744073709551615) ms refl) (λ size b.
     then_reads Any SubText (number_at (codes "burst") ms) _ (any_reads (codes "burst") (as_whole 0 18446744073709551615) ms refl) (λ burst c.
     then_reads Any SubText (others_at sub_keys ms) _ (others_read sub_keys ms all) (λ none d. text)))))
+
+-- ---- limits
+
+pub limit_form_reads : (ms : Members) → MembersTexts ms → Reads Any (limit_form_at ms)
+unfolding limit_form_at
+limit_form_reads ms all =
+    then_reads IsName Any (name_at (codes "name") ms) _ (name_reads (codes "name") ms refl) (λ name a.
+    then_reads Any Any (number_at (codes "most") ms) _ (any_reads (codes "most") (as_whole 0 18446744073709551615) ms refl) (λ most b.
+    then_reads Any Any (others_at limit_keys ms) _ (others_read limit_keys ms all) (λ none c. tt)))
 
 -- ---- hosts
 
@@ -175,6 +184,9 @@ drop_reads ms all =
 abbrev pub LayerNamed : LayerForm → Type 0
 LayerNamed form = IsName form.name
 
+optional_name : (field : List ℕ) (ms : Members) → IsPlain field → Reads Any (or_default [] (text_of is_name_or_empty) field ms)
+optional_name field ms plain = default_reads Any [] (text_of is_name_or_empty) field ms tt (form_reads is_name_or_empty field ms plain)
+
 layer_form_reads : (ms : Members) → MembersTexts ms → Reads LayerNamed (layer_form_at ms)
 unfolding layer_form_at
 layer_form_reads ms all =
@@ -184,13 +196,11 @@ layer_form_reads ms all =
     then_reads Any LayerNamed (or_default (codes "1") text_at (codes "cores") ms) _ (default_reads Any (codes "1") text_at (codes "cores") ms tt (any_reads (codes "cores") as_str ms refl)) (λ cores c.
     then_reads Any LayerNamed (or_default 3355443 number_at (codes "memory") ms) _ (default_reads Any 3355443 number_at (codes "memory") ms tt (any_reads (codes "memory") (as_whole 0 18446744073709551615) ms refl)) (λ memory d.
     then_reads Any LayerNamed (or_default (codes "general" ∷ []) tags_at (codes "tags") ms) _ (default_reads Any (codes "general" ∷ []) tags_at (codes "tags") ms tt (tags_read (codes "tags") ms refl)) (λ tags e.
-    then_reads Any LayerNamed (others_at layer_keys ms) _ (others_read layer_keys ms all) (λ none g. named)))))))
+    then_reads Any LayerNamed (or_default [] (text_of is_name_or_empty) (codes "limit") ms) _ (optional_name (codes "limit") ms refl) (λ limit g.
+    then_reads Any LayerNamed (others_at layer_keys ms) _ (others_read layer_keys ms all) (λ none h. named))))))))
 
 abbrev pub LayersNamed : JobForm → Type 0
 LayersNamed form = All LayerNamed form.layers
-
-optional_name : (field : List ℕ) (ms : Members) → IsPlain field → Reads Any (or_default [] (text_of is_name_or_empty) field ms)
-optional_name field ms plain = default_reads Any [] (text_of is_name_or_empty) field ms tt (form_reads is_name_or_empty field ms plain)
 
 number_or : (default : ℕ) (field : List ℕ) (ms : Members) → IsPlain field → Reads Any (or_default default number_at field ms)
 number_or default field ms plain = default_reads Any default number_at field ms tt (any_reads field (as_whole 0 18446744073709551615) ms plain)
@@ -249,12 +259,13 @@ word_of_list ms word =
     one_of NamesText IsFormedListed (bytes_eq word (codes "shows")) _ _ tt
     (one_of NamesText IsFormedListed (bytes_eq word (codes "allocs")) _ _ tt
     (one_of NamesText IsFormedListed (bytes_eq word (codes "subs")) _ _ tt
+    (one_of NamesText IsFormedListed (bytes_eq word (codes "limits")) _ _ tt
     (one_of NamesText IsFormedListed (bytes_eq word (codes "hosts")) _ _ tt
     (one_of NamesText IsFormedListed (bytes_eq word (codes "jobs")) _ _ tt
     (one_of NamesText IsFormedListed (bytes_eq word (codes "layers")) _ _ (of_job_reads listed.Layers ms (λ job named. named))
     (one_of NamesText IsFormedListed (bytes_eq word (codes "frames")) _ _ (of_job_reads listed.Frames ms (λ job named. named))
     (one_of NamesText IsFormedListed (bytes_eq word (codes "depends")) _ _ (of_job_reads listed.Depends ms (λ job named. named))
-    (one_of NamesText IsFormedListed (bytes_eq word (codes "procs")) _ _ tt (ascii_utf8 (codes "what") refl)))))))))
+    (one_of NamesText IsFormedListed (bytes_eq word (codes "procs")) _ _ tt (ascii_utf8 (codes "what") refl))))))))))
 
 pub query_reads : (ms : Members) → MembersTexts ms → Reads IsFormedQuery (query_at ms)
 unfolding query_at

@@ -33,7 +33,7 @@ use Rattle.reply_law.proofs.Attempts.{frame_of_slot, slot_kept}
 use Rattle.reply_law.proofs.Elements.{flat_each, flat_few, found_each, found_few, mapped_each, term_within}
 use Rattle.reply_law.proofs.Layers.{LayerWithin, layer_within}
 use Rattle.reply_law.proofs.Limits.{filtered_few}
-use Rattle.reply_law.proofs.Rows.{AreRows, IsRowOf, rising_long}
+use Rattle.reply_law.proofs.Rows.{AreRows, IsRowOf, limit_named_so, rising_long}
 use Rattle.reply_law.proofs.Texts.{frame_text, name_text}
 use Rattle.reply_law.proofs.Unmet.{length-placed, said_within}
 
@@ -75,6 +75,7 @@ module _ (f : Farm) (kept : KeepsRows f) where
         refl,
         record {
           layer_name = own.0.name;
+          limit_name = limit_named_so f kept l.limit;
           range_text = own.0.range;
           cores_within = own.0.cores;
           memory_within = own.0.memory;

@@ -14,7 +14,7 @@ use Rattle.frame_range.specs.declared.fault.RangeFault.{RangeFault}
 use Rattle.frame_range.specs.declared.section.Section.{Section}
 use Rattle.frame_range.specs.Sets.{set_of}
 use Rattle.farm_types.specs.declared.job.JobSpec.{JobSpec}
-use Rattle.farm_types.specs.declared.limits.TheConstants.{LEAST_CORES, LEAST_MEMORY, MOST_BURST, MOST_COMMAND, MOST_CORES, MOST_FRAMES, MOST_LAYERS, MOST_MEMORY, MOST_PRIORITY, MOST_RANGE, MOST_RETRIES, MOST_TAGS}
+use Rattle.farm_types.specs.declared.limits.TheConstants.{LEAST_CORES, LEAST_MEMORY, MOST_BURST, MOST_COMMAND, MOST_CORES, MOST_FRAMES, MOST_LAYERS, MOST_MEMORY, MOST_PRIORITY, MOST_RANGE, MOST_RETRIES, MOST_RUNNING, MOST_TAGS}
 use Rattle.farm_types.specs.declared.sub_line.SubLine.{SubLine}
 use Rattle.farm_types.specs.declared.boot.BootLine.{BootLine}
 use Rattle.farm_types.specs.Forms.{is_between}
@@ -24,6 +24,7 @@ use Rattle.farm_types.proofs.Utf8.{ascii_utf8}
 use Rattle.farm_lines.specs.declared.boot_form.BootForm.{BootForm}
 use Rattle.farm_lines.specs.declared.job_form.JobForm.{JobForm}
 use Rattle.farm_lines.specs.declared.job_form.LayerForm.{LayerForm}
+use Rattle.farm_lines.specs.declared.limit_form.LimitForm.{LimitForm}
 use Rattle.farm_lines.specs.declared.request.Request.{Request}
 use Rattle.farm_lines.specs.declared.request.Request.TheVariants as request
 use Rattle.farm_lines.specs.declared.sub_form.SubForm.{SubForm}
@@ -35,11 +36,11 @@ use Rattle.farm_lines.specs.ListLines.{query_at}
 use Rattle.farm_lines.specs.OperatorLines.{asks_pause, frame_at, frame_of_job_at, job_at, job_keys, kill_at, killed_at, names_frame}
 use Rattle.farm_lines.specs.Points.{cores_of}
 use Rattle.farm_lines.specs.Reply.{error_reply}
-use Rattle.farm_lines.specs.Request.{BadAmount, BadLine, BadRange, RequestError, after_op, after_others, alloc_at, asked, asks_alloc, asks_kill, asks_lock, asks_tick, boot_form_at, boot_line_at, boot_line_of, by_op, drop_at, judged, lock_line_at, report_at, request_in, request_of, show_at, sub_form_at, sub_line_at, sub_line_of, submit_at, submit_keys, tick_keys}
+use Rattle.farm_lines.specs.Request.{BadAmount, BadLine, BadRange, RequestError, after_op, after_others, alloc_at, asked, asks_alloc, asks_kill, asks_limit, asks_lock, asks_tick, boot_form_at, boot_line_at, boot_line_of, by_op, drop_at, judged, limit_form_at, limit_line_at, limit_line_of, lock_line_at, report_at, request_in, request_of, show_at, sub_form_at, sub_line_at, sub_line_of, submit_at, submit_keys, tick_keys}
 use Rattle.farm_lines.specs.Spec.{Amount, Field, Range, SpecError, form_first, job_form_at, job_of, layer_cores, layer_of, layers_of, range_of, spec_at, within}
 use Rattle.farm_lines.proofs.RequestLemmas.{asked_is_formed}
 use Rattle.farm_lines.proofs.SpecLemmas.{within_formed}
-use Rattle.reply_law.proofs.FaultTexts.{BootText, FrameNumbered, LayerNamed, LayersNamed, RunsFormed, SubText, alloc_reads, boot_form_reads, depend_reads, drop_reads, frame_at_reads, frame_of_job_reads, job_form_reads, job_reads, lock_reads, query_reads, report_reads, show_reads, sub_form_reads}
+use Rattle.reply_law.proofs.FaultTexts.{BootText, FrameNumbered, LayerNamed, LayersNamed, RunsFormed, SubText, alloc_reads, boot_form_reads, depend_reads, drop_reads, frame_at_reads, frame_of_job_reads, job_form_reads, job_reads, limit_form_reads, lock_reads, query_reads, report_reads, show_reads, sub_form_reads}
 use Rattle.reply_law.proofs.FieldTexts.{IsPlain, NamesText, Reads, any_reads, members_in, name_reads, object_reads, others_read, then_reads}
 use Rattle.reply_law.proofs.RangeFaults.{set_says}
 use Rattle.reply_law.proofs.ReadTexts.{MembersTexts, read_texts}
@@ -134,6 +135,14 @@ sub_amounts form text =
 sub_judges : (ms : Members) → MembersTexts ms → Judges SubSays (sub_line_at ms)
 sub_judges ms all = then_judges SubText SubSays (form_first (sub_form_at ms)) sub_line_of (first_judges SubText (sub_form_at ms) (sub_form_reads ms all)) sub_amounts
 
+limit_amounts : (form : LimitForm) → Judges Any (limit_line_of form)
+unfolding limit_line_of
+limit_amounts form =
+    then_judges (λ none. IsBetween 0 MOST_RUNNING form.most) Any (within (codes "most") 0 MOST_RUNNING form.most) _ (within_judges (codes "most") 0 MOST_RUNNING form.most refl) (λ bounded a. tt)
+
+limit_judges : (ms : Members) → MembersTexts ms → Judges Any (limit_line_at ms)
+limit_judges ms all = then_judges Any Any (form_first (limit_form_at ms)) limit_line_of (first_judges Any (limit_form_at ms) (limit_form_reads ms all)) (λ form a. limit_amounts form)
+
 abbrev BootSays : BootLine → Type 0
 BootSays line = IsText line.alloc
 
@@ -195,6 +204,7 @@ by_op_own ms op all =
     (one_of NamesError HasOwn (bytes_eq op (codes "show")) _ _ (asked_own Any request.Show (show_at ms) (show_reads ms all) (λ name h. h))
     (one_of NamesError HasOwn (bytes_eq op (codes "alloc")) _ _ (asked_own Any asks_alloc (alloc_at ms) (alloc_reads ms all) (λ a h. h))
     (one_of NamesError HasOwn (bytes_eq op (codes "sub")) _ _ (judged_own SubSays request.Sub (sub_line_at ms) (sub_judges ms all) (λ line h. h))
+    (one_of NamesError HasOwn (bytes_eq op (codes "limit")) _ _ (judged_own Any asks_limit (limit_line_at ms) (limit_judges ms all) (λ line h. h))
     (one_of NamesError HasOwn (bytes_eq op (codes "host")) _ _ (asked_own Any asks_lock (lock_line_at ms) (lock_reads ms all) (λ line h. h))
     (one_of NamesError HasOwn (bytes_eq op (codes "submit")) _ _ (judged_own Any request.Submit (submit_at ms) (submit_judges ms all) (λ spec h. h))
     (one_of NamesError HasOwn (bytes_eq op (codes "depend")) _ _ (asked_own Any request.Depend (depend_at ms) (depend_reads ms all) (λ spec h. h))
@@ -206,7 +216,7 @@ by_op_own ms op all =
     (one_of NamesError HasOwn (bytes_eq op (codes "retry")) _ _ (asked_own FrameNumbered request.RetryFrame (frame_at ms) (frame_at_reads ms all) (λ p h. h))
     (one_of NamesError HasOwn (bytes_eq op (codes "tick")) _ _ (asked_own Any asks_tick (others_at tick_keys ms) (others_read tick_keys ms all) (λ none h. h))
     (one_of NamesError HasOwn (bytes_eq op (codes "list")) _ _ (asked_own IsFormedQuery request.List (query_at ms) (query_reads ms all) (λ query h. h))
-    (ascii_utf8 (codes "op") refl))))))))))))))))
+    (ascii_utf8 (codes "op") refl)))))))))))))))))
 
 after_op_own : (ms : Members) (op : Result (List ℕ) Fault) → Reads Any op → MembersTexts ms → AsksOwn (after_op ms op)
 after_op_own ms (Ok op) says all = by_op_own ms op all

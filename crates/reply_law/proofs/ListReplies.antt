@@ -19,7 +19,7 @@ use Rattle.farm_lines.specs.Transcript.{list_reply}
 use Rattle.reply_law.proofs.Elements.{take_few}
 use Rattle.reply_law.proofs.JobRows.{depends_formed, frames_formed, layers_formed}
 use Rattle.reply_law.proofs.Refusals.{missing_refuses}
-use Rattle.reply_law.proofs.Rows.{AreRows, IsRowOf, allocs_formed, hosts_formed, jobs_formed, procs_formed, shows_formed, subs_formed}
+use Rattle.reply_law.proofs.Rows.{AreRows, IsRowOf, allocs_formed, hosts_formed, jobs_formed, limits_formed, procs_formed, shows_formed, subs_formed}
 
 -- all rows of a list, or its refusal
 abbrev AreListed : Result (List ListRow) Refusal → Type 0
@@ -34,6 +34,7 @@ all_listed : (f : Farm) → IsKeptFarm f → (what : Listed) → IsFormedListed 
 all_listed f kept listed.Shows formed = (_, shows_formed f kept.rows)
 all_listed f kept listed.Allocs formed = (_, allocs_formed f kept.rows)
 all_listed f kept listed.Subs formed = (_, subs_formed f kept.rows)
+all_listed f kept listed.Limits formed = (_, limits_formed f kept.rows)
 all_listed f kept listed.Hosts formed = (_, hosts_formed f kept.rows)
 all_listed f kept listed.Jobs formed = (_, jobs_formed f kept.rows)
 all_listed f kept (listed.Layers job) formed = of_job_listed f job (layer_rows f) (pending_named f job) formed (λ n. (_, layers_formed f kept.rows n))

@@ -12,8 +12,8 @@ use Rattle.farm_types.specs.declared.rows.HostRow.{HostRow}
 use Rattle.farm_types.specs.declared.rows.JobRow.{JobRow}
 use Rattle.farm_types.specs.declared.slot_row.SlotRow.{SlotRow}
 use Rattle.farm_types.specs.DependActs.{depend_refusal, dropped}
-use Rattle.farm_types.specs.EntryAnswers.{answer_at, boot_number, booked_of, row_named}
-use Rattle.farm_types.specs.Farm.{Farm, alloc_named, host_named}
+use Rattle.farm_types.specs.EntryAnswers.{answer_at, boot_number, booked_of, row_named, running_of}
+use Rattle.farm_types.specs.Farm.{Farm, alloc_named, host_named, limit_named}
 use Rattle.farm_types.specs.Formed.{IsFormedAct}
 use Rattle.farm_types.specs.Hosts.{is_same_life, is_unheard}
 use Rattle.farm_types.specs.Kept.{IsKeptFarm, KeepsRows, is_formed_host}
@@ -31,7 +31,7 @@ use Rattle.farm_lines.specs.FormedLines.{IsFormedReply}
 use Rattle.farm_lines.specs.Reply.{ok_reply}
 use Rattle.farm_law.proofs.BookedOnHosts.{booked_within}
 use Rattle.farm_law.proofs.FormedParts.{host_formed}
-use Rattle.reply_law.proofs.Limits.{filtered_few}
+use Rattle.reply_law.proofs.Limits.{filtered_few, running_within}
 use Rattle.reply_law.proofs.Unmet.{unmet_within}
 
 -- ---- subscriptions
@@ -39,6 +39,12 @@ use Rattle.reply_law.proofs.Unmet.{unmet_within}
 sub_booked : (f : Farm) → KeepsRows f → (o : Option ℕ) → booked_of f o ≤ MOST_BOOKED
 sub_booked f kept None = omega arith
 sub_booked f kept (Some sub) = booked_within f kept sub
+
+-- ---- limits
+
+limit_running : (f : Farm) → KeepsRows f → (o : Option ℕ) → running_of f o ≤ SLOT_LIMIT
+limit_running f kept None = omega arith
+limit_running f kept (Some limit) = running_within f kept limit
 
 -- ---- boots
 
@@ -101,6 +107,7 @@ ok_formed f moment act.Opened kept formed none follows = tt
 ok_formed f moment (act.Show name) kept formed none follows = tt
 ok_formed f moment (act.Alloc facility tag) kept formed none follows = tt
 ok_formed f moment (act.Sub line) kept formed none follows = (sub_booked f kept.rows (sub_named f line), formed.limits.burst_within, formed.limits.size_within)
+ok_formed f moment (act.Limit name most) kept formed none follows = (formed.1, limit_running f kept.rows (limit_named f name))
 ok_formed f moment (act.Boot line) kept formed none follows = (number_within f kept.rows line (alloc_named f line.alloc) none, formed.nonce_within)
 ok_formed f moment (act.Heard heard) kept formed none follows = tt
 ok_formed f moment (act.Submit spec) kept formed none follows = (formed.limits.frames_within, formed.name)

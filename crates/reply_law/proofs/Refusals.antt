@@ -1,7 +1,7 @@
 -- What the farm refuses names what the line names, or what is there, within its forms and limits.
-use Rattle.std.proofs.Common.{◌≡◌, ℕ, ℤ, ◌+◌, ◌-◌, ◌<◌, ◌≤◌, Bool, true, false, cond, eqb, leb, ltb, List, [], ◌∷◌, length, Option, Some, None, refl, sym, subst, ◌∙◌, arith}
+use Rattle.std.proofs.Common.{◌≡◌, ℕ, ℤ, ◌+◌, ◌<◌, ◌≤◌, Bool, true, false, cond, eqb, leb, ltb, List, [], ◌∷◌, length, Option, Some, None, refl, sym, subst, ◌∙◌, arith}
 use Rattle.std.specs.Cmp.Derive.{both_true}
-use Rattle.std.specs.Prelude.{◌&&◌, bytes_eq, is_some, option_map}
+use Rattle.std.specs.Prelude.{◌&&◌, ◌||◌, bytes_eq, is_some, option_map}
 use Rattle.std.specs.List.{All, filter, find, list_all, list_any, slice_get}
 use Rattle.std.specs.Option.{IfSome}
 use Rattle.std.proofs.lemmas.Bool.{ltb-false, ltb-true}
@@ -19,7 +19,7 @@ use Rattle.farm_types.specs.declared.entry.FramePlace.{FramePlace}
 use Rattle.farm_types.specs.declared.entry.HeardAct.{HeardAct}
 use Rattle.farm_types.specs.declared.job.JobSpec.{JobSpec}
 use Rattle.farm_types.specs.declared.job.LayerSpec.{LayerSpec}
-use Rattle.farm_types.specs.declared.limits.TheConstants.{LAST_BOOT, LAST_DEPEND, LAST_JOB, LAST_VERSION, MOST_ALLOCS, MOST_DEPENDS, MOST_GROUPS, MOST_HOSTS, MOST_SHOWS}
+use Rattle.farm_types.specs.declared.limits.TheConstants.{LAST_BOOT, LAST_DEPEND, LAST_JOB, LAST_VERSION, MOST_ALLOCS, MOST_DEPENDS, MOST_GROUPS, MOST_HOSTS, MOST_LIMITS, MOST_SHOWS}
 use Rattle.farm_types.specs.declared.refusal.Counted.{Counted}
 use Rattle.farm_types.specs.declared.refusal.Counted.TheVariants as counted
 use Rattle.farm_types.specs.declared.refusal.Refusal.{Refusal}
@@ -28,13 +28,14 @@ use Rattle.farm_types.specs.declared.rows.AllocRow.{AllocRow}
 use Rattle.farm_types.specs.declared.rows.HostRow.{HostRow}
 use Rattle.farm_types.specs.declared.rows.JobRow.{JobRow}
 use Rattle.farm_types.specs.declared.rows.LayerRow.{LayerRow}
+use Rattle.farm_types.specs.declared.rows.LimitRow.{LimitRow}
 use Rattle.farm_types.specs.declared.slot_row.Frame.{Frame}
 use Rattle.farm_types.specs.declared.slot_row.SlotRow.{SlotRow}
 use Rattle.farm_types.specs.declared.states.FrameState.{FrameState}
 use Rattle.farm_types.specs.declared.sub_line.SubLine.{SubLine}
 use Rattle.farm_types.specs.DependActs.{add_depend, depend_at, depend_refusal, depends_full, depends_refusal, drop_refusal, end_refusal, frame_name_at, frame_refusal, groups_refusal, has_number, job_missing, layer_name_of, layer_of_name, layer_refusal, name_of_frame, name_of_slot, new_groups, or_else, part_refusal, pending_named, place_refusal, runs_already, waits_for_itself}
 use Rattle.farm_types.specs.Depends.{groups_left}
-use Rattle.farm_types.specs.Farm.{Farm, alloc_name, alloc_named, has_facility, host_named, layer_at, layers_of, show_named}
+use Rattle.farm_types.specs.Farm.{Farm, alloc_name, alloc_named, has_facility, host_named, layer_at, layers_of, limit_from, limit_named, show_named}
 use Rattle.farm_types.specs.Formed.{IsFormedAct, IsFormedDepend, IsFormedFrame, IsFormedHeard, IsFormedJob, IsFormedLayer, IsFormedOwn, is_layer_name}
 use Rattle.farm_types.specs.Forms.{is_name_text, is_tag_text}
 use Rattle.farm_types.specs.Hosts.{is_same_life}
@@ -42,14 +43,14 @@ use Rattle.farm_types.specs.Jobs.{free_among, free_in, is_finished_named, is_fre
 use Rattle.farm_types.specs.Kept.{KeepsRows, is_formed_alloc, is_formed_host, is_formed_layer}
 use Rattle.farm_types.specs.Names.{frame_name}
 use Rattle.farm_types.specs.Operators.{frame_act_refusal, frame_state_refusal, job_there_refusal, may_eat, may_kill, may_retry, place_of, slot_row_named, state_refusal, version_refusal}
-use Rattle.farm_types.specs.Step.{act_refusal, after_submit, boot_at, boot_refusal, follow_refusal, full_refusal, host_refusal, life_refusal, lists_of, name_of_alloc, name_refusal, new_refusal, row_refusal, sub_refusal, submit_refusal}
+use Rattle.farm_types.specs.Step.{act_refusal, after_submit, boot_at, boot_refusal, follow_refusal, full_refusal, host_refusal, life_refusal, limit_refusal, limits_of, limits_refusal, lists_of, name_of_alloc, name_refusal, new_refusal, row_refusal, sub_refusal, submit_refusal, unknown_limit}
 use Rattle.farm_types.proofs.Lists.{and_both, list_all-at, slice_get_below}
 use Rattle.farm_types.proofs.Utf8.{tag_utf8}
 use Rattle.farm_lines.specs.FormedLines.{IsFormedRefusal, IsName, IsText}
 use Rattle.farm_lines.specs.ReplyLines.{limit_of}
 use Rattle.reply_law.specs.SaidTexts.{SaysText}
 use Rattle.farm_law.proofs.FormedParts.{HostFormed, host_formed}
-use Rattle.reply_law.proofs.Texts.{alloc_name_is_name, decimal_text, empty_text, frame_text, name_text}
+use Rattle.reply_law.proofs.Texts.{alloc_name_is_name, decimal_text, empty_text, frame_text, name_or_empty_text, name_text}
 
 -- what is refused, if anything is, is within its forms and limits
 abbrev pub Refuses : Option Refusal → Type 0
@@ -82,6 +83,21 @@ named_refuses name (Some n) text = tt
 sub_refuses : (f : Farm) (line : SubLine) (o : Option ℕ) → IsName line.show → IsText line.alloc → Refuses (sub_refusal f line o)
 sub_refuses f line None named text = name_text line.show named
 sub_refuses f line (Some show) named text = named_refuses line.alloc (alloc_named f line.alloc) text
+
+-- ---- limits
+
+limit_refuses : (f : Farm) (o : Option ℕ) → Refuses (limit_refusal f o)
+limit_refuses f None = full_refuses MOST_LIMITS (length f.limits) counted.Limits refl
+limit_refuses f (Some limit) = tt
+
+unknown_text : (limits : List LimitRow) (layers : List LayerSpec) → All IsFormedLayer layers → IfSome (unknown_limit limits layers) IsText
+unknown_text limits [] each = tt
+unknown_text limits (l ∷ ls) each =
+    by (eqb (length l.limit) 0 || is_some (limit_from 0 l.limit limits)) (name_or_empty_text l.limit (All-head IsFormedLayer l ls each).limit) (unknown_text limits ls (All-tail IsFormedLayer l ls each))
+  where
+    by : (b : Bool) → IsText l.limit → IfSome (unknown_limit limits ls) IsText → IfSome (cond b (unknown_limit limits ls) (Some l.limit)) IsText
+    by true text rest = rest
+    by false text rest = text
 
 -- ---- boots and reports
 
@@ -155,11 +171,19 @@ module _ (f : Farm) (kept : KeepsRows f) where
   layers_refuses spec None named = room_refuses spec
   layers_refuses spec (Some name) named = named
 
+  job_refuses_spec : (spec : JobSpec) → IsFormedJob spec → Refuses (job_refusal (lists_of f) spec)
+  job_refuses_spec spec formed =
+      one_of _ (Some (Exists spec.name)) (layers_refusal (lists_of f) spec (repeated_name [] spec.layers)) formed.name (layers_refuses spec (repeated_name [] spec.layers) (repeated_refuses [] spec.layers formed.each_layer))
+
+  limits_refuses : (spec : JobSpec) (o : Option (List ℕ)) → IsFormedJob spec → IfSome o IsText → Refuses (limits_refusal f spec o)
+  limits_refuses spec None formed text = job_refuses_spec spec formed
+  limits_refuses spec (Some name) formed text = text
+
   submit_refuses : (spec : JobSpec) (o : Option ℕ) → IsFormedJob spec → Refuses (submit_refusal f spec o)
   submit_refuses spec None formed = name_text spec.show formed.show
   submit_refuses spec (Some show) formed =
-      one_of (has_facility f spec.facility) (job_refusal (lists_of f) spec) (Some (Unknown spec.facility))
-      (one_of _ (Some (Exists spec.name)) (layers_refusal (lists_of f) spec (repeated_name [] spec.layers)) formed.name (layers_refuses spec (repeated_name [] spec.layers) (repeated_refuses [] spec.layers formed.each_layer)))
+      one_of (has_facility f spec.facility) (limits_refusal f spec (unknown_limit f.limits spec.layers)) (Some (Unknown spec.facility))
+      (limits_refuses spec (unknown_limit f.limits spec.layers) formed (unknown_text f.limits spec.layers formed.each_layer))
       (tag_utf8 spec.facility formed.facility)
 
 -- ---- jobs, layers and frames
@@ -267,13 +291,15 @@ depends_refuse f own (spec ∷ specs) names each =
     or_refuses (depend_refusal f spec) (depends_refusal (add_depend f spec) specs) (depend_refuses f names spec (All-head (IsFormedOwn own) spec specs each).depend)
     (depends_refuse (add_depend f spec) own specs names (All-tail (IsFormedOwn own) spec specs each))
 
-new_names : (job place : ℕ) (layers : List LayerSpec) → All IsFormedLayer layers → HasNames (layer_rows job place layers)
-new_names job place [] each = refl
-new_names job place (l ∷ ls) each = both_true (All-head IsFormedLayer l ls each).name (new_names job (place + 1) ls (All-tail IsFormedLayer l ls each))
+new_names : (job : ℕ) (limits : List (Option ℕ)) (place : ℕ) (layers : List LayerSpec) → All IsFormedLayer layers → HasNames (layer_rows job limits place layers)
+new_names job limits place [] each = refl
+new_names job limits place (l ∷ ls) each = both_true (All-head IsFormedLayer l ls each).name (new_names job limits (place + 1) ls (All-tail IsFormedLayer l ls each))
 
 submitted_names : (f : Farm) (spec : JobSpec) (o : Option ℕ) → HasNames f.layers → IsFormedJob spec → HasNames (after_submit f spec o).layers
 submitted_names f spec None names formed = names
-submitted_names f spec (Some show) names formed = list_all-append is_named_layer f.layers (layer_rows f.next_job 0 spec.layers) ∙ both_true names (new_names f.next_job 0 spec.layers formed.each_layer)
+submitted_names f spec (Some show) names formed =
+    let limits = limits_of f.limits spec.layers in
+    list_all-append is_named_layer f.layers (layer_rows f.next_job limits 0 spec.layers) ∙ both_true names (new_names f.next_job limits 0 spec.layers formed.each_layer)
 
 dropped_refuses : (depend : ℕ) (o : Option DependRow) → Refuses (drop_refusal depend o)
 dropped_refuses depend None = decimal_text depend
@@ -304,6 +330,7 @@ act_refuses f (act.Show name) kept names formed text = new_refuses name (is_some
 act_refuses f (act.Alloc facility tag) kept names formed text =
     new_refuses (alloc_name facility tag) (is_some (alloc_named f (alloc_name facility tag))) _ (alloc_name_is_name facility tag formed.0 formed.1) (full_refuses MOST_ALLOCS (length f.allocs) counted.Allocs refl)
 act_refuses f (act.Sub line) kept names formed text = sub_refuses f line (show_named f line.show) formed.show text
+act_refuses f (act.Limit name most) kept names formed text = limit_refuses f (limit_named f name)
 act_refuses f (act.Boot line) kept names formed text = boot_refuses f kept line (alloc_named f line.alloc) text
 act_refuses f (act.Heard heard) kept names formed text = heard_refuses f kept heard (host_named f heard.host) formed
 act_refuses f (act.Submit spec) kept names formed text = submit_refuses f kept spec (show_named f spec.show) formed

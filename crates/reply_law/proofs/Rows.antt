@@ -1,27 +1,28 @@
 -- The rows of lists that are of the whole farm.
 use Rattle.std.proofs.Common.{◌≡◌, ℕ, suc, ◌+◌, ◌<◌, ◌≤◌, ◌^◌, ◌/◌, ◌%◌, Bool, true, false, cond, eqb, leb, ltb, List, [], ◌∷◌, length, map, Option, Some, None, refl, sym, ap, subst, ◌∙◌, arith}
-use Rattle.std.specs.Prelude.{◌&&◌, option_map}
+use Rattle.std.specs.Prelude.{◌&&◌, ◌||◌, option_map}
 use Rattle.std.specs.List.{All, filter_map, slice_get}
 use Rattle.std.specs.Option.{IfSome}
 use Rattle.std.proofs.lemmas.Bool.{eqb-true, leb-true, ltb-true}
 use Rattle.std.proofs.lemmas.List.Elements.{All-cons, All-nil}
 use Rattle.std.proofs.lemmas.List.{length-map}
 use Rattle.farm_types.specs.declared.attempt.ProcRow.{ProcRow}
-use Rattle.farm_types.specs.declared.limits.TheConstants.{MOST_ALLOCS, MOST_BURST, MOST_FRAMES, MOST_PRIORITY, SUB_NUMBERS}
+use Rattle.farm_types.specs.declared.limits.TheConstants.{MOST_ALLOCS, MOST_BURST, MOST_FRAMES, MOST_PRIORITY, MOST_RUNNING, SUB_NUMBERS}
 use Rattle.farm_types.specs.declared.rows.HostRow.{HostRow}
 use Rattle.farm_types.specs.declared.rows.JobRow.{JobRow}
+use Rattle.farm_types.specs.declared.rows.LimitRow.{LimitRow}
 use Rattle.farm_types.specs.declared.rows.ShowRow.{ShowRow}
 use Rattle.farm_types.specs.declared.rows.SubRow.{SubRow}
 use Rattle.farm_types.specs.declared.slot_row.Frame.{Frame}
 use Rattle.farm_types.specs.declared.slot_row.SlotRow.{SlotRow}
 use Rattle.farm_types.specs.declared.states.FrameState.{FrameState}
 use Rattle.farm_types.specs.Booking.{is_pending, is_waiting}
-use Rattle.farm_types.specs.Farm.{Farm, alloc_name}
+use Rattle.farm_types.specs.Farm.{Farm}
 use Rattle.farm_types.specs.DependActs.{is_running}
 use Rattle.farm_types.specs.Finish.{count_where, has_succeeded, was_eaten}
 use Rattle.farm_types.specs.Settle.{is_blocked}
-use Rattle.farm_types.specs.Forms.{is_tag_text}
-use Rattle.farm_types.specs.Kept.{KeepsRows, has_its_counts, is_formed_alloc, is_formed_host, is_formed_job, is_formed_show, is_kept_sub}
+use Rattle.farm_types.specs.Forms.{is_name_or_empty, is_name_text, is_tag_text}
+use Rattle.farm_types.specs.Kept.{KeepsRows, has_its_counts, is_formed_alloc, is_formed_host, is_formed_job, is_formed_limit, is_formed_show, is_kept_sub}
 use Rattle.farm_types.specs.Rising.{IsRising, job_key, sub_key}
 use Rattle.farm_types.proofs.Lists.{and_both, list_all-at, slice_get_below}
 use Rattle.farm_law.proofs.BookedOnHosts.{booked_within}
@@ -31,11 +32,12 @@ use Rattle.farm_lines.specs.declared.list_row.ListRow.{ListRow}
 use Rattle.farm_lines.specs.declared.list_row.RowKind.{RowKind}
 use Rattle.farm_lines.specs.declared.list_row.RowKind.TheVariants as kind
 use Rattle.farm_lines.specs.FormedLines.{IsFormedRow, IsName}
-use Rattle.farm_lines.specs.Lists.{alloc_row, host_name, host_row, host_rows, is_dead, job_of_frame, job_row, name_of_host, name_of_job, name_of_show, proc_in, proc_row, show_name, show_row, shown_count, sub_row}
+use Rattle.farm_lines.specs.Lists.{alloc_row, host_name, host_row, host_rows, is_dead, job_of_frame, job_row, limit_name, limit_row, limit_rows, name_of_host, name_of_job, name_of_limit, name_of_show, proc_in, proc_row, show_name, show_row, shown_count, sub_row}
 use Rattle.farm_lines.specs.RowKinds.{kind_of_row}
 use Rattle.reply_law.proofs.Attempts.{attempt_within, job_of_kept}
 use Rattle.reply_law.proofs.Elements.{found_each, found_few, mapped_each}
 use Rattle.reply_law.proofs.JobFrames.{count_within}
+use Rattle.reply_law.proofs.Limits.{running_within}
 use Rattle.reply_law.proofs.Refusals.{alloc_there, alloc_of_host, frame_named, kept_names}
 use Rattle.reply_law.proofs.Texts.{alloc_name_is_name}
 
@@ -47,6 +49,13 @@ IsRowOf keys row = (kind_of_row row ≡ keys) × IsFormedRow row
 pub record AreRows (keys : RowKind) (rows : List ListRow) : Type 0 where
   pub each : All (IsRowOf keys) rows
   pub count : length rows < 2 ^ 64
+
+name_is_so : (name : List ℕ) → IsName name → is_name_or_empty name ≡ true
+name_is_so name named = by (eqb (length name) 0) (is_name_text name) named
+  where
+    by : (a b : Bool) → b ≡ true → (a || b) ≡ true
+    by true b h = refl
+    by false b h = h
 
 -- ---- keys that rise
 
@@ -99,6 +108,45 @@ module _ (f : Farm) (kept : KeepsRows f) where
         each = mapped_each (IsRowOf kind.Sub) (sub_row f) f.subs sub_formed;
         count = omega (arith, length-map f.subs (sub_row f), rising_long sub_key 0 f.subs SUB_NUMBERS kept.subs.rise);
       }
+
+  -- ---- limits
+
+  limit_label_formed : (n : ℕ) (l : LimitRow) → slice_get f.limits n ≡ Some l → IsName l.name × (l.most ≤ MOST_RUNNING)
+  limit_label_formed n l at =
+      let parts = and_both (is_name_text l.name) (leb l.most MOST_RUNNING) (list_all-at is_formed_limit f.limits n l kept.limits.formed at) in
+      (parts.0, leb-true l.most MOST_RUNNING parts.1)
+
+  limit_formed : (n : ℕ) (l : LimitRow) → slice_get f.limits n ≡ Some l → IsRowOf kind.Limit (limit_row f n l)
+  limit_formed n l at =
+      let own = limit_label_formed n l at in
+      (refl, record { limit_name = own.0; most_within = own.1; running_within = running_within f kept n })
+
+  limits_from : (place : ℕ) (ls : List LimitRow) → ((n : ℕ) → slice_get f.limits (place + n) ≡ slice_get ls n) → All (IsRowOf kind.Limit) (limit_rows f place ls)
+  limits_from place [] there = All-nil (IsRowOf kind.Limit)
+  limits_from place (l ∷ ls) there =
+      let here : place + 0 ≡ place = omega arith in
+      All-cons (IsRowOf kind.Limit) (limit_row f place l) (limit_rows f (place + 1) ls) (limit_formed place l (ap (slice_get f.limits) (sym here) ∙ there 0))
+      (limits_from (place + 1) ls (λ n. let next : place + 1 + n ≡ place + suc n = omega arith in ap (slice_get f.limits) next ∙ there (suc n)))
+
+  long-limits : (place : ℕ) (ls : List LimitRow) → length (limit_rows f place ls) ≡ length ls
+  long-limits place [] = refl
+  long-limits place (l ∷ ls) = ap suc (long-limits (place + 1) ls)
+
+  pub limits_formed : AreRows kind.Limit (limit_rows f 0 f.limits)
+  limits_formed =
+      record {
+        each = limits_from 0 f.limits (λ n. let same : 0 + n ≡ n = omega arith in ap (slice_get f.limits) same);
+        count = omega (arith, long-limits 0 f.limits, kept.limits.count);
+      }
+
+  -- the name of a layer's limit
+  pub limit_named_so : (limit : Option ℕ) → is_name_or_empty (limit_name f limit) ≡ true
+  limit_named_so None = refl
+  limit_named_so (Some limit) = by (slice_get f.limits limit) refl
+    where
+      by : (o : Option LimitRow) → slice_get f.limits limit ≡ o → is_name_or_empty (name_of_limit o) ≡ true
+      by None at = refl
+      by (Some l) at = name_is_so l.name (limit_label_formed limit l at).0
 
   -- ---- hosts
 

@@ -1,13 +1,13 @@
 -- Texts that are UTF-8: names, decimals, and names of frames and of allocations.
-use Rattle.std.proofs.Common.{◌≡◌, ℕ, suc, ℤ, ◌+◌, ◌-◌, ◌||◌, Bool, true, false, eqb, List, [], ◌∷◌, ◌++◌, length, length-append, refl, ◌∙◌, arith}
-use Rattle.std.specs.Prelude.{decimal}
+use Rattle.std.proofs.Common.{◌≡◌, ℕ, suc, ℤ, ◌+◌, ◌||◌, Bool, true, false, eqb, List, [], ◌∷◌, ◌++◌, length, length-append, inl, inr, refl, ◌∙◌, arith}
+use Rattle.std.specs.Prelude.{decimal, nat_eq}
 use Rattle.std.specs.List.{list_all}
 use Rattle.std.specs.Cmp.Derive.{both_true}
-use Rattle.std.proofs.lemmas.Bool.{le-leb}
+use Rattle.std.proofs.lemmas.Bool.{eqb-true, le-leb, or_cases}
 use Rattle.std.proofs.lemmas.List.Folds.{list_all-append}
 use Rattle.std.proofs.lemmas.Str.{IsUtf8-append, IsUtf8-from_is_utf8, is_utf8-from_IsUtf8}
 use Rattle.farm_types.specs.Farm.{alloc_name}
-use Rattle.farm_types.specs.Forms.{is_between, is_letter_or_digit, is_name_byte, is_tag_byte, is_tag_text}
+use Rattle.farm_types.specs.Forms.{is_between, is_letter_or_digit, is_name_byte, is_name_or_empty, is_name_text, is_tag_byte, is_tag_text}
 use Rattle.farm_types.specs.Limits.{IsBetween}
 use Rattle.farm_types.specs.Names.{four_places, frame_name}
 use Rattle.farm_types.specs.declared.limits.TheConstants.{MOST_NAME, MOST_TAG}
@@ -31,6 +31,16 @@ joined_text xs ys first second = is_utf8-from_IsUtf8 (xs ++ ys) (IsUtf8-append x
 
 pub name_text : (name : List ℕ) → IsName name → IsText name
 name_text name named = name_utf8 name named
+
+pub name_or_empty_text : (text : List ℕ) → is_name_or_empty text ≡ true → IsText text
+name_or_empty_text text h = elim (or_cases (nat_eq (length text) 0) (is_name_text text) h) [
+  | inl none ↦ none_text text (eqb-true (length text) 0 none)
+  | inr name ↦ name_text text name
+]
+  where
+    none_text : (bs : List ℕ) → length bs ≡ 0 → IsText bs
+    none_text [] h = empty_text
+    none_text (b ∷ bs) h = absurd (omega (arith, h))
 
 pub frame_text : (number : ℤ) (layer : List ℕ) → IsText layer → IsText (frame_name number layer)
 frame_text number layer text = joined_text (four_places number) (45 ∷ layer) (ascii_utf8 (four_places number) (places_ascii number)) (joined_text (45 ∷ []) layer (ascii_utf8 (45 ∷ []) refl) text)

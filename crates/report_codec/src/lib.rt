@@ -8,6 +8,7 @@ mod done_reader;
 mod drop_line;
 mod fault_reply;
 mod laws;
+mod limit_line;
 mod list_line;
 mod list_reply;
 mod lock_line;

@@ -50,6 +50,7 @@ fn listed_by(alloc: Global, object: &Map, word: &str) -> Result<Listed, FieldFau
         "shows" => Ok(Listed::Shows),
         "allocs" => Ok(Listed::Allocs),
         "subs" => Ok(Listed::Subs),
+        "limits" => Ok(Listed::Limits),
         "hosts" => Ok(Listed::Hosts),
         "jobs" => Ok(Listed::Jobs),
         "layers" => Ok(Listed::Layers {

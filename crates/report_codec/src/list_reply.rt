@@ -2,12 +2,12 @@
 
 ghost use Rattle.std.specs.Prelude.{◌≡◌, ◌∷◌, codes, OnOk};
 ghost use Rattle.json.specs.Token.{key};
-ghost use Rattle.farm_lines.specs.ListReplies.{depend_row_data, frame_row_data, host_row_data, job_row_data, layer_row_data, list_data, list_row_data, list_rows_data, name_data, proc_row_data, sub_row_data};
+ghost use Rattle.farm_lines.specs.ListReplies.{depend_row_data, frame_row_data, host_row_data, job_row_data, layer_row_data, limit_row_data, list_data, list_row_data, list_rows_data, name_data, proc_row_data, sub_row_data};
 ghost use Rattle.object_writer.specs.Tokens.{added, tokens_of};
 
 use farm_lines::{
-    ListReply, ListRow, ShownDepend, ShownFrame, ShownHost, ShownJob, ShownLayer, ShownProc,
-    ShownSub,
+    ListReply, ListRow, ShownDepend, ShownFrame, ShownHost, ShownJob, ShownLayer, ShownLimit,
+    ShownProc, ShownSub,
 };
 use object_writer::ObjectWriter;
 use state_names::{host_word, job_word, kind_word, lock_word, state_word};
@@ -43,6 +43,7 @@ fn write_row(out: &mut ObjectWriter, row: &ListRow) -> Result<(), AllocError>
     match row {
         ListRow::Name { name } => write_name(out, name.as_str()),
         ListRow::Sub(sub) => write_sub(out, sub),
+        ListRow::Limit(limit) => write_limit(out, limit),
         ListRow::Host(host) => write_host(out, host),
         ListRow::Job(job) => write_job(out, job),
         ListRow::Layer(layer) => write_layer(out, layer),
@@ -71,6 +72,17 @@ fn write_sub(out: &mut ObjectWriter, sub: &ShownSub) -> Result<(), AllocError>
     out.cores("burst", sub.burst)?;
     out.text("show", sub.show.as_str())?;
     out.cores("size", sub.size)?;
+    out.end_object()
+}
+
+#[tactic(auto, unfolding(farm_lines::specs::ListReplies::limit_row_data))]
+fn write_limit(out: &mut ObjectWriter, limit: &ShownLimit) -> Result<(), AllocError>
+    ensures { OnOk result (out.new ≡ added out.old (tokens_of (limit_row_data limit.now))) }
+{
+    out.begin_object()?;
+    out.whole("most", u64::from(limit.most))?;
+    out.text("name", limit.name.as_str())?;
+    out.whole("running", u64::from(limit.running))?;
     out.end_object()
 }
 
@@ -120,6 +132,7 @@ fn write_layer(out: &mut ObjectWriter, layer: &ShownLayer) -> Result<(), AllocEr
     out.whole("dead", u64::from(layer.dead))?;
     out.whole("depend", u64::from(layer.depend))?;
     out.whole("eaten", u64::from(layer.eaten))?;
+    out.text("limit", layer.limit.as_str())?;
     out.memory("memory", layer.memory)?;
     out.text("name", layer.name.as_str())?;
     out.text("range", layer.range.as_str())?;

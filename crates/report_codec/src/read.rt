@@ -9,6 +9,7 @@ use crate::alloc_line::read_alloc;
 use crate::boot_line::read_boot;
 use crate::depend_line::read_depend;
 use crate::drop_line::read_drop;
+use crate::limit_line::read_limit;
 use crate::list_line::read_list;
 use crate::lock_line::read_lock;
 use crate::operator_line::{read_eat, read_kill, read_pause, read_retry};
@@ -63,6 +64,7 @@ fn request_by_op(alloc: Global, object: &Map, op: &str) -> Result<Request, Reque
         "show" => read_show(alloc, object),
         "alloc" => read_alloc(alloc, object),
         "sub" => read_sub(alloc, object),
+        "limit" => read_limit(alloc, object),
         "host" => read_lock(alloc, object),
         "submit" => read_submit(alloc, object),
         "depend" => read_depend(alloc, object),

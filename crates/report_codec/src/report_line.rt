@@ -59,7 +59,8 @@ fn report(alloc: Global, object: &Map) -> Result<Report, FieldFault>
 /// The reply to a report: cores in hundredths of a core, memory in KB.
 #[tactic(auto, unfolding(farm_lines::specs::Reply::report_data))]
 pub fn write_report(out: &mut ObjectWriter, report: &ReportReply) -> Result<(), AllocError>
-    ensures { OnOk result (out.new ≡ added out.old (tokens_of (report_data report.now.boot report.now.seq (cut_word report.now.cut) report.now.acks report.now.kills report.now.launches))) }
+    ensures { OnOk result (out.new ≡ added out.old (tokens_of (report_data report.now.boot report.now.seq
+        (cut_word report.now.cut) report.now.acks report.now.kills report.now.launches))) }
 {
     out.begin_object()?;
     write_attempts(out, "acks", report.acks.as_slice())?;

@@ -11,6 +11,7 @@ use crate::fault_reply::{
     write_bad_amount, write_bad_line, write_bad_range, write_entries_full, write_no_memory,
     write_still_held, write_store_fault, write_too_long,
 };
+use crate::limit_line::write_limit;
 use crate::list_reply::write_list;
 use crate::operator_line::write_ended;
 use crate::refusal_reply::write_refusal;
@@ -44,6 +45,7 @@ fn write_object(out: &mut ObjectWriter, reply: &Reply) -> Result<(), AllocError>
             burst,
             size,
         } => write_sub(out, *booked, *burst, *size),
+        Reply::Limit { most, running } => write_limit(out, *most, *running),
         Reply::Boot { boot, nonce } => write_boot(out, *boot, *nonce),
         Reply::Tick { down, lost } => write_tick(out, *down, *lost),
         Reply::Submitted { frames, job } => write_submitted(out, *frames, job.as_str()),

@@ -14,7 +14,7 @@ within : (n most : ℕ) → n ≤ most → whole_in 0 most n ≡ Some n
 within n most h = let least : 0 ≤ n = omega arith in rw (le-leb 0 n least, le-leb n most h) refl
 
 module _ (field : List ℕ) (ms : Members) where
-  whole_read : (n most : ℕ) → get_member field ms ≡ Some (whole n) → n ≤ most → whole_at field 0 most ms ≡ Ok n
+  pub whole_read : (n most : ℕ) → get_member field ms ≡ Some (whole n) → n ≤ most → whole_at field 0 most ms ≡ Ok n
   whole_read n most found h = ap (of_member field (as_whole 0 most)) found ∙ ap (of_kind field) (within n most h)
 
   pub u64_read : (n : ℕ) → get_member field ms ≡ Some (whole n) → n < 2 ^ 64 → u64_at field ms ≡ Ok n

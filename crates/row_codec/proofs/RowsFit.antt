@@ -1,11 +1,11 @@
 -- The fields of a row that the types can hold have values that are read back, and their keys rise.
-use Rattle.std.proofs.Common.{◌≡◌, ℕ, ℤ, ◌<◌, ◌≤◌, ◌^◌, pos, negsuc, true, List, [], ◌∷◌, Option, Some, None, refl, arith, leb-true, IsUtf8}
-use Rattle.std.specs.Prelude.{codes, map, option_map}
+use Rattle.std.proofs.Common.{◌≡◌, ◌==◌, Bool, false, cond, ℕ, ℤ, ◌<◌, ◌≤◌, ◌^◌, pos, negsuc, true, List, [], ◌∷◌, Option, Some, None, refl, arith, leb-true, IsUtf8}
+use Rattle.std.specs.Prelude.{codes, map, option_map, IfSome}
 use Rattle.std.specs.List.{AllByRecursion}
 use Rattle.std.proofs.lemmas.Bool.{and_parts}
 use Rattle.std.proofs.lemmas.Str.{IsUtf8-from_is_utf8}
 use Rattle.json.proofs.Printed.Utf8.{IsUtf8-are_ascii}
-use Rattle.serde_json.specs.Data.{Data, string, Members, no_members, member, boolean}
+use Rattle.serde_json.specs.Data.{Data, string, array, Members, no_members, member, boolean}
 use Rattle.serde_json.specs.View.{items_of}
 use Rattle.farm_types.specs.declared.depend.DependRow.{DependRow}
 use Rattle.farm_types.specs.declared.rows.HostRow.{HostRow}
@@ -13,12 +13,13 @@ use Rattle.farm_types.specs.declared.rows.JobRow.{JobRow}
 use Rattle.farm_types.specs.declared.rows.LayerRow.{LayerRow}
 use Rattle.farm_rows.specs.declared.farm_row.FarmRow.{FarmRow}
 use Rattle.farm_rows.specs.declared.farm_row.FarmRow.TheVariants as row
+use Rattle.farm_rows.specs.declared.head_row.TheConstants.{ROW_FORMAT}
 use Rattle.farm_rows.specs.declared.frame_row.StoredFrame.{StoredFrame}
 use Rattle.farm_rows.specs.declared.frame_row.StoredState.{StoredState}
 use Rattle.farm_rows.specs.declared.frame_row.StoredState.TheVariants as stored
 use Rattle.state_names.specs.Words.{kind_word}
 use Rattle.state_names.proofs.WordsBack.{host_utf8, job_utf8, kind_utf8, lock_utf8}
-use Rattle.row_codec.specs.RowFields.{alloc_fields, depend_fields, field_if, fields_in_state, frame_word, free_fields, head_fields, host_fields, job_fields, layer_fields, met_fields, resting_fields, row_fields, running_fields, show_fields, signed, slot_fields, sub_fields, whole}
+use Rattle.row_codec.specs.RowFields.{alloc_fields, depend_fields, field_if, fields_in_state, frame_word, free_fields, head_fields, host_fields, job_fields, layer_fields, limit_fields, limit_mark, met_fields, resting_fields, row_fields, running_fields, show_fields, signed, slot_fields, sub_fields, whole}
 use Rattle.row_codec.specs.RowLaws.{DependFits, Fits, FrameNamed, HostFits, IsSigned, IsText, JobFits, LayerFits, LayerNamed, SlotFits, StateFits, StoredFits}
 use Rattle.row_codec.proofs.Objects.{are_keys, FieldsFit, ItemsFit, ValueFits}
 
@@ -56,9 +57,19 @@ unfolding job_fields
 job_fit r h =
     (tt, (omega (arith, h.eaten), (utf8 r.facility h.facility, (h.finish, (omega (arith, h.frames), (omega (arith, h.max_retries), (utf8 r.name h.name, (tt, (omega (arith, h.priority), (utf8 r.shot h.shot, (omega (arith, h.show), (job_utf8 r.state, (omega (arith, h.succeeded), (utf8 r.user h.user, tt))))))))))))))
 
-layer_fit : (r : LayerRow) → LayerFits r → FieldsFit (layer_fields r)
+mark_fits : (limit : Option ℕ) → IfSome limit (λ n. n < 2 ^ 8) → ValueFits (whole (limit_mark limit))
+mark_fits None h = omega arith
+mark_fits (Some n) h = omega (arith, h)
+
+limit_if_fits : (b : Bool) (limit : Option ℕ) (rest : Members) → IfSome limit (λ n. n < 2 ^ 8) → FieldsFit rest
+    → FieldsFit (field_if (codes "limit") (cond b (Some (whole (limit_mark limit))) None) rest)
+limit_if_fits true limit rest h more = (mark_fits limit h, more)
+limit_if_fits false limit rest h more = more
+
+layer_fit : (format : ℕ) (r : LayerRow) → LayerFits r → FieldsFit (layer_fields format r)
 unfolding layer_fields
-layer_fit r h = (utf8 r.command h.command, (omega (arith, h.cores), (h.memory, (utf8 r.name h.name, (utf8 r.range h.range, (texts_fit r.tags h.tags, tt))))))
+layer_fit format r h =
+    (utf8 r.command h.command, (omega (arith, h.cores), limit_if_fits (format == ROW_FORMAT) r.limit _ h.limit (h.memory, (utf8 r.name h.name, (utf8 r.range h.range, (texts_fit r.tags h.tags, tt))))))
 
 resting_fit : (version : ℕ) (x : StoredFrame) → version < 2 ^ 32 → StoredFits x → FieldsFit (resting_fields version x)
 unfolding resting_fields
@@ -108,18 +119,19 @@ depend_fit r h = (
   ),
 )
 
-pub fields_fit : (r : FarmRow) → Fits r → FieldsFit (row_fields r)
-unfolding head_fields show_fields alloc_fields sub_fields met_fields
-fields_fit (row.Head r) h = (h.depends, (h.finishes, (h.format, (h.jobs, (h.moment, tt)))))
-fields_fit (row.Show show r) h = (utf8 r.name h.1, tt)
-fields_fit (row.Alloc alloc r) h = (utf8 r.facility h.1, (utf8 r.tag h.2, tt))
-fields_fit (row.Sub r) h = (omega (arith, h.burst), (omega (arith, h.size), tt))
-fields_fit (row.Host host r) h = host_fit r h.1
-fields_fit (row.Job r) h = job_fit r h
-fields_fit (row.Layer r) h = layer_fit r h
-fields_fit (row.Frame r) h = slot_fit r.version r.frame h.version h.frame
-fields_fit (row.Depend r) h = depend_fit r h
-fields_fit (row.Met r) h = (tt, tt)
+pub fields_fit : (format : ℕ) (r : FarmRow) → Fits r → FieldsFit (row_fields format r)
+unfolding head_fields show_fields alloc_fields sub_fields met_fields limit_fields
+fields_fit format (row.Head r) h = (h.depends, (h.finishes, (h.format, (h.jobs, (h.moment, tt)))))
+fields_fit format (row.Show show r) h = (utf8 r.name h.1, tt)
+fields_fit format (row.Alloc alloc r) h = (utf8 r.facility h.1, (utf8 r.tag h.2, tt))
+fields_fit format (row.Sub r) h = (omega (arith, h.burst), (omega (arith, h.size), tt))
+fields_fit format (row.Host host r) h = host_fit r h.1
+fields_fit format (row.Job r) h = job_fit r h
+fields_fit format (row.Layer r) h = layer_fit format r h
+fields_fit format (row.Frame r) h = slot_fit r.version r.frame h.version h.frame
+fields_fit format (row.Depend r) h = depend_fit r h
+fields_fit format (row.Met r) h = (tt, tt)
+fields_fit format (row.Limit limit r) h = (omega (arith, h.most), (utf8 r.name h.name, tt))
 
 -- ---- keys
 
@@ -159,15 +171,23 @@ depend_keys any job kind met_all on_job (Some f) (Some l) None (Some m) = refl
 depend_keys any job kind met_all on_job (Some f) (Some l) (Some g) None = refl
 depend_keys any job kind met_all on_job (Some f) (Some l) (Some g) (Some m) = refl
 
-pub keys_rise : (r : FarmRow) → are_keys [] (row_fields r) ≡ true
-unfolding head_fields show_fields alloc_fields sub_fields host_fields job_fields layer_fields depend_fields met_fields
-keys_rise (row.Head r) = refl
-keys_rise (row.Show show r) = refl
-keys_rise (row.Alloc alloc r) = refl
-keys_rise (row.Sub r) = refl
-keys_rise (row.Host host r) = refl
-keys_rise (row.Job r) = refl
-keys_rise (row.Layer r) = refl
-keys_rise (row.Frame r) = slot_keys r.version r.frame
-keys_rise (row.Depend r) = depend_keys (boolean r.any) (whole r.waiter.job) (string (kind_word r.kind)) (boolean r.met_all) (whole r.target.job) (option_map signed r.waiter.frame) (option_map string r.waiter.layer) (option_map signed r.target.frame) (option_map string r.target.layer)
-keys_rise (row.Met r) = refl
+-- with a limit and without one
+layer_keys : (b : Bool) (r : LayerRow)
+    → are_keys [] (member (codes "command") (string r.command) (member (codes "cores") (whole r.cores) (field_if (codes "limit") (cond b (Some (whole (limit_mark r.limit))) None)
+    (member (codes "memory") (whole r.memory) (member (codes "name") (string r.name) (member (codes "range") (string r.range) (member (codes "tags") (array (items_of (map string r.tags))) no_members))))))) ≡ true
+layer_keys true r = refl
+layer_keys false r = refl
+
+pub keys_rise : (format : ℕ) (r : FarmRow) → are_keys [] (row_fields format r) ≡ true
+unfolding head_fields show_fields alloc_fields sub_fields host_fields job_fields layer_fields depend_fields met_fields limit_fields
+keys_rise format (row.Head r) = refl
+keys_rise format (row.Show show r) = refl
+keys_rise format (row.Alloc alloc r) = refl
+keys_rise format (row.Sub r) = refl
+keys_rise format (row.Host host r) = refl
+keys_rise format (row.Job r) = refl
+keys_rise format (row.Layer r) = layer_keys (format == ROW_FORMAT) r
+keys_rise format (row.Frame r) = slot_keys r.version r.frame
+keys_rise format (row.Depend r) = depend_keys (boolean r.any) (whole r.waiter.job) (string (kind_word r.kind)) (boolean r.met_all) (whole r.target.job) (option_map signed r.waiter.frame) (option_map string r.waiter.layer) (option_map signed r.target.frame) (option_map string r.target.layer)
+keys_rise format (row.Met r) = refl
+keys_rise format (row.Limit limit r) = refl

@@ -6,6 +6,7 @@ use Rattle.farm_types.specs.declared.depend.MetRow.{MetRow}
 use Rattle.farm_types.specs.declared.rows.HostRow.{HostRow}
 use Rattle.farm_types.specs.declared.rows.JobRow.{JobRow}
 use Rattle.farm_types.specs.declared.rows.LayerRow.{LayerRow}
+use Rattle.farm_types.specs.declared.rows.LimitRow.{LimitRow}
 use Rattle.farm_types.specs.declared.rows.SubRow.{SubRow}
 use Rattle.farm_types.specs.declared.states.HostState.TheVariants.{Up}
 use Rattle.farm_types.specs.declared.states.JobState.TheVariants.{Pending}
@@ -16,7 +17,7 @@ use Rattle.farm_rows.specs.declared.head_row.HeadRow.{HeadRow}
 
 -- the row of a farm that was opened at moment 0
 abbrev pub head : HeadRow
-head = record { format = 1; moment = 0; jobs = 1; finishes = 1; depends = 1 }
+head = record { format = 2; moment = 0; jobs = 1; finishes = 1; depends = 1 }
 
 abbrev pub sub_row : SubRow
 sub_row = record { sub = 16; size = 1000; burst = 2000 }
@@ -33,7 +34,14 @@ layer_row =
       cores = 100;
       memory = 3355443;
       tags = codes "general" ∷ codes "gpu" ∷ [];
+      limit = Some 2;
     }
+
+abbrev pub unlimited_row : LayerRow
+unlimited_row = record layer_row { limit = None }
+
+abbrev pub limit_row : LimitRow
+limit_row = record { name = codes "arnold"; most = 40 }
 
 abbrev pub host_row : HostRow
 host_row =

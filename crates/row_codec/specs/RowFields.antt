@@ -1,5 +1,5 @@
 -- The fields of a row of the store, in byte order of their keys, and its bytes: the compact JSON text of an object of them.
-use Rattle.std.specs.Prelude.{ℕ, ℤ, true, List, map, codes, Option, None, Some, option_map}
+use Rattle.std.specs.Prelude.{ℕ, ℤ, ◌+◌, ◌==◌, true, List, map, codes, Option, None, Some, option_map, if◌then◌else◌}
 use Rattle.serde_json.specs.Data.{Data, boolean, number, unsigned, string, array, object, Members, no_members, member}
 use Rattle.serde_json.specs.Find.{of_integer}
 use Rattle.serde_json.specs.View.{items_of}
@@ -9,6 +9,7 @@ use Rattle.farm_types.specs.declared.rows.AllocRow.{AllocRow}
 use Rattle.farm_types.specs.declared.rows.HostRow.{HostRow}
 use Rattle.farm_types.specs.declared.rows.JobRow.{JobRow}
 use Rattle.farm_types.specs.declared.rows.LayerRow.{LayerRow}
+use Rattle.farm_types.specs.declared.rows.LimitRow.{LimitRow}
 use Rattle.farm_types.specs.declared.rows.ShowRow.{ShowRow}
 use Rattle.farm_types.specs.declared.rows.SubRow.{SubRow}
 use Rattle.state_names.specs.Words.{host_word, job_word, kind_word, lock_word, state_word}
@@ -19,6 +20,7 @@ use Rattle.farm_rows.specs.declared.frame_row.StoredFrame.{StoredFrame}
 use Rattle.farm_rows.specs.declared.frame_row.StoredState.{StoredState}
 use Rattle.farm_rows.specs.declared.frame_row.StoredState.TheVariants as stored
 use Rattle.farm_rows.specs.declared.head_row.HeadRow.{HeadRow}
+use Rattle.farm_rows.specs.declared.head_row.TheConstants.{ROW_FORMAT}
 use Rattle.farm_rows.specs.Recovery.{state_of}
 
 -- ---- values
@@ -39,6 +41,11 @@ abbrev pub frame_word : StoredState → List ℕ
 frame_word state = state_word (state_of state)
 
 -- ---- fields
+
+-- the field before the rest, where there is one
+abbrev pub field_if : List ℕ → Option Data → Members → Members
+field_if key None rest = rest
+field_if key (Some value) rest = member key value rest
 
 unfoldable pub head_fields : HeadRow → Members
 head_fields r =
@@ -67,10 +74,19 @@ job_fields r =
     (member (codes "priority") (whole r.priority) (member (codes "shot") (string r.shot) (member (codes "show") (whole r.show) (member (codes "state") (string (job_word r.state))
     (member (codes "succeeded") (whole r.succeeded) (member (codes "user") (string r.user) no_members)))))))))))))
 
-unfoldable pub layer_fields : LayerRow → Members
-layer_fields r =
-    member (codes "command") (string r.command) (member (codes "cores") (whole r.cores) (member (codes "memory") (whole r.memory) (member (codes "name") (string r.name)
-    (member (codes "range") (string r.range) (member (codes "tags") (texts r.tags) no_members)))))
+-- a limit as a layer's row has it: 0 for none, else its number and one
+abbrev pub limit_mark : Option ℕ → ℕ
+limit_mark None = 0
+limit_mark (Some limit) = limit + 1
+
+-- format 1 has no limits
+abbrev pub limit_value : ℕ → Option ℕ → Option Data
+limit_value format limit = if format == ROW_FORMAT then Some (whole (limit_mark limit)) else None
+
+unfoldable pub layer_fields : ℕ → LayerRow → Members
+layer_fields format r =
+    member (codes "command") (string r.command) (member (codes "cores") (whole r.cores) (field_if (codes "limit") (limit_value format r.limit) (member (codes "memory") (whole r.memory)
+    (member (codes "name") (string r.name) (member (codes "range") (string r.range) (member (codes "tags") (texts r.tags) no_members))))))
 
 -- ---- slots
 
@@ -103,11 +119,6 @@ frame_fields r = slot_fields r.version r.frame
 
 -- ---- depends
 
--- the field before the rest, where there is one
-abbrev pub field_if : List ℕ → Option Data → Members → Members
-field_if key None rest = rest
-field_if key (Some value) rest = member key value rest
-
 unfoldable pub depend_fields : DependRow → Members
 depend_fields r =
     member (codes "any") (boolean r.any) (field_if (codes "frame") (option_map signed r.waiter.frame) (member (codes "job") (whole r.waiter.job)
@@ -118,20 +129,29 @@ depend_fields r =
 unfoldable pub met_fields : Members
 met_fields = member (codes "met") (boolean true) no_members
 
--- ---- every row
+-- ---- limits
 
-abbrev pub row_fields : FarmRow → Members
-row_fields (row.Head r) = head_fields r
-row_fields (row.Show show r) = show_fields r
-row_fields (row.Alloc alloc r) = alloc_fields r
-row_fields (row.Sub r) = sub_fields r
-row_fields (row.Host host r) = host_fields r
-row_fields (row.Job r) = job_fields r
-row_fields (row.Layer r) = layer_fields r
-row_fields (row.Frame r) = frame_fields r
-row_fields (row.Depend r) = depend_fields r
-row_fields (row.Met r) = met_fields
+unfoldable pub limit_fields : LimitRow → Members
+limit_fields r = member (codes "most") (whole r.most) (member (codes "name") (string r.name) no_members)
 
--- the bytes of a row
+-- ---- every row, in a format
+
+abbrev pub row_fields : ℕ → FarmRow → Members
+row_fields format (row.Head r) = head_fields r
+row_fields format (row.Show show r) = show_fields r
+row_fields format (row.Alloc alloc r) = alloc_fields r
+row_fields format (row.Sub r) = sub_fields r
+row_fields format (row.Host host r) = host_fields r
+row_fields format (row.Job r) = job_fields r
+row_fields format (row.Layer r) = layer_fields format r
+row_fields format (row.Frame r) = frame_fields r
+row_fields format (row.Depend r) = depend_fields r
+row_fields format (row.Met r) = met_fields
+row_fields format (row.Limit limit r) = limit_fields r
+
+-- the bytes of a row in a format, and as it is written
+abbrev pub text_in : ℕ → FarmRow → List ℕ
+text_in format r = compact_text (object (row_fields format r))
+
 abbrev pub row_text : FarmRow → List ℕ
-row_text r = compact_text (object (row_fields r))
+row_text r = text_in ROW_FORMAT r

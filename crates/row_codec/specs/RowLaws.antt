@@ -1,5 +1,5 @@
 -- The rows that the types can hold, and what reading bytes answers.
-use Rattle.std.specs.Prelude.{ℕ, ℤ, ◌≡◌, ◌<◌, ◌^◌, ◌&&◌, pos, negsuc, Bool, true, List, Option, None, Some, is_some, int_le, Result, Ok, Err}
+use Rattle.std.specs.Prelude.{ℕ, ℤ, ◌≡◌, ◌⊎◌, ◌<◌, ◌^◌, ◌&&◌, pos, negsuc, Bool, true, List, Option, None, Some, IfSome, is_some, int_le, Result, Ok, Err}
 use Rattle.std.specs.List.{AllByRecursion}
 use Rattle.std.specs.Str.{is_utf8}
 use Rattle.farm_types.specs.declared.depend.DependEnd.{DependEnd}
@@ -7,6 +7,7 @@ use Rattle.farm_types.specs.declared.depend.DependRow.{DependRow}
 use Rattle.farm_types.specs.declared.rows.HostRow.{HostRow}
 use Rattle.farm_types.specs.declared.rows.JobRow.{JobRow}
 use Rattle.farm_types.specs.declared.rows.LayerRow.{LayerRow}
+use Rattle.farm_types.specs.declared.rows.LimitRow.{LimitRow}
 use Rattle.farm_types.specs.declared.rows.SubRow.{SubRow}
 use Rattle.farm_types.specs.Formed.{names_layer, names_frame, names_target_layer, names_target_frame}
 use Rattle.farm_rows.specs.declared.farm_row.FarmRow.{FarmRow}
@@ -16,9 +17,10 @@ use Rattle.farm_rows.specs.declared.frame_row.StoredFrame.{StoredFrame}
 use Rattle.farm_rows.specs.declared.frame_row.StoredState.{StoredState}
 use Rattle.farm_rows.specs.declared.frame_row.StoredState.TheVariants as stored
 use Rattle.farm_rows.specs.declared.head_row.HeadRow.{HeadRow}
+use Rattle.farm_rows.specs.declared.head_row.TheConstants.{ROW_FORMAT}
 use Rattle.farm_rows.specs.declared.ids.TheConstants.{GROUP_IDS, LAYER_IDS}
 use Rattle.farm_rows.specs.Rows.{row_id, row_kind}
-use Rattle.row_codec.specs.RowFields.{row_text}
+use Rattle.row_codec.specs.RowFields.{text_in}
 use Rattle.row_codec.specs.declared.fault.ReadFault.{ReadFault}
 use Rattle.row_codec.specs.declared.fault.ReadFault.TheVariants as read_fault
 use Rattle.row_codec.specs.declared.fault.RowFault.{RowFault}
@@ -80,6 +82,7 @@ pub record LayerFits (r : LayerRow) : Type 0 where
   pub cores : r.cores < 2 ^ 32
   pub memory : r.memory < 2 ^ 64
   pub tags : AllByRecursion IsText r.tags
+  pub limit : IfSome r.limit (λ limit. limit < 2 ^ 8)
 
 abbrev pub StateFits : StoredState → Type 0
 StateFits (stored.Running boot host since) = (boot < 2 ^ 32) × (host < 2 ^ 16) × (since < 2 ^ 64)
@@ -122,6 +125,11 @@ pub record DependFits (r : DependRow) : Type 0 where
   pub waiter : EndFits (names_layer r.kind) (names_frame r.kind) r.waiter
   pub target : EndFits (names_target_layer r.kind) (names_target_frame r.kind) r.target
 
+pub record LimitFits (number : ℕ) (r : LimitRow) : Type 0 where
+  pub limit : number < 2 ^ 8
+  pub name : IsText r.name
+  pub most : r.most < 2 ^ 32
+
 -- Each number is one of its type, and each text is UTF-8. A layer's place and a met group's position have ids of their own, and a depend's ends are
 -- those of its kind.
 abbrev pub Fits : FarmRow → Type 0
@@ -135,22 +143,31 @@ Fits (row.Layer r) = LayerFits r
 Fits (row.Frame r) = FrameFits r
 Fits (row.Depend r) = DependFits r
 Fits (row.Met r) = (r.depend < 2 ^ 32) × (r.position < GROUP_IDS)
+Fits (row.Limit limit r) = LimitFits limit r
+
+-- in format 1 there is no layer with a limit
+abbrev pub HasNoLimit : FarmRow → Type 0
+HasNoLimit (row.Layer r) = r.limit ≡ None
+HasNoLimit other = Unit {0}
+
+abbrev pub FitsIn : ℕ → FarmRow → Type 0
+FitsIn format r = Fits r × ((format ≡ ROW_FORMAT) ⊎ HasNoLimit r)
 
 -- ---- what reading answers
 
--- the row is of that kind and id, and has those bytes
-abbrev pub IsSpelled : ℕ → ℕ → List ℕ → FarmRow → Type 0
-IsSpelled kind id bytes r = (row_kind r ≡ kind) × (row_id r ≡ id) × (row_text r ≡ bytes)
+-- the row is of that kind and id, and has those bytes in the format
+abbrev pub IsSpelled : ℕ → ℕ → ℕ → List ℕ → FarmRow → Type 0
+IsSpelled format kind id bytes r = (row_kind r ≡ kind) × (row_id r ≡ id) × (text_in format r ≡ bytes)
 
 -- no row that the types can hold is
-abbrev pub IsNoSpelling : ℕ → ℕ → List ℕ → Type 0
-IsNoSpelling kind id bytes = (r : FarmRow) → Fits r → IsSpelled kind id bytes r → ⊥
+abbrev pub IsNoSpelling : ℕ → ℕ → ℕ → List ℕ → Type 0
+IsNoSpelling format kind id bytes = (r : FarmRow) → FitsIn format r → IsSpelled format kind id bytes r → ⊥
 
 -- a row that has the bytes, or the kind and id where none has, unless memory ran out
-abbrev pub IsExact : ℕ → ℕ → List ℕ → Result FarmRow RowFault → Type 0
-IsExact kind id bytes (Ok r) = IsSpelled kind id bytes r
-IsExact kind id bytes (Err (row_fault.BadBytes k i)) = (k ≡ kind) × (i ≡ id) × IsNoSpelling kind id bytes
-IsExact kind id bytes (Err row_fault.NoMemory) = Unit {0}
+abbrev pub IsExact : ℕ → ℕ → ℕ → List ℕ → Result FarmRow RowFault → Type 0
+IsExact format kind id bytes (Ok r) = IsSpelled format kind id bytes r
+IsExact format kind id bytes (Err (row_fault.BadBytes k i)) = (k ≡ kind) × (i ≡ id) × IsNoSpelling format kind id bytes
+IsExact format kind id bytes (Err row_fault.NoMemory) = Unit {0}
 
 -- what a call read is what was to be read, unless memory ran out
 abbrev pub Reads : {X : Type 0} → Result X ReadFault → Option X → Type 0

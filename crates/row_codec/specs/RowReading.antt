@@ -1,5 +1,5 @@
 -- The row that bytes are: what their fields say, where that row is spelled so.
-use Rattle.std.specs.Prelude.{ℕ, ℤ, ◌==◌, ◌&&◌, ◌/◌, ◌%◌, ◌^◌, pos, negsuc, Bool, true, false, List, [], ◌∷◌, codes, bytes_eq, nat_lt, Option, None, Some, option_and_then, Result, Ok, Err, if◌then◌else◌}
+use Rattle.std.specs.Prelude.{ℕ, zero, suc, ℤ, ◌==◌, ◌&&◌, ◌/◌, ◌%◌, ◌^◌, pos, negsuc, Bool, true, false, List, [], ◌∷◌, codes, bytes_eq, nat_lt, Option, None, Some, option_and_then, Result, Ok, Err, if◌then◌else◌}
 use Rattle.serde_json.specs.Data.{Items, no_items, item, Members}
 use Rattle.serde_json.specs.Find.{as_str}
 use Rattle.cue_json.specs.Fields.{Fault, ◌>>=◌, of_kind, text_at, whole_at, signed_at, flag_at, list_at}
@@ -11,6 +11,7 @@ use Rattle.farm_types.specs.declared.rows.AllocRow.{AllocRow}
 use Rattle.farm_types.specs.declared.rows.HostRow.{HostRow}
 use Rattle.farm_types.specs.declared.rows.JobRow.{JobRow}
 use Rattle.farm_types.specs.declared.rows.LayerRow.{LayerRow}
+use Rattle.farm_types.specs.declared.rows.LimitRow.{LimitRow}
 use Rattle.farm_types.specs.declared.rows.ShowRow.{ShowRow}
 use Rattle.farm_types.specs.declared.rows.SubRow.{SubRow}
 use Rattle.farm_types.specs.declared.states.FrameState.{FrameState}
@@ -24,9 +25,10 @@ use Rattle.farm_rows.specs.declared.frame_row.StoredFrame.{StoredFrame}
 use Rattle.farm_rows.specs.declared.frame_row.StoredState.{StoredState}
 use Rattle.farm_rows.specs.declared.frame_row.StoredState.TheVariants as stored
 use Rattle.farm_rows.specs.declared.head_row.HeadRow.{HeadRow}
+use Rattle.farm_rows.specs.declared.head_row.TheConstants.{ROW_FORMAT}
 use Rattle.farm_rows.specs.declared.ids.TheConstants.{GROUP_IDS, LAYER_IDS}
 use Rattle.farm_rows.specs.Rows.{row_id, row_kind}
-use Rattle.row_codec.specs.RowFields.{row_text}
+use Rattle.row_codec.specs.RowFields.{text_in}
 
 -- ---- fields
 
@@ -113,11 +115,20 @@ job_at job ms =
       succeeded = succeeded;
     })
 
-unfoldable pub layer_at : ℕ → ℕ → Members → Result LayerRow Fault
-layer_at job place ms =
-    text_at (codes "command") ms >>= λ command. u32_at (codes "cores") ms >>= λ cores. u64_at (codes "memory") ms >>= λ memory. text_at (codes "name") ms >>= λ name.
-    text_at (codes "range") ms >>= λ range. texts_at (codes "tags") ms >>= λ tags.
-    Ok (record { job = job; place = place; name = name; range = range; command = command; cores = cores; memory = memory; tags = tags })
+-- the limit of a mark
+abbrev pub limit_marked : ℕ → Option ℕ
+limit_marked zero = None
+limit_marked (suc limit) = Some limit
+
+-- in format 1 no layer has a limit
+abbrev pub limit_at : ℕ → Members → Result (Option ℕ) Fault
+limit_at format ms = if format == ROW_FORMAT then (whole_at (codes "limit") 0 256 ms >>= λ mark. Ok (limit_marked mark)) else Ok None
+
+unfoldable pub layer_at : ℕ → ℕ → ℕ → Members → Result LayerRow Fault
+layer_at format job place ms =
+    text_at (codes "command") ms >>= λ command. u32_at (codes "cores") ms >>= λ cores. limit_at format ms >>= λ limit. u64_at (codes "memory") ms >>= λ memory.
+    text_at (codes "name") ms >>= λ name. text_at (codes "range") ms >>= λ range. texts_at (codes "tags") ms >>= λ tags.
+    Ok (record { job = job; place = place; name = name; range = range; command = command; cores = cores; memory = memory; tags = tags; limit = limit })
 
 -- ---- slots
 
@@ -169,6 +180,11 @@ depend_at depend ms =
     waiter_at kind ms >>= λ waiter. target_at kind ms >>= λ target.
     Ok (record { depend = depend; kind = kind; any = any; met_all = met_all; waiter = waiter; target = target })
 
+-- ---- limits
+
+unfoldable pub limit_row_at : Members → Result LimitRow Fault
+limit_row_at ms = u32_at (codes "most") ms >>= λ most. text_at (codes "name") ms >>= λ name. Ok (record { name = name; most = most })
+
 -- ---- every row
 
 -- a row of what was read
@@ -181,27 +197,28 @@ abbrev pub below : ℕ → ℕ → Option FarmRow → Option FarmRow
 below bound number made = if nat_lt number bound then made else None
 
 -- The row of that kind and id, as its fields say. The ids of layers and of met groups are those of their jobs and depends, and a place.
-abbrev pub row_in : ℕ → ℕ → Members → Option FarmRow
-row_in kind id ms =
+abbrev pub row_in : ℕ → ℕ → ℕ → Members → Option FarmRow
+row_in format kind id ms =
     if kind == 1 then read_as row.Head (head_at ms)
     else (if kind == 2 then below (2 ^ 16) id (read_as (row.Show id) (show_at ms))
     else (if kind == 3 then below (2 ^ 16) id (read_as (row.Alloc id) (alloc_at ms))
     else (if kind == 4 then below (2 ^ 16) id (read_as row.Sub (sub_at id ms))
     else (if kind == 5 then below (2 ^ 16) id (read_as (row.Host id) (host_at ms))
     else (if kind == 6 then below (2 ^ 32) id (read_as row.Job (job_at id ms))
-    else (if kind == 7 then below (2 ^ 32) (id / LAYER_IDS) (read_as row.Layer (layer_at (id / LAYER_IDS) (id % LAYER_IDS) ms))
+    else (if kind == 7 then below (2 ^ 32) (id / LAYER_IDS) (read_as row.Layer (layer_at format (id / LAYER_IDS) (id % LAYER_IDS) ms))
     else (if kind == 8 then below (2 ^ 32) id (read_as row.Frame (frame_at id ms))
     else (if kind == 9 then below (2 ^ 32) id (read_as row.Depend (depend_at id ms))
     else (if kind == 10 then below (2 ^ 32) (id / GROUP_IDS) (Some (row.Met (record { depend = id / GROUP_IDS; position = id % GROUP_IDS })))
-    else None)))))))))
+    else (if kind == 11 then below (2 ^ 8) id (read_as (row.Limit id) (limit_row_at ms))
+    else None))))))))))
 
--- whether the row is that of the kind and the id, and spelled so
-abbrev pub is_spelled : ℕ → ℕ → List ℕ → FarmRow → Bool
-is_spelled kind id bytes r = row_kind r == kind && row_id r == id && bytes_eq (row_text r) bytes
+-- whether the row is that of the kind and the id, and spelled so in the format
+abbrev pub is_spelled : ℕ → ℕ → ℕ → List ℕ → FarmRow → Bool
+is_spelled format kind id bytes r = row_kind r == kind && row_id r == id && bytes_eq (text_in format r) bytes
 
-abbrev pub spelled : ℕ → ℕ → List ℕ → FarmRow → Option FarmRow
-spelled kind id bytes r = if is_spelled kind id bytes r then Some r else None
+abbrev pub spelled : ℕ → ℕ → ℕ → List ℕ → FarmRow → Option FarmRow
+spelled format kind id bytes r = if is_spelled format kind id bytes r then Some r else None
 
--- the row of that kind and id whose bytes are these
-unfoldable pub row_from : ℕ → ℕ → List ℕ → Option FarmRow
-row_from kind id bytes = option_and_then (spelled kind id bytes) (option_and_then (row_in kind id) (object_in bytes))
+-- the row of that kind and id whose bytes are these in the format
+unfoldable pub row_from : ℕ → ℕ → ℕ → List ℕ → Option FarmRow
+row_from format kind id bytes = option_and_then (spelled format kind id bytes) (option_and_then (row_in format kind id) (object_in bytes))

@@ -4,29 +4,37 @@ ghost use Rattle.std.specs.Prelude.{◌≡◌, Option, ◌/◌, ◌%◌, ◌^◌
 ghost use Rattle.serde_json.specs.View.{members_view};
 ghost use Rattle.farm_rows.specs.declared.farm_row.FarmRow.{FarmRow};
 ghost use Rattle.farm_rows.specs.declared.farm_row.FarmRow.TheVariants as row;
+ghost use Rattle.farm_rows.specs.Recovery.{IsFormat};
 ghost use Rattle.row_codec.specs.RowLaws.{IsDecoded, IsExact, Reads};
-ghost use Rattle.row_codec.specs.RowReading.{alloc_at, below, depend_at, frame_at, head_at, host_at, is_spelled, job_at, layer_at, read_as, row_from, row_in, show_at, spelled, sub_at};
+ghost use Rattle.row_codec.specs.RowReading.{alloc_at, below, depend_at, frame_at, head_at, host_at, is_spelled, job_at, layer_at, limit_row_at, read_as, row_from, row_in, show_at, spelled, sub_at};
 
 use crate::depend_fields::read_depend;
-use crate::encoding::encode;
+use crate::encoding::encode_in;
 use crate::farm_fields::{read_alloc, read_head, read_show, read_sub};
 use crate::fault::{ReadFault, RowFault};
 use crate::frame_fields::read_frame;
 use crate::host_fields::read_host;
 use crate::job_fields::read_job;
-use crate::layer_fields::read_layer;
+use crate::layer_fields::{read_layer, read_limit_row};
 use cue_json::Map;
 use farm_rows::{FarmRow, GROUP_IDS, LAYER_IDS};
-use farm_types::{AllocNo, DependNo, HostNo, JobNo, MetRow, ShowNo, Slot, SubNo};
+use farm_types::{AllocNo, DependNo, HostNo, JobNo, LimitNo, MetRow, ShowNo, Slot, SubNo};
 use std::alloc::{AllocError, Global};
 
-/// The row of that kind and id whose bytes are these, or `BadBytes` where no row has them.
-pub fn decode(alloc: Global, kind: u8, id: u64, bytes: &[u8]) -> Result<FarmRow, RowFault>
-    ensures gives { IsDecoded kind id result (row_from kind id bytes.now) }
+/// The row of that kind and id whose bytes are these in the format, which is 1 or 2, or `BadBytes` where no row has them.
+pub fn decode(
+    alloc: Global,
+    format: u64,
+    kind: u8,
+    id: u64,
+    bytes: &[u8],
+) -> Result<FarmRow, RowFault>
+    requires { IsFormat format }
+    ensures gives { IsDecoded kind id result (row_from format kind id bytes.now) }
     // So the row has these bytes, and no row has them where none is read.
-    ensures exact { IsExact kind id bytes.now result }
+    ensures exact { IsExact format kind id bytes.now result }
 {
-    named(kind, id, read_row(alloc, kind, id, bytes))
+    named(kind, id, read_row(alloc, format, kind, id, bytes))
 }
 
 // What was read, with the kind and the id in its fault.
@@ -42,25 +50,32 @@ fn named(kind: u8, id: u64, read: Result<FarmRow, ReadFault>) -> Result<FarmRow,
 
 // The row of that kind and id whose bytes are these.
 #[tactic(auto, unfolding(crate::specs::RowReading::row_from))]
-fn read_row(alloc: Global, kind: u8, id: u64, bytes: &[u8]) -> Result<FarmRow, ReadFault>
-    ensures { Reads result (row_from kind id bytes.now) }
+fn read_row(
+    alloc: Global,
+    format: u64,
+    kind: u8,
+    id: u64,
+    bytes: &[u8],
+) -> Result<FarmRow, ReadFault>
+    ensures { Reads result (row_from format kind id bytes.now) }
 {
     let object = cue_json::object_of(alloc, bytes)?;
-    let row = read_fields(alloc, kind, id, &object)?;
-    checked(alloc, kind, id, row, bytes)
+    let row = read_fields(alloc, format, kind, id, &object)?;
+    checked(alloc, format, kind, id, row, bytes)
 }
 
-// The row where it is of that kind and id and spelled so.
+// The row where it is of that kind and id and spelled so in the format.
 fn checked(
     alloc: Global,
+    format: u64,
     kind: u8,
     id: u64,
     row: FarmRow,
     bytes: &[u8],
 ) -> Result<FarmRow, ReadFault>
-    ensures { Reads result (spelled kind id bytes.now row) }
+    ensures { Reads result (spelled format kind id bytes.now row) }
 {
-    if is_spelled(alloc, kind, id, &row, bytes)? {
+    if is_spelled(alloc, format, kind, id, &row, bytes)? {
         Ok(row)
     } else {
         Err(ReadFault::NoRow)
@@ -70,20 +85,27 @@ fn checked(
 // Whether the row is of that kind and id and spelled so.
 fn is_spelled(
     alloc: Global,
+    format: u64,
     kind: u8,
     id: u64,
     row: &FarmRow,
     bytes: &[u8],
 ) -> Result<bool, AllocError>
-    ensures { IfOk result (λ is. is ≡ is_spelled kind id bytes.now row.now) }
+    ensures { IfOk result (λ is. is ≡ is_spelled format kind id bytes.now row.now) }
 {
-    let text = encode(alloc, row)?;
+    let text = encode_in(alloc, format, row)?;
     Ok(row.kind() == kind && row.id() == id && text.as_slice() == bytes)
 }
 
 // The row of that kind and id, as its fields say.
-fn read_fields(alloc: Global, kind: u8, id: u64, object: &Map) -> Result<FarmRow, ReadFault>
-    ensures { Reads result (row_in kind id (members_view object.now.entries)) }
+fn read_fields(
+    alloc: Global,
+    format: u64,
+    kind: u8,
+    id: u64,
+    object: &Map,
+) -> Result<FarmRow, ReadFault>
+    ensures { Reads result (row_in format kind id (members_view object.now.entries)) }
 {
     match kind {
         1 => head(alloc, object),
@@ -92,10 +114,11 @@ fn read_fields(alloc: Global, kind: u8, id: u64, object: &Map) -> Result<FarmRow
         4 => sub(alloc, id, object),
         5 => host(alloc, id, object),
         6 => job(alloc, id, object),
-        7 => layer(alloc, id, object),
+        7 => layer(alloc, format, id, object),
         8 => frame(alloc, id, object),
         9 => depend(alloc, id, object),
         10 => met(id),
+        11 => limit(alloc, id, object),
         _ => Err(ReadFault::NoRow),
     }
 }
@@ -144,12 +167,13 @@ fn job(alloc: Global, id: u64, object: &Map) -> Result<FarmRow, ReadFault>
     Ok(FarmRow::Job(read_job(alloc, job, object)?))
 }
 
-fn layer(alloc: Global, id: u64, object: &Map) -> Result<FarmRow, ReadFault>
-    ensures { Reads result (below (2 ^ 32) (id / LAYER_IDS) (read_as row.Layer (layer_at (id / LAYER_IDS) (id % LAYER_IDS) (members_view object.now.entries)))) }
+fn layer(alloc: Global, format: u64, id: u64, object: &Map) -> Result<FarmRow, ReadFault>
+    ensures { Reads result (below (2 ^ 32) (id / LAYER_IDS) (read_as row.Layer
+        (layer_at format (id / LAYER_IDS) (id % LAYER_IDS) (members_view object.now.entries)))) }
 {
     let job = JobNo(medium(id / LAYER_IDS)?);
     let place = (id % LAYER_IDS) as u32;
-    Ok(FarmRow::Layer(read_layer(alloc, job, place, object)?))
+    Ok(FarmRow::Layer(read_layer(alloc, format, job, place, object)?))
 }
 
 fn frame(alloc: Global, id: u64, object: &Map) -> Result<FarmRow, ReadFault>
@@ -174,7 +198,21 @@ fn met(id: u64) -> Result<FarmRow, ReadFault>
     Ok(FarmRow::Met(MetRow { depend, position }))
 }
 
-// A number of 16 bits, and one of 32.
+fn limit(alloc: Global, id: u64, object: &Map) -> Result<FarmRow, ReadFault>
+    ensures { Reads result (below (2 ^ 8) id (read_as (row.Limit id) (limit_row_at (members_view object.now.entries)))) }
+{
+    let limit = LimitNo(tiny(id)?);
+    let row = read_limit_row(alloc, object)?;
+    Ok(FarmRow::Limit { limit, row })
+}
+
+// A number of 8 bits, one of 16, and one of 32.
+fn tiny(number: u64) -> Result<u8, ReadFault>
+    ensures { Reads result (if nat_lt number (2 ^ 8) then Some number else None) }
+{
+    u8::try_from(number).map_err(|_| ReadFault::NoRow)
+}
+
 fn small(number: u64) -> Result<u16, ReadFault>
     ensures { Reads result (if nat_lt number (2 ^ 16) then Some number else None) }
 {

@@ -1,7 +1,7 @@
 //! The bytes of a row.
 
 ghost use Rattle.std.specs.Prelude.{◌≡◌, IfOk, OnOk};
-ghost use Rattle.row_codec.specs.RowFields.{row_fields, row_text};
+ghost use Rattle.row_codec.specs.RowFields.{row_fields, row_text, text_in};
 ghost use Rattle.object_writer.specs.Tokens.{added, object_tokens};
 
 use crate::depend_fields::{write_depend, write_met};
@@ -9,25 +9,32 @@ use crate::farm_fields::{write_alloc, write_head, write_show, write_sub};
 use crate::frame_fields::write_frame;
 use crate::host_fields::write_host;
 use crate::job_fields::write_job;
-use crate::layer_fields::write_layer;
-use farm_rows::FarmRow;
+use crate::layer_fields::{write_layer, write_limit_row};
+use farm_rows::{FarmRow, ROW_FORMAT};
 use farm_types::Items;
 use object_writer::ObjectWriter;
 use std::alloc::{AllocError, Global};
 
-/// The row as compact JSON, its keys in byte order.
-#[tactic(auto, using(crate::proofs::Printed::row_printed))]
+/// The row as compact JSON, its keys in byte order, in the format in which rows are written.
 pub fn encode(alloc: Global, row: &FarmRow) -> Result<Items<u8>, AllocError>
     ensures { IfOk result (λ bytes. bytes ≡ row_text row.now) }
 {
+    encode_in(alloc, ROW_FORMAT, row)
+}
+
+/// The row as compact JSON, in that format.
+#[tactic(auto, using(crate::proofs::Printed::row_printed))]
+pub(crate) fn encode_in(alloc: Global, format: u64, row: &FarmRow) -> Result<Items<u8>, AllocError>
+    ensures { IfOk result (λ bytes. bytes ≡ text_in format row.now) }
+{
     let mut out = ObjectWriter::new(alloc)?;
-    write_row(&mut out, row)?;
+    write_row(&mut out, format, row)?;
     Ok(out.into_bytes())
 }
 
 // The row as an object. Amounts of cores are in hundredths of a core.
-fn write_row(out: &mut ObjectWriter, row: &FarmRow) -> Result<(), AllocError>
-    ensures { OnOk result (out.new ≡ added out.old (object_tokens (row_fields row.now))) }
+fn write_row(out: &mut ObjectWriter, format: u64, row: &FarmRow) -> Result<(), AllocError>
+    ensures { OnOk result (out.new ≡ added out.old (object_tokens (row_fields format row.now))) }
 {
     match row {
         FarmRow::Head(row) => write_head(out, row),
@@ -36,9 +43,10 @@ fn write_row(out: &mut ObjectWriter, row: &FarmRow) -> Result<(), AllocError>
         FarmRow::Sub(row) => write_sub(out, row),
         FarmRow::Host { row, .. } => write_host(out, row),
         FarmRow::Job(row) => write_job(out, row),
-        FarmRow::Layer(row) => write_layer(out, row),
+        FarmRow::Layer(row) => write_layer(out, format, row),
         FarmRow::Frame(row) => write_frame(out, row),
         FarmRow::Depend(row) => write_depend(out, row),
         FarmRow::Met(_) => write_met(out),
+        FarmRow::Limit { row, .. } => write_limit_row(out, row),
     }
 }

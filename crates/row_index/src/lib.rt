@@ -13,5 +13,6 @@ pub use known_hosts::KnownHosts;
 pub use known_jobs::KnownJobs;
 pub use known_layer::KnownLayer;
 pub use lookups::{job_in, layer_at, layer_bounds, layer_in, layer_key, place_of_job, row_at};
+pub use names::Names;
 pub use ranges::range_of;
 pub use subs::{has_sub, sub_between};

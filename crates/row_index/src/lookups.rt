@@ -3,8 +3,7 @@
 ghost use Rattle.std.specs.Prelude.{◌≡◌, ◌≤◌, ◌<◌, ◌==◌, ◌&&◌, ◌+◌, ◌*◌, ℕ, true, drop, find, length, option_copied, slice_get, slice_index_or, take};
 ghost use Rattle.std.specs.List.{list_all, position_or_len};
 ghost use Rattle.farm_types.specs.declared.rows.LayerRow.{LayerRow};
-ghost use Rattle.farm_types.specs.Farm.{layers_of};
-ghost use Rattle.farm_types.specs.Kept.{layer_in};
+ghost use Rattle.farm_types.specs.Farm.{layers_of, layer_in};
 ghost use Rattle.farm_types.specs.Rising.{IsRising, job_key, layer_key};
 ghost use Rattle.row_index.specs.Index.{is_placed_below};
 ghost use Rattle.farm_types.specs.declared.limits.TheConstants.{MOST_LAYERS};

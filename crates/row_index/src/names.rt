@@ -10,7 +10,7 @@ use std::marker::Model;
 
 /// Names that differ, in the order in which they were added.
 #[derive(Drop)]
-pub(crate) struct Names {
+pub struct Names {
     set: IndexSet<String>,
 }
 
@@ -24,7 +24,7 @@ impl Model for Names {
 
 impl Names {
     /// No names.
-    pub(crate) fn new(alloc: Global) -> Names
+    pub fn new(alloc: Global) -> Names
         ensures { result ≡ [] }
     {
         Names {
@@ -33,14 +33,14 @@ impl Names {
     }
 
     /// Whether the name is there.
-    pub(crate) fn has(&self, name: &Text) -> bool
+    pub fn has(&self, name: &Text) -> bool
         ensures { result ≡ list_any (λ other. bytes_eq other name.now) self.now }
     {
         self.set.contains(name.as_str())
     }
 
     /// Adds a name that isn't there, at the end. At an `Err` nothing has changed.
-    pub(crate) fn add(&mut self, alloc: Global, name: &Text) -> Result<(), AllocError>
+    pub fn add(&mut self, alloc: Global, name: &Text) -> Result<(), AllocError>
         requires new { list_any (λ other. bytes_eq other name.now) self.old ≡ false }
         ensures ok { OnOk result (self.new ≡ self.old ++ name.now ∷ []) }
         ensures err { OnErr result (self.new ≡ self.old) }

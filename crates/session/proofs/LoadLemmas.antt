@@ -76,13 +76,14 @@ answered_earlier n first status wrote old mid new holds same answered = subst (�
 
 -- a load over a farm that was opened
 pub called_load : (words : List (List ℕ)) (n : ℕ) (status : Status) (opened : ℕ) (farm : Farm) (call : Call) (before after : Streams) (mid : Option (List ℕ)) (k : ℕ)
-    (says : WordForm → Farm → Type 0) (bad : WordForm → RecoverFault → Type 0) (same untouched : Type 0) (goes_on : Farm → List Exchange → Type 0) (holds : Farm → Type 0)
+    (says : WordForm → Farm → Type 0) (bad : WordForm → RecoverFault → Type 0) (same untouched : Type 0) (unmigrated : Farm → Type 0) (goes_on : Farm → List Exchange → Type 0)
+    (holds : Farm → Type 0)
     → form_of words ≡ Some (Load n) → IsOpened (says (Load n)) (Load n) opened farm → Tells before.readings mid (opened ∷ []) → k ≡ before.store_faults
     → AnswersLoadCall n status farm (streams before.unread before.read_faults before.written before.write_faults mid k) after call holds
     → (status ≡ exit.WriteFailed → HasRisen before.write_faults after.write_faults)
-    → IsCall words status before after (record { taken = call.taken; written = call.written; readings = opened ∷ call.readings; exchanges = call.exchanges }) says bad same untouched
+    → IsCall words status before after (record { taken = call.taken; written = call.written; readings = opened ∷ call.readings; exchanges = call.exchanges }) says bad same untouched unmigrated
     goes_on holds
-called_load words n status opened farm call before after mid k says bad same untouched goes_on holds formed opening reads was over write =
+called_load words n status opened farm call before after mid k says bad same untouched unmigrated goes_on holds formed opening reads was over write =
     let first : Farm = opened_farm (Load n) opening.first opened in
     let now : Call = record { taken = call.taken; written = call.written; readings = opened ∷ call.readings; exchanges = call.exchanges } in
     let answered : AnswersLoad n first status call.written k after.store_faults holds

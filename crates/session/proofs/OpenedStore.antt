@@ -1,20 +1,21 @@
 -- What a keeper has, of a farm that its rows say, and which farm they say.
-use Rattle.std.proofs.Common.{◌≡◌, refl, sym, ap, subst, ◌∙◌, List, [], map, inl, inr, arith, Result}
+use Rattle.std.proofs.Common.{◌≡◌, refl, sym, ap, subst, ◌∙◌, ℕ, List, [], inl, inr, arith, Result}
 use Rattle.std.specs.FinMap.{empty}
 use Rattle.std.specs.List.{Any}
 use Rattle.farm_types.specs.Farm.{Farm, empty_farm}
-use Rattle.farm_rows.specs.Rows.{rows_of}
+use Rattle.farm_rows.specs.Recovery.{Said}
+use Rattle.farm_rows.specs.declared.head_row.TheConstants.{ROW_FORMAT}
 use Rattle.farm_keeper.specs.declared.row.Batch.{Batch}
 use Rattle.farm_keeper.specs.declared.row.Row.{Row}
-use Rattle.farm_keeper.specs.Keeping.{HasKept, Keeps, LeavesSome, MayRemain}
+use Rattle.farm_keeper.specs.Keeping.{HasKept, Keeps, MayRemain}
 use Rattle.farm_keeper.specs.Rows.{Lists, Rows, rows_from}
 use Rattle.farm_keeper.specs.Rows as batched
-use Rattle.farm_keeper.proofs.KeepingLaws.{HasKept-loaded}
 use Rattle.farm_keeper.proofs.RowLaws.{Lists-from, Lists-only}
 use Rattle.recorder.specs.Recording.{HasRecorded}
-use Rattle.recovery.specs.Recovered.{recovered, spelled_row}
+use Rattle.recovery.specs.Migration.{HasRows}
+use Rattle.recovery.specs.Recovered.{recovered, spelled_rows}
 use Rattle.recovery.specs.declared.fault.RecoverFault.{RecoverFault}
-use Rattle.store_law.specs.Stored.{stored}
+use Rattle.store_law.specs.Stored.{stored, stored_in}
 use Rattle.session.specs.Opening.{BeginsWith, MayOpen}
 use Rattle.session.specs.Words.{WordForm, Demo, IsScript, IsStated, Load, Script}
 
@@ -33,18 +34,18 @@ recorded_of held left rows f is kept =
     record { held = subst held (sym is) kept.held; remains = λ other there. inl (remains_rows rows other (kept.remains other there) ∙ sym is) }
 
 -- the rows of a farm that was recovered of a list are those of the list
-pub stored_of : (list : List Row) (rows : Rows) (f : Farm) → Lists list rows → map spelled_row (rows_of f) ≡ list → stored f ≡ rows
-unfolding stored
-stored_of list rows f lists is = ap rows_from is ∙ Lists-from list rows lists
+stored_of : (format : ℕ) (list : List Row) (rows : Rows) (f : Farm) → Lists list rows → spelled_rows format f ≡ list → stored_in format f ≡ rows
+unfolding stored_in
+stored_of format list rows f lists is = ap rows_from is ∙ Lists-from list rows lists
 
 pub stored_empty : stored empty_farm ≡ empty
-unfolding stored
+unfolding stored_in
 stored_empty = refl
 
 -- ---- which farm its rows say
 
 -- the rows that were held are this list
-pub says_list : (tells : Type 0) (held : Rows → Type 0) (list : List Row) (r : Result Farm RecoverFault) → (tells → (rows : Rows) → held rows → Lists list rows)
+pub says_list : (tells : Type 0) (held : Rows → Type 0) (list : List Row) (r : Result Said RecoverFault) → (tells → (rows : Rows) → held rows → Lists list rows)
     → recovered list ≡ r → tells → (rows : Rows) → held rows → (other : List Row) → Lists other rows → recovered other ≡ r
 says_list tells held list r listed is told rows there other lists =
     subst (λ (xs : List Row). recovered xs ≡ r) (Lists-only list other rows (listed told rows there) lists) is
@@ -71,10 +72,22 @@ script_kept Demo held left script may = absurd script
 script_kept (Script store) held left script may = may
 script_kept (Load n) held left script may = absurd script
 
--- the farm that was recovered of the rows that were loaded is the one that the keeper has
-pub loaded_recorded : (form : WordForm) (held left held' left' : Rows → Type 0) (list : List Row) (f : Farm) → IsScript form → MayOpen form held left
-    → ((rows : Rows) → held rows → Lists list rows) → Keeps held held' → Keeps left' left → LeavesSome left' → map spelled_row (rows_of f) ≡ list → HasRecorded held' left' f
-loaded_recorded form held left held' left' list f script may listed keeps leaves some is =
+-- the keeper has the rows of the farm that was recovered of those that were loaded, in their format
+pub loaded_rows : (form : WordForm) (held left held' left' : Rows → Type 0) (list : List Row) (format : ℕ) (f : Farm) → IsScript form → MayOpen form held left
+    → ((rows : Rows) → held rows → Lists list rows) → Keeps held held' → Keeps left' left → spelled_rows format f ≡ list → HasRows held' left' format f
+loaded_rows form held left held' left' list format f script may listed keeps leaves is =
     let has = script_kept form held left script may in
-    let now : HasKept held' left' has.0 [] = HasKept-loaded held left held' left' has.0 [] has.1 keeps leaves some in
-    recorded_of held' left' has.0 f (stored_of list has.0 f (listed has.0 has.1.held) is) now
+    let same : stored_in format f ≡ has.0 = stored_of format list has.0 f (listed has.0 has.1.held) is in
+    record {
+      held = subst held' (sym same) (keeps has.0 has.1.held);
+      remains = λ other now. remains_rows has.0 other (has.1.remains other (leaves other now)) ∙ sym same;
+    }
+
+-- and it has no others
+pub loaded_only : (held : Rows → Type 0) (list : List Row) (format : ℕ) (f : Farm) → ((rows : Rows) → held rows → Lists list rows) → spelled_rows format f ≡ list
+    → (rows : Rows) → held rows → rows ≡ stored_in format f
+loaded_only held list format f listed is rows there = sym (stored_of format list rows f (listed rows there) is)
+
+-- the farm is the one that the keeper has, where its rows are as they are written
+pub rows_recorded : (holds left : Rows → Type 0) (f : Farm) → HasRows holds left ROW_FORMAT f → HasRecorded holds left f
+rows_recorded holds left f has = record { held = has.held; remains = λ rows now. inl (has.remains rows now) }

@@ -26,9 +26,9 @@ use Rattle.session.specs.declared.words.Form.{Form}
 use Rattle.session.specs.declared.exchanged.Exchanged.TheVariants as exchanged
 use Rattle.session.specs.declared.opening.OpenFault.{OpenFault}
 use Rattle.session.specs.declared.opening.OpenFault.TheVariants as fault
-use Rattle.session.specs.Opening.{BeginsWith, HasFailed, HoldsFarm, IsOpened, IsPartOpened, is_of_store}
+use Rattle.session.specs.Opening.{BeginsWith, HasFailed, HoldsFarm, IsLeftOld, IsOpened, IsPartOpened, is_of_store}
 use Rattle.session.specs.Loads.{AnswersLoad}
-use Rattle.session.specs.Sessions.{AnswersAll, AnswersForm, AnswersLoadCall, Call, EndsEarly, EndsSession, EndsWell, GoesOnOpened, GoesOnOver, HasLines, HasMoved, IsBadStore, IsCall, IsOpening, IsUnopened, MayTell, Streams, TellsBad, TellsFault, TellsLine, status_of, store_marks, streams}
+use Rattle.session.specs.Sessions.{AnswersAll, AnswersForm, AnswersLoadCall, Call, EndsEarly, EndsSession, EndsWell, GoesOnOpened, GoesOnOver, HasLines, HasMoved, IsBadStore, IsCall, IsOldStore, IsOpening, IsUnopened, MayTell, Streams, TellsBad, TellsFault, TellsLine, status_of, store_marks, streams}
 use Rattle.session.specs.Words.{WordForm, Demo, Script, Load, TakesLines, form_of, opened_farm, word_form}
 use Rattle.session.proofs.KeeperLemmas.{over_risen}
 use Rattle.session.proofs.LoadLemmas.{called_load}
@@ -82,10 +82,11 @@ ends_early (Load n) status call early = inl early
 
 -- the arguments are invalid
 pub called_for_usage : (words : List (List ℕ)) (left : Option (List ℕ)) (r : ℕ) (written : Option (List ℕ)) (w : ℕ) (readings : Option (List ℕ)) (k : ℕ)
-    (says : WordForm → Farm → Type 0) (bad : WordForm → RecoverFault → Type 0) (same untouched : Type 0) (goes_on : Farm → List Exchange → Type 0) (holds : Farm → Type 0)
+    (says : WordForm → Farm → Type 0) (bad : WordForm → RecoverFault → Type 0) (same untouched : Type 0) (unmigrated : Farm → Type 0) (goes_on : Farm → List Exchange → Type 0)
+    (holds : Farm → Type 0)
     → same → form_of words ≡ None → Tells readings readings []
-    → IsCall words exit.WrongWords (streams left r written w readings k) (streams left r written w readings k) (idle []) says bad same untouched goes_on holds
-called_for_usage words left r written w readings k says bad same untouched goes_on holds kept none tells = record {
+    → IsCall words exit.WrongWords (streams left r written w readings k) (streams left r written w readings k) (idle []) says bad same untouched unmigrated goes_on holds
+called_for_usage words left r written w readings k says bad same untouched unmigrated goes_on holds kept none tells = record {
   moved = record { taken = Takes-none left; written = Adds-none written; readings = tells };
   session = inl (record { status_is = inl refl; still = refl; none_taken = refl; none_written = refl; none_read = refl; no_lines = refl; keeper_same = kept });
   spent = λ lines. unspent_idle exit.WrongWords (not_spent exit.WrongWords (omega arith));
@@ -94,10 +95,11 @@ called_for_usage words left r written w readings k says bad same untouched goes_
 
 -- memory ran out before the store was read
 pub called_for_memory : (words : List (List ℕ)) (left : Option (List ℕ)) (r : ℕ) (written : Option (List ℕ)) (w : ℕ) (readings : Option (List ℕ)) (k : ℕ)
-    (says : WordForm → Farm → Type 0) (bad : WordForm → RecoverFault → Type 0) (same untouched : Type 0) (goes_on : Farm → List Exchange → Type 0) (holds : Farm → Type 0)
+    (says : WordForm → Farm → Type 0) (bad : WordForm → RecoverFault → Type 0) (same untouched : Type 0) (unmigrated : Farm → Type 0) (goes_on : Farm → List Exchange → Type 0)
+    (holds : Farm → Type 0)
     → same → Tells readings readings []
-    → IsCall words exit.NoMemory (streams left r written w readings k) (streams left r written w readings k) (idle []) says bad same untouched goes_on holds
-called_for_memory words left r written w readings k says bad same untouched goes_on holds kept tells = record {
+    → IsCall words exit.NoMemory (streams left r written w readings k) (streams left r written w readings k) (idle []) says bad same untouched unmigrated goes_on holds
+called_for_memory words left r written w readings k says bad same untouched unmigrated goes_on holds kept tells = record {
   moved = record { taken = Takes-none left; written = Adds-none written; readings = tells };
   session = inl (record { status_is = inr refl; still = refl; none_taken = refl; none_written = refl; none_read = refl; no_lines = refl; keeper_same = kept });
   spent = λ lines. unspent_idle exit.NoMemory (not_spent exit.NoMemory (omega arith));
@@ -135,12 +137,14 @@ fault_low (fault.Bad why) status wrote told = may_low why status wrote told
 fault_low fault.NoMemory status wrote told = low_by status exit.NoMemory told.0 (omega arith)
 
 module _ (words : List (List ℕ)) (form : WordForm) (opened : ℕ) (says : WordForm → Farm → Type 0) (bad : WordForm → RecoverFault → Type 0) (untouched : Type 0)
-    (holds : Farm → Type 0) (formed : form_of words ≡ Some form) where
-  -- the opening went so far
-  part_opened : (call : Call) → call.readings ≡ opened ∷ [] → untouched ⊎ IsPartOpened (says form) holds form opened → untouched ⊎ IsOpening words call says holds
+    (unmigrated holds : Farm → Type 0) (formed : form_of words ≡ Some form) where
+  -- nothing was done, the rows weren't migrated, or the opening went so far
+  part_opened : (call : Call) → call.readings ≡ opened ∷ [] → untouched ⊎ (IsLeftOld (says form) unmigrated ⊎ IsPartOpened (says form) holds form opened)
+      → untouched ⊎ (IsOldStore words says unmigrated ⊎ IsOpening words call says holds)
   part_opened call reads (inl kept) = inl kept
-  part_opened call reads (inr part) =
-      inr (record {
+  part_opened call reads (inr (inl old)) = inr (inl (record { form = form; first = old.first; formed = formed; said = old.said; left_old = old.left_old }))
+  part_opened call reads (inr (inr part)) =
+      inr (inr (record {
         form = form;
         opened = opened;
         first = part.first;
@@ -150,18 +154,18 @@ module _ (words : List (List ℕ)) (form : WordForm) (opened : ℕ) (says : Word
         readings = reads;
         opening_legal = part.legal;
         held = part.held;
-      })
+      }))
 
   -- the store failed, or memory ran out
   unopened : (status : Status) (call : Call) → (status ≡ exit.StoreFailed) ⊎ (status ≡ exit.NoMemory) → call.taken ≡ [] → call.written ≡ [] → call.exchanges ≡ []
-      → call.readings ≡ opened ∷ [] → untouched ⊎ IsOpening words call says holds → IsUnopened words status call says untouched holds
+      → call.readings ≡ opened ∷ [] → untouched ⊎ (IsOldStore words says unmigrated ⊎ IsOpening words call says holds) → IsUnopened words status call says untouched unmigrated holds
   unopened status call is none silent lineless reads kept =
       record { status_is = is; reading = opened; readings = reads; none_taken = none; none_written = silent; no_lines = lineless; kept = kept }
 
   -- a row at fault was told, or memory ran out for it
   bad_told : (why : RecoverFault) (status : Status) (call : Call) (More : Type 0) → call.taken ≡ [] → call.exchanges ≡ [] → call.readings ≡ opened ∷ []
       → MayTell (TellsBad why status call.written) status call.written → bad form why → untouched
-      → IsUnopened words status call says untouched holds ⊎ (IsBadStore words status call bad untouched ⊎ More)
+      → IsUnopened words status call says untouched unmigrated holds ⊎ (IsBadStore words status call bad untouched ⊎ More)
   bad_told why status call More none lineless reads (inl told) is_bad kept = inr (inl (record {
     form = form;
     fault = why;
@@ -178,8 +182,8 @@ module _ (words : List (List ℕ)) (form : WordForm) (opened : ℕ) (says : Word
 
   -- how no farm was opened
   failed_session : (why : OpenFault) (status : Status) (call : Call) (More : Type 0) → call.taken ≡ [] → call.exchanges ≡ [] → call.readings ≡ opened ∷ []
-      → TellsFault why status call.written → HasFailed why (bad form) untouched (IsPartOpened (says form) holds form opened)
-      → IsUnopened words status call says untouched holds ⊎ (IsBadStore words status call bad untouched ⊎ More)
+      → TellsFault why status call.written → HasFailed why (bad form) untouched (IsLeftOld (says form) unmigrated) (IsPartOpened (says form) holds form opened)
+      → IsUnopened words status call says untouched unmigrated holds ⊎ (IsBadStore words status call bad untouched ⊎ More)
   failed_session fault.Store status call More none lineless reads told failed =
       inl (unopened status call (inl told.0) none told.1 lineless reads (part_opened call reads failed))
   failed_session (fault.Bad why) status call More none lineless reads told failed = bad_told why status call More none lineless reads told failed.0 failed.1
@@ -188,7 +192,7 @@ module _ (words : List (List ℕ)) (form : WordForm) (opened : ℕ) (says : Word
 
   -- it ends early by a fault of the store, a row at fault or memory alone
   failed_complete : (why : OpenFault) (status : Status) (call : Call) (risen : Type 0) → call.taken ≡ [] → TellsFault why status call.written → (is_of_store why ≡ true → risen)
-      → HasFailed why (bad form) untouched (IsPartOpened (says form) holds form opened) → ((why : RecoverFault) → bad form why → ⊥) → (risen → ⊥) → EndsEarly status call
+      → HasFailed why (bad form) untouched (IsLeftOld (says form) unmigrated) (IsPartOpened (says form) holds form opened) → ((why : RecoverFault) → bad form why → ⊥) → (risen → ⊥) → EndsEarly status call
   failed_complete fault.Store status call risen none told rises failed right unfailed = absurd (unfailed (rises refl))
   failed_complete (fault.Bad why) status call risen none told rises failed right unfailed = absurd (right why failed.0)
   failed_complete fault.NoMemory status call risen none told rises failed right unfailed = inr (told.0, none, told.1)
@@ -196,8 +200,8 @@ module _ (words : List (List ℕ)) (form : WordForm) (opened : ℕ) (says : Word
   pub called_failed : (why : OpenFault) (status : Status) (wrote : List ℕ) (left : Option (List ℕ)) (r : ℕ) (written written' : Option (List ℕ)) (w w' : ℕ)
       (readings readings' : Option (List ℕ)) (k k' : ℕ) (same : Type 0) (goes_on : Farm → List Exchange → Type 0)
       → Tells readings readings' (opened ∷ []) → Adds written written' wrote → TellsFault why status wrote
-      → HasFailed why (bad form) untouched (IsPartOpened (says form) holds form opened) → (is_of_store why ≡ true → HasRisen k k')
-      → IsCall words status (streams left r written w readings k) (streams left r written' w' readings' k') (told_call wrote (opened ∷ [])) says bad same untouched goes_on holds
+      → HasFailed why (bad form) untouched (IsLeftOld (says form) unmigrated) (IsPartOpened (says form) holds form opened) → (is_of_store why ≡ true → HasRisen k k')
+      → IsCall words status (streams left r written w readings k) (streams left r written' w' readings' k') (told_call wrote (opened ∷ [])) says bad same untouched unmigrated goes_on holds
   called_failed why status wrote left r written written' w w' readings readings' k k' same goes_on reads adds told failed rises =
       let call : Call = told_call wrote (opened ∷ []) in
       record {
@@ -279,7 +283,7 @@ opened_risen commits tells holds left faults given opened now f ts begins over =
 
 module _ {K : Type 0} (commits : Committing K) (tells : K → Type 0) (held left : K → Rows → Type 0) (faults : K → ℕ) (given middle now : K) (words : List (List ℕ))
     (status : Status) (opened : ℕ) (farm : Farm) (call : Call)
-    (before after : Streams) (mid : Option (List ℕ)) (says : WordForm → Farm → Type 0) (bad : WordForm → RecoverFault → Type 0) (same untouched : Type 0) (holds : Farm → Type 0)
+    (before after : Streams) (mid : Option (List ℕ)) (says : WordForm → Farm → Type 0) (bad : WordForm → RecoverFault → Type 0) (same untouched : Type 0) (unmigrated holds : Farm → Type 0)
     (begins : Continues tells faults given middle false)
     (recorded : HoldsFarm (tells middle) (held middle) (left middle) farm) (was : before.store_faults ≡ faults given) (is_now : after.store_faults ≡ faults now) where
   -- what the call began with, after the opening
@@ -290,7 +294,7 @@ module _ {K : Type 0} (commits : Committing K) (tells : K → Type 0) (held left
   called_session : (form : WordForm) → TakesLines form → form_of words ≡ Some form → IsOpened (says form) form opened farm → Tells before.readings mid (opened ∷ [])
       → AnswersAll status farm begun after call (λ ts. GoesOnOver commits tells held left faults farm ts middle now) holds
       → (status ≡ exit.ReadFailed → HasRisen before.read_faults after.read_faults) → (status ≡ exit.WriteFailed → HasRisen before.write_faults after.write_faults)
-      → IsCall words status before after (opened_call opened call) says bad same untouched (GoesOnOpened commits tells held left faults given now) holds
+      → IsCall words status before after (opened_call opened call) says bad same untouched unmigrated (GoesOnOpened commits tells held left faults given now) holds
   called_session form of_lines formed opening reads answered read write =
       let first : Farm = opened_farm form opening.first opened in
       let over : AnswersAll status first begun after call (λ ts. GoesOnOver commits tells held left faults first ts middle now) holds
@@ -340,11 +344,11 @@ module _ {K : Type 0} (commits : Committing K) (tells : K → Type 0) (held left
   pub called_opened : (form : WordForm) → form_of words ≡ Some form → IsOpened (says form) form opened farm → Tells before.readings mid (opened ∷ [])
       → AnswersForm form status farm begun after call (λ ts. GoesOnOver commits tells held left faults farm ts middle now) holds
       → (status ≡ exit.ReadFailed → HasRisen before.read_faults after.read_faults) → (status ≡ exit.WriteFailed → HasRisen before.write_faults after.write_faults)
-      → IsCall words status before after (opened_call opened call) says bad same untouched (GoesOnOpened commits tells held left faults given now) holds
+      → IsCall words status before after (opened_call opened call) says bad same untouched unmigrated (GoesOnOpened commits tells held left faults given now) holds
   called_opened Demo formed opening reads answered read write = called_session Demo tt formed opening reads answered read write
   called_opened (Script store) formed opening reads answered read write = called_session (Script store) tt formed opening reads answered read write
   called_opened (Load n) formed opening reads answered read write =
-      called_load words n status opened farm call before after mid (faults middle) says bad same untouched (GoesOnOpened commits tells held left faults given now) holds formed opening reads
+      called_load words n status opened farm call before after mid (faults middle) says bad same untouched unmigrated (GoesOnOpened commits tells held left faults given now) holds formed opening reads
       (begins.counted ∙ sym was) answered write
 
 -- a load moves nothing but its sink and the keeper

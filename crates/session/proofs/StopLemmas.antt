@@ -11,8 +11,11 @@ use Rattle.farm_types.specs.Run.{IsLegal, run_of}
 use Rattle.farm_types.specs.Step.{after}
 use Rattle.recorder.specs.Recording.{MayBe}
 use Rattle.recovery.specs.Recovered.{recovered}
-use Rattle.store_law.specs.Stored.{stored, stored_rows}
-use Rattle.session.specs.Stops.{IsOpenedAgain}
+use Rattle.farm_rows.specs.declared.head_row.TheConstants.{ROW_FORMAT}
+use Rattle.farm_rows.specs.Rows.{HasRowsIn}
+use Rattle.store_law.specs.Stored.{stored_in, stored_rows_in}
+use Rattle.session.specs.Opening.{AreOf}
+use Rattle.session.specs.Stops.{IsOpenedAgain, MayBeOld}
 use Rattle.session.specs.Words.{WordForm, opened_farm, opening_entries}
 
 -- each entry that is legal makes a farm of its kind
@@ -21,22 +24,29 @@ KeepRuns = (f : Farm) (es : List Entry) → IsKeptFarm f → IsLegal f es → Is
 
 -- ---- one farm
 
-opened_list : (f : Farm) (rows : Rows) (list : List Row) → ((list : List Row) → Lists list (stored f) → list ≡ stored_rows f) → recovered (stored_rows f) ≡ Ok f
-    → rows ≡ stored f → Lists list rows → recovered list ≡ Ok f
-opened_list f rows list only said is lists =
-    subst (λ (xs : List Row). recovered xs ≡ Ok f) (sym (only list (subst (Lists list) is lists))) said
+-- the rows of a farm in a format that it has are listed in order, and say the farm
+abbrev pub AreListed : Type 0
+AreListed = (format : ℕ) (f : Farm) (list : List Row) → IsKeptFarm f → HasRowsIn format f → Lists list (stored_in format f) → list ≡ stored_rows_in format f
 
-pub opened_again : KeepRuns → ((f : Farm) (list : List Row) → IsKeptFarm f → Lists list (stored f) → list ≡ stored_rows f)
-    → ((f : Farm) → IsKeptFarm f → recovered (stored_rows f) ≡ Ok f) → (f : Farm) (rows : Rows) (list : List Row) → IsKeptFarm f → MayBe f rows → Lists list rows
+abbrev pub SayFarms : Type 0
+SayFarms = (format : ℕ) (f : Farm) → IsKeptFarm f → HasRowsIn format f → recovered (stored_rows_in format f) ≡ Ok (record { farm = f; format = format })
+
+opened_list : AreListed → SayFarms → (format : ℕ) (f : Farm) (rows : Rows) (list : List Row) → IsKeptFarm f → HasRowsIn format f → rows ≡ stored_in format f → Lists list rows
+    → recovered list ≡ Ok (record { farm = f; format = format })
+opened_list only said format f rows list kept has is lists =
+    subst (λ (xs : List Row). recovered xs ≡ Ok (record { farm = f; format = format })) (sym (only format f list kept has (subst (Lists list) is lists))) (said format f kept has)
+
+pub opened_again : KeepRuns → AreListed → SayFarms → (f : Farm) (rows : Rows) (list : List Row) → IsKeptFarm f → MayBe f rows → Lists list rows
     → IsOpenedAgain f (recovered list)
-opened_again keeps only said f rows list kept (inl is) lists = inl (opened_list f rows list (λ xs. only f xs kept) (said f kept) is lists)
+opened_again keeps only said f rows list kept (inl is) lists = inl (opened_list only said ROW_FORMAT f rows list kept (inl refl) is lists)
 opened_again keeps only said f rows list kept (inr further) lists =
     let more : IsKeptFarm (after f further.entry) = keeps f (further.entry ∷ []) kept (further.legal, tt) in
-    inr (
-      further.entry,
-      further.legal,
-      opened_list (after f further.entry) rows list (λ xs. only (after f further.entry) xs more) (said (after f further.entry) more) further.rows_are lists,
-    )
+    inr (further.entry, further.legal, opened_list only said ROW_FORMAT (after f further.entry) rows list more (inl refl) further.rows_are lists)
+
+-- one whose rows of format 1 were to be migrated
+pub old_again : AreListed → SayFarms → (f : Farm) (rows : Rows) (list : List Row) → IsKeptFarm f → HasRowsIn 1 f → MayBeOld f rows → Lists list rows → AreOf list f
+old_again only said f rows list kept has (inl is) lists = (1, opened_list only said 1 f rows list kept has is lists)
+old_again only said f rows list kept has (inr is) lists = (ROW_FORMAT, opened_list only said ROW_FORMAT f rows list kept (inl refl) is lists)
 
 -- ---- a session
 

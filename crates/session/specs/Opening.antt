@@ -14,7 +14,12 @@ use Rattle.recorder.specs.declared.refusal.RecordFault.TheVariants as record_fau
 use Rattle.recorder.specs.Recording.{HasRecorded, Recording}
 use Rattle.recovery.specs.declared.fault.RecoverFault.TheVariants as recover_fault
 use Rattle.recovery.specs.declared.fault.RecoverFault.{RecoverFault}
+use Rattle.recovery.specs.declared.recovering.Recovered.{Recovered}
 use Rattle.recovery.specs.Recovered.{recovered}
+use Rattle.recovery.specs.Migration.{HasOldRows, HasRows}
+use Rattle.farm_rows.specs.declared.head_row.TheConstants.{ROW_FORMAT}
+use Rattle.farm_rows.specs.Recovery.{Said}
+use Rattle.farm_rows.specs.Rows.{HasRowsIn}
 use Rattle.session.specs.declared.opening.OpenFault.{OpenFault}
 use Rattle.session.specs.declared.opening.OpenFault.TheVariants as fault
 use Rattle.session.specs.declared.opening.Opening.{Opening}
@@ -29,9 +34,13 @@ MayOpen Demo held left = HasKept held left empty [] × ((rows : Rows) → held r
 MayOpen (Script store) held left = (rows : Rows) × HasKept held left rows []
 MayOpen (Load n) held left = HasKept held left empty [] × ((rows : Rows) → held rows → rows ≡ empty)
 
+-- the rows say the farm, in a format
+abbrev pub AreOf : List Row → Farm → Type 0
+AreOf list f = (format : ℕ) × (recovered list ≡ Ok (record { farm = f; format = format }))
+
 -- the rows that were held say the farm, or why there is none, where the keeper tells the truth
 abbrev pub Says : Type 0 → (Rows → Type 0) → Farm → Type 0
-Says tells held f = tells → (rows : Rows) → held rows → (list : List Row) → Lists list rows → recovered list ≡ Ok f
+Says tells held f = tells → (rows : Rows) → held rows → (list : List Row) → Lists list rows → AreOf list f
 
 abbrev pub SaysFault : Type 0 → (Rows → Type 0) → RecoverFault → Type 0
 SaysFault tells held why = tells → (rows : Rows) → held rows → (list : List Row) → Lists list rows → recovered list ≡ Err why
@@ -49,6 +58,13 @@ BeginsBad other tells held why = ⊥
 pub record IsUntouched (held left held_now left_now : Rows → Type 0) : Type 0 where
   pub held_still : Keeps held held_now
   pub left_still : Keeps left_now left
+
+-- A store of format 1 was to be migrated, and it wasn't: it holds the rows that it held, which are the farm's of that format, and a stop leaves these, or the
+-- farm's rows as they are written.
+pub record IsUnmigrated (held held_now left_now : Rows → Type 0) (f : Farm) : Type 0 where
+  pub of_format : HasRowsIn 1 f
+  pub held_still : Keeps held held_now
+  pub old_rows : HasOldRows held_now left_now f
 
 -- the keeper holds the farm, where it tells the truth
 abbrev pub HoldsFarm : Type 0 → (Rows → Type 0) → (Rows → Type 0) → Farm → Type 0
@@ -103,6 +119,12 @@ pub record IsOpened (says : Farm → Type 0) (form : WordForm) (moment : ℕ) (f
   pub legal : IsLegal first (opening_entries form moment)
   pub farm_is : farm ≡ opened_farm form first moment
 
+-- the rows of the farm that they say were to be migrated, and they weren't
+pub record IsLeftOld (says : Farm → Type 0) (unmigrated : Farm → Type 0) : Type 0 where
+  pub first : Farm
+  pub said : says first
+  pub left_old : unmigrated first
+
 -- it went so far: these entries are in the store
 pub record IsPartOpened (says holds : Farm → Type 0) (form : WordForm) (moment : ℕ) : Type 0 where
   pub first : Farm
@@ -124,19 +146,21 @@ IsLoadFault (fault.Bad why) bad failed = bad why × IsOfRow why
 IsLoadFault fault.NoMemory bad failed = Unit {0}
 
 -- rows were recovered as they say, unless memory ran out
-abbrev pub HasRecovered : Result Farm RecoverFault → Result Farm OpenFault → Type 0
-HasRecovered said (Ok f) = said ≡ Ok f
+abbrev pub HasRecovered : Result Said RecoverFault → Result Recovered OpenFault → Type 0
+HasRecovered said (Ok r) = said ≡ Ok (record { farm = r.farm; format = r.format })
 HasRecovered said (Err why) = IsLoadFault why (λ bad. said ≡ Err bad) ⊥
 
 -- the rows that a keeper held were loaded, and give this farm; or they weren't, or give none
-abbrev pub IsLoaded : Type 0 → (Rows → Type 0) → Result Farm OpenFault → Type 0
-IsLoaded tells held (Ok f) = (list : List Row) × (tells → (rows : Rows) → held rows → Lists list rows) × (recovered list ≡ Ok f)
+abbrev pub IsLoaded : Type 0 → (Rows → Type 0) → Result Recovered OpenFault → Type 0
+IsLoaded tells held (Ok r) =
+    (list : List Row) × (tells → (rows : Rows) → held rows → Lists list rows) × (recovered list ≡ Ok (record { farm = r.farm; format = r.format }))
 IsLoaded tells held (Err why) = IsLoadFault why (SaysFault tells held) (Unit {0})
 
--- why it wasn't: the store failed; or its rows say no farm, and it is as it was; or memory ran out
-abbrev pub HasFailed : OpenFault → (RecoverFault → Type 0) → Type 0 → Type 0 → Type 0
-HasFailed (fault.Bad why) bad untouched part = bad why × untouched × IsOfRow why
-HasFailed other bad untouched part = untouched ⊎ part
+-- why it wasn't: the store failed; or its rows say no farm, and it is as it was; or memory ran out. Else nothing was done on it, or it wasn't migrated, or a
+-- part of the opening is in it.
+abbrev pub HasFailed : OpenFault → (RecoverFault → Type 0) → Type 0 → Type 0 → Type 0 → Type 0
+HasFailed (fault.Bad why) bad untouched old part = bad why × untouched × IsOfRow why
+HasFailed other bad untouched old part = untouched ⊎ (old ⊎ part)
 
 -- A farm was opened, or not. The keeper's count of faults is one more where the store failed, and stands where it didn't; one that doesn't tell the truth
 -- never does again.
@@ -145,5 +169,25 @@ Opens tells held left faults form moment old (opening.Opened r) =
     IsOpened (BeginsWith form (tells r.keeper) (held old)) form moment r.farm × Continues tells faults old r.keeper false
 Opens tells held left faults form moment old (opening.Failed now why) =
     HasFailed why (BeginsBad form (tells now) (held old)) (tells now → IsUntouched (held old) (left old) (held now) (left now))
+    (IsLeftOld (BeginsWith form (tells now) (held old)) (λ f. tells now → IsUnmigrated (held old) (held now) (left now) f))
     (IsPartOpened (BeginsWith form (tells now) (held old)) (HoldsFarm (tells now) (held now) (left now)) form moment)
     × Continues tells faults old now (is_of_store why)
+
+-- ---- migration
+
+-- A keeper that had the farm's rows in this format has them in that in which rows are written; or the format is 1, the store failed or memory ran out, and
+-- one that had them has them still.
+abbrev pub MigratesFrom : ℕ → (holds left holds' left' : Rows → Type 0) → Farm → Result (Unit {0}) OpenFault → Type 0
+MigratesFrom format holds left holds' left' f (Ok done) = HasRows holds left format f → HasRows holds' left' ROW_FORMAT f
+MigratesFrom format holds left holds' left' f (Err why) = (format ≡ 1) × IsRecordFault why × (HasRows holds left 1 f → HasOldRows holds' left' f)
+
+-- the rows of format 1 weren't migrated
+abbrev pub StaysOld : {K : Type 0} → ℕ → (K → Type 0) → (K → Rows → Type 0) → (K → Rows → Type 0) → (K → ℕ) → Farm → K → Opening K → Type 0
+StaysOld format tells holds left faults f old (opening.Opened r) = ⊥
+StaysOld format tells holds left faults f old (opening.Failed now why) =
+    (format ≡ 1) × IsRecordFault why × (tells now → HasOldRows (holds now) (left now) f) × Continues tells faults old now (is_of_store why)
+
+-- the opening of a farm over a keeper that had its rows in a format was recorded, or a part of it; or these weren't migrated
+abbrev pub BeginsIn : {K : Type 0} → ℕ → (K → Type 0) → (K → Rows → Type 0) → (K → Rows → Type 0) → (K → ℕ) → WordForm → ℕ → Farm → K → Opening K → Type 0
+BeginsIn format tells holds left faults form moment f old result =
+    Begins tells holds left faults form moment (record { farm = f; keeper = old }) result ⊎ StaysOld format tells holds left faults f old result

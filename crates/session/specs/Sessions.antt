@@ -326,16 +326,24 @@ pub record IsUnstarted (status : Status) (before after : Streams) (call : Call) 
   pub no_lines : call.exchanges ≡ []
   pub keeper_same : same
 
+-- The rows of the store, which are of format 1, say a farm, and they were to be migrated, and weren't.
+pub record IsOldStore (words : List (List ℕ)) (says : WordForm → Farm → Type 0) (unmigrated : Farm → Type 0) : Type 0 where
+  pub form : WordForm
+  pub first : Farm
+  pub formed : form_of words ≡ Some form
+  pub said : says form first
+  pub left_old : unmigrated first
+
 -- The store failed or memory ran out in the opening, at the clock's one reading: nothing was taken or written.
 pub record IsUnopened (words : List (List ℕ)) (status : Status) (call : Call) (says : WordForm → Farm → Type 0) (untouched : Type 0)
-    (holds : Farm → Type 0) : Type 0 where
+    (unmigrated holds : Farm → Type 0) : Type 0 where
   pub status_is : (status ≡ exit.StoreFailed) ⊎ (status ≡ exit.NoMemory)
   pub reading : ℕ
   pub readings : call.readings ≡ reading ∷ []
   pub none_taken : call.taken ≡ []
   pub none_written : call.written ≡ []
   pub no_lines : call.exchanges ≡ []
-  pub kept : untouched ⊎ IsOpening words call says holds
+  pub kept : untouched ⊎ (IsOldStore words says unmigrated ⊎ IsOpening words call says holds)
 
 -- all of the line was written, or a write failed and a front of it was
 abbrev pub TellsLine : List ℕ → Status → List ℕ → Type 0
@@ -381,13 +389,15 @@ EndsWell (Load n) status call = EndsEarly status call ⊎ (status ≡ exit.Spent
 EndsWell other status call = EndsEarly status call
 
 -- A call for these arguments that answered this status. Of its keeper it is known which farm is said, or why none is, that it is the one that was handed
--- in, that its rows are as they were, how it went on line by line, or that it holds a farm. It was a session, a load, or none. But for a load, status 8
--- comes exactly where the bytes that one session takes are spent and no write failed. Where the arguments are valid and a farm is said, nothing but an I/O
--- error, a fault of the store and that limit ends the call early.
+-- in, that its rows are as they were, that they weren't migrated, how it went on line by line, or that it holds a farm. It was a session, a load, or none.
+-- But for a load, status 8 comes exactly where the bytes that one session takes are spent and no write failed. Where the arguments are valid and a farm is
+-- said, nothing but an I/O error, a fault of the store and that limit ends the call early.
 pub record IsCall (words : List (List ℕ)) (status : Status) (before after : Streams) (call : Call) (says : WordForm → Farm → Type 0)
-    (bad : WordForm → RecoverFault → Type 0) (same untouched : Type 0) (goes_on : Farm → List Exchange → Type 0) (holds : Farm → Type 0) : Type 0 where
+    (bad : WordForm → RecoverFault → Type 0) (same untouched : Type 0) (unmigrated : Farm → Type 0) (goes_on : Farm → List Exchange → Type 0)
+    (holds : Farm → Type 0) : Type 0 where
   pub moved : HasMoved before after call
-  pub session : IsUnstarted status before after call same ⊎ (IsUnopened words status call says untouched holds ⊎ (IsBadStore words status call bad untouched
+  pub session : IsUnstarted status before after call same ⊎ (IsUnopened words status call says untouched unmigrated holds
+      ⊎ (IsBadStore words status call bad untouched
       ⊎ (IsSession words status call after.unread before.store_faults after.store_faults says goes_on holds
       ⊎ IsLoadCall words status call before.store_faults after.store_faults says holds)))
   pub spent : is_load (form_of words) ≡ false → (status ≡ exit.Spent) ↔ ((length call.taken ≡ BYTE_LIMIT) × (status ≡ exit.WriteFailed → ⊥))

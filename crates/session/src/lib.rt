@@ -14,7 +14,8 @@ mod word_forms;
 mod words;
 
 pub use laws::{
-    stops_keep_acknowledged_lines, stops_keep_farms, store_marks_stand_at_failed_calls,
+    migrations_keep_farms, stops_keep_acknowledged_lines, stops_keep_farms,
+    store_marks_stand_at_failed_calls,
 };
 pub use program::run_program;
 pub use run::run_cuebot;

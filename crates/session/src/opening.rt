@@ -5,8 +5,11 @@ ghost use Rattle.farm_law.specs.DemoRun.{demo_entries};
 ghost use Rattle.farm_types.specs.Run.{IsLegal, IsLegalStep};
 ghost use Rattle.recorder.specs.Faults.{is_store_fault};
 ghost use Rattle.farm_keeper.specs.Keeping.{Continues, Keeps};
+ghost use Rattle.farm_rows.specs.Rows.{HasRowsIn};
+ghost use Rattle.recovery.specs.Migration.{HasRows};
 ghost use Rattle.recovery.specs.Recovered.{recovered};
-ghost use Rattle.session.specs.Opening.{Begins, GoesThrough, HasRecovered, IsLoaded, MayOpen, Opens, is_store_failure, of_keeper, of_record, of_recovery};
+ghost use Rattle.session.specs.Opening.{Begins, BeginsIn, GoesThrough, HasRecovered, IsLoaded, MayOpen, MigratesFrom, Opens};
+ghost use Rattle.session.specs.Opening.{is_store_failure, of_keeper, of_record, of_recovery};
 ghost use Rattle.farm_gen.specs.Load.{IsLoad, load_entries};
 ghost use Rattle.session.specs.Words.{IsScript, IsStated, IsWithin, opened_at, opened_entry, opening_entries, word_form};
 
@@ -15,9 +18,10 @@ use farm_core::Farm;
 use farm_gen::{demo_entries, load_entries, loads_are_runs};
 use farm_keeper::{Keeper, KeeperFault, Row};
 use farm_law::the_demonstration_is_a_run;
+use farm_rows::ROW_FORMAT;
 use farm_types::{Act, Entry};
 use recorder::{CommitRefusal, PlainRecorder, RecordFault};
-use recovery::{RecoverFault, recover, rows_recovered_are_the_farms};
+use recovery::{RecoverFault, Recovered, migrate, recover, rows_recovered_are_the_farms};
 use std::alloc::Global;
 
 /// Why no farm was opened: the store failed, the first of its rows at fault is this one, or memory ran out.
@@ -75,13 +79,63 @@ fn open_stored<K: Keeper>(alloc: Global, form: Form<'_>, keeper: K, moment: u64)
     rows_recovered_are_the_farms();
     let mut keeper = keeper;
     match load_farm(alloc, &mut keeper) {
-        Ok(farm) => begin(alloc, form, PlainRecorder::make(farm, keeper), moment),
+        Ok(recovered) => {
+            open_recovered(
+                alloc,
+                form,
+                keeper,
+                recovered.farm,
+                recovered.format,
+                moment,
+            )
+        }
         Err(fault) => Opening::Failed { keeper, fault },
     }
 }
 
-// The farm that the keeper's rows say.
-fn load_farm<K: Keeper>(alloc: Global, keeper: &mut K) -> Result<Farm, OpenFault>
+// Opens the farm of the keeper's rows, which are of that format. A store of an older format is migrated first.
+fn open_recovered<K: Keeper>(
+    alloc: Global,
+    form: Form<'_>,
+    keeper: K,
+    farm: Farm,
+    format: u64,
+    moment: u64,
+) -> Opening<K>
+    requires script { IsScript (word_form form) }
+    requires rows { HasRowsIn format farm }
+    requires kept { K.tells keeper → HasRows (K.holds keeper) (K.left keeper) format farm }
+    ensures { BeginsIn format K.tells K.holds K.left K.faults (word_form form.entry) moment farm keeper result }
+{
+    let mut keeper = keeper;
+    match migrated(alloc, &mut keeper, &farm, format) {
+        Ok(()) => begin(alloc, form, PlainRecorder::make(farm, keeper), moment),
+        Err(fault) => Opening::Failed { keeper, fault },
+    }
+}
+
+// Makes rows of format 1 those of the format in which rows are written.
+fn migrated<K: Keeper>(
+    alloc: Global,
+    keeper: &mut K,
+    farm: &Farm,
+    format: u64,
+) -> Result<(), OpenFault>
+    requires { HasRowsIn format farm.now }
+    ensures rows { MigratesFrom format (K.holds keeper.old) (K.left keeper.old) (K.holds keeper.new) (K.left keeper.new) farm.now result }
+    ensures keeper { Continues K.tells K.faults keeper.old keeper.new (is_store_failure result) }
+{
+    if format == ROW_FORMAT {
+        return Ok(());
+    }
+    match migrate(alloc, keeper, farm) {
+        Ok(()) => Ok(()),
+        Err(fault) => Err(of_keeper(fault)),
+    }
+}
+
+// The farm that the keeper's rows say, and their format.
+fn load_farm<K: Keeper>(alloc: Global, keeper: &mut K) -> Result<Recovered, OpenFault>
     ensures farm { IsLoaded (K.tells keeper.new) (K.holds keeper.old) result }
     ensures keeper { Continues K.tells K.faults keeper.old keeper.new (is_store_failure result) }
     ensures kept { Keeps (K.holds keeper.old) (K.holds keeper.new) }
@@ -93,12 +147,12 @@ fn load_farm<K: Keeper>(alloc: Global, keeper: &mut K) -> Result<Farm, OpenFault
     }
 }
 
-// The farm of these rows.
-fn recover_farm(alloc: Global, rows: &[Row]) -> Result<Farm, OpenFault>
+// The farm of these rows, and their format.
+fn recover_farm(alloc: Global, rows: &[Row]) -> Result<Recovered, OpenFault>
     ensures { HasRecovered (recovered rows.now) result }
 {
     match recover(alloc, rows) {
-        Ok(farm) => Ok(farm),
+        Ok(recovered) => Ok(recovered),
         Err(fault) => Err(of_recovery(fault)),
     }
 }

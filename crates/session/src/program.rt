@@ -2,7 +2,7 @@
 
 ghost use Rattle.std.specs.Prelude.{◌≡◌, ◌↔◌, None, Some};
 ghost use Rattle.fault_counts.specs.Counts.{HasRisen};
-ghost use Rattle.session.specs.Opening.{BeginsBad, BeginsWith, HoldsFarm, IsUntouched, MayOpen};
+ghost use Rattle.session.specs.Opening.{BeginsBad, BeginsWith, HoldsFarm, IsUnmigrated, IsUntouched, MayOpen};
 ghost use Rattle.session.specs.Hints.{HasTold, hint_of};
 ghost use Rattle.session.specs.Sessions.{Call, GoesOnOpened, IsCall, streams};
 ghost use Rattle.session.specs.Words.{WordForm, form_of};
@@ -45,6 +45,7 @@ pub fn run_program<S: Source, W: Sink, E: Sink, K: Keeper, C: Clock>(
         (streams (S.left source.new) (S.faults source.new) (W.written sink.new) (W.faults sink.new) (C.readings clock.new) (K.faults result.1)) call
         (λ form. BeginsWith form (K.tells result.1) (K.holds keeper)) (λ form. BeginsBad form (K.tells result.1) (K.holds keeper))
         (result.1 ≡ keeper) (K.tells result.1 → IsUntouched (K.holds keeper) (K.left keeper) (K.holds result.1) (K.left result.1))
+        (λ f. K.tells result.1 → IsUnmigrated (K.holds keeper) (K.holds result.1) (K.left result.1) f)
         (GoesOnOpened K.commits K.tells K.holds K.left K.faults keeper result.1) (HoldsFarm (K.tells result.1) (K.holds result.1) (K.left result.1)) }
 
     // A fault of the store, a failed read or a failed write is told only where the keeper's, the source's or the sink's count of faults rose in this call.

@@ -6,7 +6,7 @@ ghost use Rattle.cue_io.specs.Output.{Adds};
 ghost use Rattle.cue_io.specs.Reader.{new_reader};
 ghost use Rattle.farm_lines.specs.Reply.{bad_store_line};
 ghost use Rattle.farm_lines.specs.declared.limits.TheConstants.{LINE_LIMIT};
-ghost use Rattle.session.specs.Opening.{BeginsBad, BeginsWith, HoldsFarm, IsUntouched, MayOpen};
+ghost use Rattle.session.specs.Opening.{BeginsBad, BeginsWith, HoldsFarm, IsUnmigrated, IsUntouched, MayOpen};
 ghost use Rattle.session.specs.Sessions.{AnswersAll, AnswersForm, Call, GoesOnOpened, GoesOnOver, IsCall, MayTell, TellsBad, TellsFault, TellsLine};
 ghost use Rattle.session.specs.Sessions.{status_of, streams};
 ghost use Rattle.session.specs.Words.{IsWithin, WordForm, form_of, word_form};
@@ -60,6 +60,7 @@ pub fn run_cuebot<S: Source, W: Sink, K: Keeper, C: Clock>(
         (streams (S.left source.new) (S.faults source.new) (W.written sink.new) (W.faults sink.new) (C.readings clock.new) (K.faults result.1)) call
         (λ form. BeginsWith form (K.tells result.1) (K.holds keeper)) (λ form. BeginsBad form (K.tells result.1) (K.holds keeper))
         (result.1 ≡ keeper) (K.tells result.1 → IsUntouched (K.holds keeper) (K.left keeper) (K.holds result.1) (K.left result.1))
+        (λ f. K.tells result.1 → IsUnmigrated (K.holds keeper) (K.holds result.1) (K.left result.1) f)
         (GoesOnOpened K.commits K.tells K.holds K.left K.faults keeper result.1) (HoldsFarm (K.tells result.1) (K.holds result.1) (K.left result.1)) }
 
     // A fault of the store, a failed read or a failed write is told only where the keeper's, the source's or the sink's count of faults rose in this call.

@@ -101,6 +101,7 @@ cut_utf8 cut.Memory = IsUtf8-are_ascii (codes "memory") refl
 pub counted_back : (what : Counted) → counted_of (counted_word what) ≡ Some what
 counted_back counted.Shows = refl
 counted_back counted.Allocs = refl
+counted_back counted.Limits = refl
 counted_back counted.Hosts = refl
 counted_back counted.Boots = refl
 counted_back counted.Jobs = refl
@@ -111,6 +112,7 @@ counted_back counted.DependNumbers = refl
 pub counted_utf8 : (what : Counted) → IsUtf8 (counted_word what)
 counted_utf8 counted.Shows = IsUtf8-are_ascii (codes "shows") refl
 counted_utf8 counted.Allocs = IsUtf8-are_ascii (codes "allocs") refl
+counted_utf8 counted.Limits = IsUtf8-are_ascii (codes "limits") refl
 counted_utf8 counted.Hosts = IsUtf8-are_ascii (codes "hosts") refl
 counted_utf8 counted.Boots = IsUtf8-are_ascii (codes "boots") refl
 counted_utf8 counted.Jobs = IsUtf8-are_ascii (codes "jobs") refl

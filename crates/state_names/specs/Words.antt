@@ -63,6 +63,7 @@ cut_word cut.Memory = codes "memory"
 abbrev pub counted_word : Counted → List ℕ
 counted_word counted.Shows = codes "shows"
 counted_word counted.Allocs = codes "allocs"
+counted_word counted.Limits = codes "limits"
 counted_word counted.Hosts = codes "hosts"
 counted_word counted.Boots = codes "boots"
 counted_word counted.Jobs = codes "jobs"
@@ -129,13 +130,14 @@ abbrev pub counted_of : List ℕ → Option Counted
 counted_of word =
     if bytes_eq word (codes "shows") then Some counted.Shows
     else (if bytes_eq word (codes "allocs") then Some counted.Allocs
+    else (if bytes_eq word (codes "limits") then Some counted.Limits
     else (if bytes_eq word (codes "hosts") then Some counted.Hosts
     else (if bytes_eq word (codes "boots") then Some counted.Boots
     else (if bytes_eq word (codes "jobs") then Some counted.Jobs
     else (if bytes_eq word (codes "depends") then Some counted.Depends
     else (if bytes_eq word (codes "groups") then Some counted.Groups
     else (if bytes_eq word (codes "depend_numbers") then Some counted.DependNumbers
-    else None)))))))
+    else None))))))))
 
 -- the word of a field, of those that name something
 abbrev pub word_at : {X : Type 0} → (List ℕ → Option X) → List ℕ → Members → Result X Fault

@@ -133,6 +133,7 @@ impl Word for Counted {
         match word {
             "shows" => Some(Counted::Shows),
             "allocs" => Some(Counted::Allocs),
+            "limits" => Some(Counted::Limits),
             "hosts" => Some(Counted::Hosts),
             "boots" => Some(Counted::Boots),
             "jobs" => Some(Counted::Jobs),

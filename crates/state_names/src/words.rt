@@ -88,6 +88,7 @@ pub fn counted_word(what: Counted) -> &'static str
     match what {
         Counted::Shows => "shows",
         Counted::Allocs => "allocs",
+        Counted::Limits => "limits",
         Counted::Hosts => "hosts",
         Counted::Boots => "boots",
         Counted::Jobs => "jobs",

@@ -14,6 +14,7 @@ use Rattle.farm_rows.specs.declared.row_change.RowChange.{RowChange}
 use Rattle.farm_rows.specs.declared.row_change.RowChange.TheVariants as change
 use Rattle.farm_rows.specs.declared.row_key.RowKey.{RowKey}
 use Rattle.farm_rows.specs.Changes.{Differs, NamesExactly, change_key, is_key, is_named_by, row_at, row_key}
+use Rattle.farm_rows.specs.declared.head_row.TheConstants.{ROW_FORMAT}
 use Rattle.farm_rows.specs.Rows.{rows_of}
 use Rattle.farm_keeper.specs.declared.row.Row.{Row}
 use Rattle.farm_keeper.specs.Rows.{Key, NamesEachOnce, after, is_among, key_cmp, key_of, keys_of}
@@ -103,10 +104,10 @@ is_named cs n (change.Put r) at =
     (subst (Has (map key_of (puts_in cs))) (sym (pair_is r)) (has_map key_of (puts_in cs) (stored_row r) (put_named cs n r at)))
 is_named cs n (change.Delete gone) at = has_behind (map key_of (puts_in cs)) (deletes_in cs) (key_pair gone) (delete_named cs n gone at)
 
-has_among : (keys : List Key) (q : Key) → Has keys q → is_among keys q ≡ true
+pub has_among : (keys : List Key) (q : Key) → Has keys q → is_among keys q ≡ true
 has_among keys q h = any_has (eq_by_cmp key_cmp q) keys q h (pair_itself q q refl)
 
-among_has : (keys : List Key) (q : Key) → is_among keys q ≡ true → Has keys q
+pub among_has : (keys : List Key) (q : Key) → is_among keys q ≡ true → Has keys q
 among_has keys q h =
     let one = one_from_any (eq_by_cmp key_cmp q) keys h in
     subst (Has keys) (sym (same_pair q one.0 one.2)) one.1
@@ -162,14 +163,14 @@ each_once (change.Delete gone ∷ cs) once =
 
 module _ (f : Farm) (kept : IsKeptFarm f) where
   row_fits : (r : FarmRow) → Has (rows_of f) r → Fits r
-  row_fits r h = all_has Fits (rows_of f) r (fits_each f kept) h
+  row_fits r h = all_has Fits (rows_of f) r (fits_each ROW_FORMAT f kept (inl refl)) h
 
   -- each row is that of its key
   row_there : (r : FarmRow) → Has (rows_of f) r → row_at f (row_key r) ≡ Some r
   row_there r h =
       let found = there (row_at f (row_key r)) (has-row_at f r h) in
       let other = row_at-has f kept.record_kept (row_key r) found.0 found.1 in
-      let same = one_at (rows_of f) found.0 r (rows_rise f kept) other.0 h (sym (pair_is found.0) ∙ ap key_pair other.1 ∙ pair_is r) in
+      let same = one_at (rows_of f) found.0 r (rows_rise ROW_FORMAT f kept (inl refl)) other.0 h (sym (pair_is found.0) ∙ ap key_pair other.1 ∙ pair_is r) in
       found.1 ∙ ap Some same
 
   -- a key that has a row has an id of its own
@@ -182,19 +183,19 @@ module _ (f : Farm) (kept : IsKeptFarm f) where
 bytes_stay : (f g : Farm) (kept : IsKeptFarm f) (also : IsKeptFarm g) (q : Key) → ((k : RowKey) → key_pair k ≡ q → row_at g k ≡ row_at f k) → (text : List ℕ) → get (stored f) q ≡ Some text
     → get (stored g) q ≡ Some text
 bytes_stay f g kept also q stay text at =
-    let got = got_row f q text at in
+    let got = got_row ROW_FORMAT f q text at in
     let r = got.0 in
     let is = got.1 in
     let there = stay (row_key r) (pair_is r ∙ is.1) ∙ row_there f kept r is.0 in
     let has = row_at-has g also.record_kept (row_key r) r there in
-    ap (get (stored g)) (sym is.1) ∙ get_row g also r has.0 ∙ ap (λ (bytes : List ℕ). Some bytes) is.2
+    ap (get (stored g)) (sym is.1) ∙ get_row ROW_FORMAT g also (inl refl) r has.0 ∙ ap (λ (bytes : List ℕ). Some bytes) is.2
 
-same_options : {X : Type 0} (o p : Option X) → ((x : X) → o ≡ Some x → p ≡ Some x) → ((x : X) → p ≡ Some x → o ≡ Some x) → o ≡ p
+pub same_options : {X : Type 0} (o p : Option X) → ((x : X) → o ≡ Some x → p ≡ Some x) → ((x : X) → p ≡ Some x → o ≡ Some x) → o ≡ p
 same_options None None to from = refl
 same_options None (Some x) to from = from x refl
 same_options (Some x) p to from = sym (to x refl)
 
-contains : {X : Type 0} (xs : List X) (x : X) → Has xs x → Contains xs x
+pub contains : {X : Type 0} (xs : List X) (x : X) → Has xs x → Contains xs x
 contains xs x h =
     let at = place_of xs x h in
     (at.0, slice_get_within xs at.0 x at.1, get_or_from_slice_get xs at.0 x x at.1)
@@ -240,12 +241,12 @@ module _ (f g : Farm) (cs : List RowChange) (kept : IsKeptFarm f) (also : IsKept
       let has = row_at-has g also.record_kept (row_key r) r (exact.each put.0 (change.Put r) put.2).0 in
       ap (get (after (batch_of cs) (stored f))) (sym pair)
       ∙ after-put (batch_of cs) (stored f) (stored_row r) named_once (contains (puts_in cs) (stored_row r) (put_named cs put.0 r put.2))
-      ∙ sym (get_row g also r has.0) ∙ ap (get (stored g)) pair
+      ∙ sym (get_row ROW_FORMAT g also (inl refl) r has.0) ∙ ap (get (stored g)) pair
 
   none_left : (q : Key) (gone : RowKey) → key_pair gone ≡ q → HasId gone → row_at g gone ≡ None → (o : Option (List ℕ)) → get (stored g) q ≡ o → None ≡ o
   none_left q gone pair has_id none None is = refl
   none_left q gone pair has_id none (Some text) is =
-      let got = got_row g q text is in
+      let got = got_row ROW_FORMAT g q text is in
       let r = got.0 in
       let key = same_key (row_key r) gone (row_has_id r (row_fits g also r got.1.0)) has_id (pair_is r ∙ got.1.1 ∙ sym pair) in
       absurd (none-some r (sym none ∙ ap (row_at g) (sym key) ∙ row_there g also r got.1.0))
@@ -266,4 +267,4 @@ module _ (f g : Farm) (cs : List RowChange) (kept : IsKeptFarm f) (also : IsKept
 
 -- farms whose stores have the same rows are one
 pub farms_differ : (f g : Farm) → IsKeptFarm f → IsKeptFarm g → stored f ≡ stored g → f ≡ g
-farms_differ f g kept also same = one_farm f g kept also (fits_each f kept) (fits_each g also) same
+farms_differ f g kept also same = one_farm f g kept also (fits_each ROW_FORMAT f kept (inl refl)) (fits_each ROW_FORMAT g also (inl refl)) same

@@ -13,7 +13,8 @@ use Rattle.farm_types.specs.declared.states.FrameState.{FrameState}
 use Rattle.farm_types.specs.declared.states.FrameState.TheVariants as frame_state
 use Rattle.farm_types.specs.Formed.{is_layer_name}
 use Rattle.farm_types.specs.Forms.{is_between, is_command_text, is_name_or_empty, is_name_text, is_tag_text}
-use Rattle.farm_types.specs.Kept.{are_tags, for_any, is_formed_end, is_formed_host, is_formed_job, is_formed_layer, is_given, is_number_named}
+use Rattle.farm_types.specs.Farm.{for_any}
+use Rattle.farm_types.specs.Kept.{are_tags, is_formed_end, is_formed_host, is_formed_job, is_formed_layer, is_given, is_number_named}
 use Rattle.farm_types.specs.Ranges.{is_range_text}
 use Rattle.farm_types.proofs.Lists.{and_both}
 use Rattle.farm_types.proofs.Utf8.{ascii_utf8, name_utf8, tag_utf8}

@@ -32,7 +32,8 @@ key_from p =
     else (if p.0 == 7 then key.Layer (p.1 / LAYER_IDS) (p.1 % LAYER_IDS)
     else (if p.0 == 8 then key.Frame p.1
     else (if p.0 == 9 then key.Depend p.1
-    else key.Met (p.1 / GROUP_IDS) (p.1 % GROUP_IDS)))))))))
+    else (if p.0 == 10 then key.Met (p.1 / GROUP_IDS) (p.1 % GROUP_IDS)
+    else key.Limit p.1)))))))))
 
 layer_number : (job place : ℕ) → place < LAYER_IDS → (LAYER_IDS * job + place) / LAYER_IDS ≡ job
 layer_number job place h = omega (arith, h)
@@ -57,6 +58,7 @@ key_back (key.Layer job place) h = λ i. key.Layer (layer_number job place h i) 
 key_back (key.Frame slot) h = refl
 key_back (key.Depend depend) h = refl
 key_back (key.Met depend position) h = λ i. key.Met (group_number depend position h i) (group_place depend position h i)
+key_back (key.Limit limit) h = refl
 
 -- keys with ids of their own that make one pair are one
 pub same_key : (a b : RowKey) → HasId a → HasId b → key_pair a ≡ key_pair b → a ≡ b
@@ -75,6 +77,7 @@ pair_is (row.Layer r) = refl
 pair_is (row.Frame r) = refl
 pair_is (row.Depend r) = refl
 pair_is (row.Met r) = refl
+pair_is (row.Limit limit r) = refl
 
 pub row_has_id : (r : FarmRow) → Fits r → HasId (row_key r)
 row_has_id (row.Head head) h = tt
@@ -87,3 +90,4 @@ row_has_id (row.Layer r) h = h.place
 row_has_id (row.Frame r) h = tt
 row_has_id (row.Depend r) h = tt
 row_has_id (row.Met r) h = h.1
+row_has_id (row.Limit limit r) h = tt

@@ -3,6 +3,7 @@ pub mod FieldsFit
 pub mod InOrder
 pub mod Keys
 pub mod Members
+pub mod Migrations
 pub mod RangesFit
 pub mod RowsFit
 pub mod RowsThere

@@ -1,7 +1,7 @@
 -- Members of lists.
-use Rattle.std.proofs.Common.{◌≡◌, ℕ, suc, zero, Bool, true, false, cond, ◌||◌, List, [], ◌∷◌, ◌++◌, map, Option, Some, None, refl, ap, subst, ◌∙◌, ◌⊎◌, inl, inr}
+use Rattle.std.proofs.Common.{◌≡◌, ℕ, suc, zero, Bool, true, false, cond, ◌||◌, List, [], ◌∷◌, ◌++◌, map, Option, Some, None, refl, ap, sym, subst, ◌∙◌, ◌⊎◌, inl, inr}
 use Rattle.std.specs.Prelude.{is_some}
-use Rattle.std.specs.List.{AllByRecursion, find, list_any, slice_get}
+use Rattle.std.specs.List.{AllByRecursion, filter, find, list_any, slice_get}
 use Rattle.std.proofs.lemmas.Bool.{false≢true, or_left, or_right}
 use Rattle.std.proofs.lemmas.Option.{none-some, same_Some}
 
@@ -88,6 +88,28 @@ module _ {X : Type 0} where
   pub one_from_any : (test : X → Bool) (xs : List X) → list_any test xs ≡ true → OneOf test xs
   one_from_any test [] h = absurd (false≢true h)
   one_from_any test (y ∷ ys) h = any_step test (test y) y ys refl (one_from_any test ys) h
+
+module _ {X : Type 0} (keep : X → Bool) where
+  kept_step : (b : Bool) (y x : X) (ys kept : List X) → keep y ≡ b → (Has kept x → Has ys x × (keep x ≡ true)) → Has (cond b (y ∷ kept) kept) x → Has (y ∷ ys) x × (keep x ≡ true)
+  kept_step true y x ys kept is later (inl here) = (inl here, ap keep (sym here) ∙ is)
+  kept_step true y x ys kept is later (inr h) = let rest = later h in (inr rest.0, rest.1)
+  kept_step false y x ys kept is later h = let rest = later h in (inr rest.0, rest.1)
+
+  -- an item that stayed was there, and passes
+  pub kept_has : (xs : List X) (x : X) → Has (filter keep xs) x → Has xs x × (keep x ≡ true)
+  kept_has [] x h = absurd h
+  kept_has (y ∷ ys) x h = kept_step (keep y) y x ys (filter keep ys) refl (kept_has ys x) h
+
+  has_step : (b : Bool) (y x : X) (ys kept : List X) → keep y ≡ b → keep x ≡ true → (Has ys x → Has kept x) → Has (y ∷ ys) x → Has (cond b (y ∷ kept) kept) x
+  has_step true y x ys kept is passes later (inl here) = inl here
+  has_step true y x ys kept is passes later (inr h) = inr (later h)
+  has_step false y x ys kept is passes later (inl here) = absurd (false≢true (sym is ∙ (ap keep here ∙ passes)))
+  has_step false y x ys kept is passes later (inr h) = later h
+
+  -- an item that passes stays
+  pub has_kept : (xs : List X) (x : X) → keep x ≡ true → Has xs x → Has (filter keep xs) x
+  has_kept [] x passes h = absurd h
+  has_kept (y ∷ ys) x passes h = has_step (keep y) y x ys (filter keep ys) refl passes (has_kept ys x passes) h
 
 pub has_map : {X Y : Type 0} (make : X → Y) (xs : List X) (x : X) → Has xs x → Has (map make xs) (make x)
 has_map make [] x h = absurd h

@@ -1,5 +1,6 @@
 -- Each row of a farm is one that the types of rows hold.
-use Rattle.std.proofs.Common.{◌≡◌, ◌<◌, ◌^◌, ◌*◌, ℕ, ◌/◌, ◌%◌, ◌&&◌, Bool, true, false, not, eqb, leb, ltb, List, length, Option, Some, None, ap, sym, subst, ◌∙◌, arith, option_map}
+use Rattle.std.proofs.Common.{◌≡◌, ◌<◌, ◌^◌, ◌*◌, ℕ, ◌/◌, ◌%◌, ◌&&◌, Bool, true, false, not, eqb, leb, ltb, List, length, Option, Some, None, ap, sym, subst, ◌∙◌, arith, option_map, ◌⊎◌, inl, inr, ◌≤◌, refl}
+use Rattle.std.specs.Prelude.{IfSome}
 use Rattle.std.specs.List.{All, AllByRecursion, list_all, slice_get}
 use Rattle.std.specs.Ordering.{int_eq}
 use Rattle.std.proofs.lemmas.Bool.{eqb-true, leb-true, ltb-true}
@@ -9,21 +10,22 @@ use Rattle.std.proofs.lemmas.Option.{slice_get_within}
 use Rattle.farm_types.specs.declared.attempt.ProcRow.{ProcRow}
 use Rattle.farm_types.specs.declared.depend.DependRow.{DependRow}
 use Rattle.farm_types.specs.declared.depend.MetRow.{MetRow}
-use Rattle.farm_types.specs.declared.limits.TheConstants.{LAST_VERSION, MOST_ALLOCS, MOST_BURST, MOST_FRAMES, MOST_LAYERS, MOST_RETRIES, SUB_NUMBERS}
+use Rattle.farm_types.specs.declared.limits.TheConstants.{LAST_VERSION, MOST_ALLOCS, MOST_BURST, MOST_FRAMES, MOST_LAYERS, MOST_LIMITS, MOST_RETRIES, MOST_RUNNING, SUB_NUMBERS}
 use Rattle.farm_types.specs.declared.rows.AllocRow.{AllocRow}
 use Rattle.farm_types.specs.declared.rows.HostRow.{HostRow}
 use Rattle.farm_types.specs.declared.rows.JobRow.{JobRow}
 use Rattle.farm_types.specs.declared.rows.LayerRow.{LayerRow}
+use Rattle.farm_types.specs.declared.rows.LimitRow.{LimitRow}
 use Rattle.farm_types.specs.declared.rows.ShowRow.{ShowRow}
 use Rattle.farm_types.specs.declared.rows.SubRow.{SubRow}
 use Rattle.farm_types.specs.declared.slot_row.Frame.{Frame}
 use Rattle.farm_types.specs.declared.slot_row.SlotRow.{SlotRow}
 use Rattle.farm_types.specs.Booking.{is_pending, is_up}
 use Rattle.farm_types.specs.Depends.{groups_of}
-use Rattle.farm_types.specs.Farm.{Farm, for_some}
+use Rattle.farm_types.specs.Farm.{Farm, for_some, for_any, layer_in}
 use Rattle.farm_types.specs.Formed.{names_frame, names_layer, names_target_frame, names_target_layer}
-use Rattle.farm_types.specs.Forms.{is_command_byte, is_tag_text}
-use Rattle.farm_types.specs.Kept.{IsKeptFarm, for_any, has_its_counts, has_its_finish, is_end_there, is_formed_alloc, is_formed_depend, is_formed_end, is_formed_host, is_formed_job, is_formed_layer, is_formed_show, is_kept_depend, is_kept_frame, is_kept_slot, is_kept_sub, is_on_host, is_setup, layer_in}
+use Rattle.farm_types.specs.Forms.{is_command_byte, is_name_text, is_tag_text}
+use Rattle.farm_types.specs.Kept.{IsKeptFarm, has_its_counts, has_its_finish, has_its_limit, is_end_there, is_formed_alloc, is_formed_depend, is_formed_end, is_formed_host, is_formed_job, is_formed_layer, is_formed_limit, is_formed_show, is_kept_depend, is_kept_frame, is_kept_slot, is_kept_sub, is_on_host, is_setup}
 use Rattle.farm_types.specs.Ranges.{range_numbers}
 use Rattle.farm_types.specs.Rising.{depend_key, job_key, layer_key, sub_key}
 use Rattle.farm_types.proofs.Lists.{and_both, for_some_true, found_is, list_all-at}
@@ -32,11 +34,13 @@ use Rattle.farm_types.proofs.Utf8.{name_utf8, tag_utf8}
 use Rattle.farm_law.proofs.KeptJobsLists.{rising_below}
 use Rattle.depend_law.proofs.Waiters.{depend_holds, group_key}
 use Rattle.farm_rows.specs.declared.farm_row.FarmRow.TheVariants as row
-use Rattle.farm_rows.specs.Rows.{frame_row, head_row, is_unused, rows_of, stored_frame}
+use Rattle.farm_rows.specs.declared.farm_row.FarmRow.{FarmRow}
+use Rattle.farm_rows.specs.declared.head_row.TheConstants.{ROW_FORMAT}
+use Rattle.farm_rows.specs.Rows.{HasRowsIn, frame_row, head_in, is_unused, rows_in, stored_frame}
 use Rattle.recovery_law.proofs.SaidDepends.{other_by}
 use Rattle.recovery_law.proofs.SaidEnd.{settled_at}
 use Rattle.recovery_law.proofs.SaidMet.{mark_of, rows_are}
-use Rattle.row_codec.specs.RowLaws.{DependFits, Fits, FrameFits, HeadFits, IsSigned, JobFits, LayerFits, SlotFits, StoredFits, SubFits}
+use Rattle.row_codec.specs.RowLaws.{DependFits, Fits, FitsIn, FrameFits, HasNoLimit, HeadFits, IsSigned, JobFits, LayerFits, SlotFits, StoredFits, SubFits}
 use Rattle.store_law.proofs.Members.{all_from_has, has_found, place_of}
 use Rattle.store_law.proofs.RangesFit.{range_signed}
 use Rattle.store_law.proofs.RowsThere.{EachKind, each_recorded, recorded_has}
@@ -44,12 +48,26 @@ use Rattle.store_law.proofs.FieldsFit.{HostParts, LayerParts, ProcFits, are_text
 
 -- ---- rows, kind by kind
 
-module _ (f : Farm) (k : IsKeptFarm f) where
-  head_fits : HeadFits (head_row f)
+-- both formats are numbers of 64 bits
+format_fits : (format : ℕ) (f : Farm) → HasRowsIn format f → format < 2 ^ 64
+format_fits format f (inl same) = omega (arith, same)
+format_fits format f (inr old) = omega (arith, old.0)
+
+-- a layer of a farm without limits has none
+no_limit : (o : Option ℕ) (count : ℕ) → count ≡ 0 → for_any o (λ limit. ltb limit count) ≡ true → o ≡ None
+no_limit None count none has = refl
+no_limit (Some limit) count none has = absurd (omega (arith, none, ltb-true limit count has))
+
+few_limits : (o : Option ℕ) (count : ℕ) → count ≤ MOST_LIMITS → for_any o (λ limit. ltb limit count) ≡ true → IfSome o (λ limit. limit < 2 ^ 8)
+few_limits None count few has = tt
+few_limits (Some limit) count few has = omega (arith, few, ltb-true limit count has)
+
+module _ (format : ℕ) (f : Farm) (k : IsKeptFarm f) (has : HasRowsIn format f) where
+  head_fits : HeadFits (head_in format f)
   head_fits =
       let jobs = k.rows.jobs in
       record {
-        format = omega arith;
+        format = format_fits format f has;
         moment = k.rows.moment_within;
         jobs = omega (arith, jobs.next_within);
         finishes = omega (arith, jobs.finish_within, jobs.next_within);
@@ -137,6 +155,7 @@ module _ (f : Farm) (k : IsKeptFarm f) where
         cores = omega (arith, parts.cores);
         memory = omega (arith, parts.memory);
         tags = are_texts 1 x.tags parts.tags;
+        limit = few_limits x.limit (length f.limits) k.rows.limits.count (list_all-at (has_its_limit (length f.limits)) f.layers n x k.rows.limits.there at);
       }
 
   -- ---- slots
@@ -209,7 +228,20 @@ module _ (f : Farm) (k : IsKeptFarm f) where
       subst (λ (m : MetRow). Fits (row.Met m)) mark.4
       (depend_within own.0 d own.2, omega (arith, rising_below group_key 0 (groups_of f d) MOST_FRAMES mark.1 mark.2 holds.rise mark.3))
 
-  each_fits : EachKind f Fits
+  -- ---- limits
+
+  limit_fits : (n : ℕ) (x : LimitRow) → slice_get f.limits n ≡ Some x → Fits (row.Limit n x)
+  limit_fits n x at =
+      let both = and_both (is_name_text x.name) (leb x.most MOST_RUNNING) (list_all-at is_formed_limit f.limits n x k.rows.limits.formed at) in
+      record {
+        limit = omega (arith, k.rows.limits.count, slice_get_within f.limits n x at);
+        name = name_utf8 x.name both.0;
+        most = omega (arith, leb-true x.most MOST_RUNNING both.1);
+      }
+
+  -- ---- all
+
+  each_fits : EachKind format f Fits
   each_fits =
       record {
         head = head_fits;
@@ -222,11 +254,41 @@ module _ (f : Farm) (k : IsKeptFarm f) where
         slots = slot_fits;
         depends = depend_fits;
         met = met_fits;
+        limits = limit_fits;
       }
 
-  pub fits_each : AllByRecursion Fits (rows_of f)
-  fits_each = all_from_has Fits (rows_of f) (λ r h. let made = recorded_has f r h in each_recorded f Fits each_fits r made.1)
+  pub fits_each : AllByRecursion Fits (rows_in format f)
+  fits_each = all_from_has Fits (rows_in format f) (λ r h. let made = recorded_has format f r h in each_recorded format f Fits each_fits r made.1)
 
--- each row of a farm is one that the types of rows hold
-pub fits_all : (f : Farm) → IsKeptFarm f → All Fits (rows_of f)
-fits_all f k = All-from_recursion Fits (rows_of f) (fits_each f k)
+  -- in format 1 there is no layer with a limit
+  abbrev IsOf : FarmRow → Type 0
+  IsOf r = (format ≡ ROW_FORMAT) ⊎ HasNoLimit r
+
+  layer_of : (n : ℕ) (x : LayerRow) → slice_get f.layers n ≡ Some x → HasRowsIn format f → IsOf (row.Layer x)
+  layer_of n x at (inl same) = inl same
+  layer_of n x at (inr old) = inr (no_limit x.limit (length f.limits) (ap length old.2) (list_all-at (has_its_limit (length f.limits)) f.layers n x k.rows.limits.there at))
+
+  each_of : EachKind format f IsOf
+  each_of =
+      record {
+        head = inr tt;
+        shows = λ n x at. inr tt;
+        allocs = λ n x at. inr tt;
+        subs = λ n x at. inr tt;
+        hosts = λ n x at. inr tt;
+        jobs = λ n x at. inr tt;
+        layers = λ n x at. layer_of n x at has;
+        slots = λ n s at used. inr tt;
+        depends = λ n x at. inr tt;
+        met = λ n x at. inr tt;
+        limits = λ n x at. inr tt;
+      }
+
+  fits_in : AllByRecursion (FitsIn format) (rows_in format f)
+  fits_in =
+      all_from_has (FitsIn format) (rows_in format f)
+      (λ r h. let made = recorded_has format f r h in (each_recorded format f Fits each_fits r made.1, each_recorded format f IsOf each_of r made.1))
+
+-- each row of a farm, in a format that it has, is one that the types of rows hold
+pub fits_all : (format : ℕ) (f : Farm) → IsKeptFarm f → HasRowsIn format f → All (FitsIn format) (rows_in format f)
+fits_all format f k has = All-from_recursion (FitsIn format) (rows_in format f) (fits_in format f k has)

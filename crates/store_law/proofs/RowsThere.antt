@@ -11,6 +11,7 @@ use Rattle.farm_types.specs.declared.rows.AllocRow.{AllocRow}
 use Rattle.farm_types.specs.declared.rows.HostRow.{HostRow}
 use Rattle.farm_types.specs.declared.rows.JobRow.{JobRow}
 use Rattle.farm_types.specs.declared.rows.LayerRow.{LayerRow}
+use Rattle.farm_types.specs.declared.rows.LimitRow.{LimitRow}
 use Rattle.farm_types.specs.declared.rows.ShowRow.{ShowRow}
 use Rattle.farm_types.specs.declared.rows.SubRow.{SubRow}
 use Rattle.farm_types.specs.declared.slot_row.SlotRow.{SlotRow}
@@ -23,8 +24,9 @@ use Rattle.farm_rows.specs.declared.farm_row.FarmRow.TheVariants as row
 use Rattle.farm_rows.specs.declared.row_key.RowKey.{RowKey}
 use Rattle.farm_rows.specs.declared.row_key.RowKey.TheVariants as key
 use Rattle.farm_rows.specs.Changes.{is_mark, row_at, row_key, used_row}
-use Rattle.farm_rows.specs.Rows.{frame_row, head_row, is_unused, numbered, recorded_rows, rows_of, slot_rows}
-use Rattle.recovery_law.proofs.RowKinds.{from_allocs, from_depends, from_hosts, from_jobs, from_layers, from_shows, from_slots, from_subs}
+use Rattle.farm_rows.specs.declared.head_row.TheConstants.{ROW_FORMAT}
+use Rattle.farm_rows.specs.Rows.{frame_row, head_in, head_row, is_unused, numbered, recorded_in, recorded_rows, rows_in, rows_of, slot_rows}
+use Rattle.recovery_law.proofs.RowKinds.{from_allocs, from_depends, from_hosts, from_jobs, from_layers, from_limits, from_met, from_shows, from_slots, from_subs}
 use Rattle.store_law.proofs.Members.{Has, any_has, has_at, has_behind, has_either, has_found, has_front, has_map, has_mapped, one_from_any, place_of, some_found}
 
 -- ---- rows that are numbered by their places
@@ -108,8 +110,8 @@ each_slot P ss each =
 -- ---- all rows
 
 -- a fact of the rows of each kind
-pub record EachKind (f : Farm) (P : FarmRow → Type 0) : Type 0 where
-  pub head : P (row.Head (head_row f))
+pub record EachKind (format : ℕ) (f : Farm) (P : FarmRow → Type 0) : Type 0 where
+  pub head : P (row.Head (head_in format f))
   pub shows : (n : ℕ) (x : ShowRow) → slice_get f.shows n ≡ Some x → P (row.Show n x)
   pub allocs : (n : ℕ) (x : AllocRow) → slice_get f.allocs n ≡ Some x → P (row.Alloc n x)
   pub subs : (n : ℕ) (x : SubRow) → slice_get f.subs n ≡ Some x → P (row.Sub x)
@@ -119,10 +121,14 @@ pub record EachKind (f : Farm) (P : FarmRow → Type 0) : Type 0 where
   pub slots : (n : ℕ) (s : SlotRow) → slice_get f.slots n ≡ Some s → is_unused s ≡ false → P (row.Frame (frame_row n s))
   pub depends : (n : ℕ) (x : DependRow) → slice_get f.depends n ≡ Some x → P (row.Depend x)
   pub met : (n : ℕ) (x : MetRow) → slice_get f.met n ≡ Some x → P (row.Met x)
+  pub limits : (n : ℕ) (x : LimitRow) → slice_get f.limits n ≡ Some x → P (row.Limit n x)
 
-module _ (f : Farm) (P : FarmRow → Type 0) (each : EachKind f P) (r : FarmRow) where
+module _ (format : ℕ) (f : Farm) (P : FarmRow → Type 0) (each : EachKind format f P) (r : FarmRow) where
+  of_met : Has (from_met f) r → P r
+  of_met = has_either (P r) (map row.Met f.met) (from_limits f) r (each_mapped row.Met P f.met each.met r) (each_numbered row.Limit P f.limits each.limits r)
+
   of_depends : Has (from_depends f) r → P r
-  of_depends = has_either (P r) (map row.Depend f.depends) (map row.Met f.met) r (each_mapped row.Depend P f.depends each.depends r) (each_mapped row.Met P f.met each.met r)
+  of_depends = has_either (P r) (map row.Depend f.depends) (from_met f) r (each_mapped row.Depend P f.depends each.depends r) of_met
 
   of_slots : Has (from_slots f) r → P r
   of_slots = has_either (P r) (slot_rows 0 f.slots) (from_depends f) r (each_slot P f.slots each.slots r) of_depends
@@ -146,7 +152,7 @@ module _ (f : Farm) (P : FarmRow → Type 0) (each : EachKind f P) (r : FarmRow)
   of_shows = has_either (P r) (numbered row.Show 0 f.shows) (from_allocs f) r (each_numbered row.Show P f.shows each.shows r) of_allocs
 
   -- holds of each row of the farm
-  pub each_recorded : Has (recorded_rows f) r → P r
+  pub each_recorded : Has (recorded_in format f) r → P r
   each_recorded (inl is) = subst P is each.head
   each_recorded (inr h) = of_shows h
 
@@ -155,8 +161,8 @@ flag_true true rows r h = (refl, h)
 flag_true false rows r h = absurd h
 
 -- a farm that has a row was made by an entry
-pub recorded_has : (f : Farm) (r : FarmRow) → Has (rows_of f) r → (f.recorded ≡ true) × Has (recorded_rows f) r
-recorded_has f r h = flag_true f.recorded (recorded_rows f) r h
+pub recorded_has : (format : ℕ) (f : Farm) (r : FarmRow) → Has (rows_in format f) r → (f.recorded ≡ true) × Has (recorded_in format f) r
+recorded_has format f r h = flag_true f.recorded (recorded_in format f) r h
 
 -- ---- the rows of a kind are among all
 
@@ -181,6 +187,12 @@ module _ (f : Farm) (r : FarmRow) where
 
   past_slots : Has (from_depends f) r → Has (recorded_rows f) r
   past_slots h = past_layers (has_behind (slot_rows 0 f.slots) (from_depends f) r h)
+
+  past_depends : Has (from_met f) r → Has (recorded_rows f) r
+  past_depends h = past_slots (has_behind (map row.Depend f.depends) (from_met f) r h)
+
+  past_met : Has (from_limits f) r → Has (recorded_rows f) r
+  past_met h = past_depends (has_behind (map row.Met f.met) (from_limits f) r h)
 
 -- ---- the row of a key is one of the farm's
 
@@ -246,15 +258,18 @@ row_of_key f (key.Frame slot) r at =
         subst (λ (m : ℕ). Has (slot_rows 0 ss) (row.Frame (frame_row m s))) from (slots_has 0 ss n s there used)
 row_of_key f (key.Depend depend) r at =
     found_made row.Depend (λ d. eqb d.depend depend) f.depends (IsRowOf f (key.Depend depend)) r
-    (λ x there is. (past_slots f (row.Depend x) (has_front (map row.Depend f.depends) (map row.Met f.met) (row.Depend x) (has_map row.Depend f.depends x there)), ap key.Depend (eqb-true x.depend depend is))) at
+    (λ x there is. (past_slots f (row.Depend x) (has_front (map row.Depend f.depends) (from_met f) (row.Depend x) (has_map row.Depend f.depends x there)), ap key.Depend (eqb-true x.depend depend is))) at
 row_of_key f (key.Met depend position) r at =
     let made = cond_some (list_any (is_mark depend position) f.met) (row.Met (record { depend = depend; position = position })) r at in
     let one = one_from_any (is_mark depend position) f.met made.0 in
     let mark = ap row.Met (mark_is depend position one.0 one.2) ∙ made.1 in
     subst (IsRowOf f (key.Met depend position)) mark (
-      past_slots f (row.Met one.0) (has_behind (map row.Depend f.depends) (map row.Met f.met) (row.Met one.0) (has_map row.Met f.met one.0 one.1)),
+      past_depends f (row.Met one.0) (has_front (map row.Met f.met) (from_limits f) (row.Met one.0) (has_map row.Met f.met one.0 one.1)),
       ap (λ (m : MetRow). row_key (row.Met m)) (mark_is depend position one.0 one.2),
     )
+row_of_key f (key.Limit limit) r at =
+    placed_made (row.Limit limit) f.limits limit (IsRowOf f (key.Limit limit)) r
+    (λ x there. (past_met f (row.Limit limit x) (has_numbered row.Limit f.limits limit x there), refl)) at
 
 none_at : (k : RowKey) → row_at empty_farm k ≡ None
 none_at key.Head = refl
@@ -267,6 +282,7 @@ none_at (key.Layer job place) = refl
 none_at (key.Frame slot) = refl
 none_at (key.Depend depend) = refl
 none_at (key.Met depend position) = refl
+none_at (key.Limit limit) = refl
 
 -- the row of a key is one of the farm's rows
 pub row_at-has : (f : Farm) → KeepsRecord f → (k : RowKey) (r : FarmRow) → row_at f k ≡ Some r → Has (rows_of f) r × (row_key r ≡ k)
@@ -296,7 +312,7 @@ some_used slot s false h = refl
 abbrev HasKey : Farm → FarmRow → Type 0
 HasKey f r = is_some (row_at f (row_key r)) ≡ true
 
-each_has_key : (f : Farm) → f.recorded ≡ true → EachKind f (HasKey f)
+each_has_key : (f : Farm) → f.recorded ≡ true → EachKind ROW_FORMAT f (HasKey f)
 each_has_key f is =
     record {
       head = some_if f.recorded (row.Head (head_row f)) is;
@@ -315,10 +331,11 @@ each_has_key f is =
       met = λ n x at.
           some_if (list_any (is_mark x.depend x.position) f.met) (row.Met x)
           (any_has (is_mark x.depend x.position) f.met x (has_at f.met n x at) (both_true (eq-eqb x.depend x.depend refl) (eq-eqb x.position x.position refl)));
+      limits = λ n x at. some_mapped (row.Limit n) (slice_get f.limits n) (some_there (slice_get f.limits n) x at);
     }
 
 -- the key of a row of the farm has a row
 pub has-row_at : (f : Farm) (r : FarmRow) → Has (rows_of f) r → is_some (row_at f (row_key r)) ≡ true
 has-row_at f r h =
-    let made = recorded_has f r h in
-    each_recorded f (HasKey f) (each_has_key f made.0) r made.1
+    let made = recorded_has ROW_FORMAT f r h in
+    each_recorded ROW_FORMAT f (HasKey f) (each_has_key f made.0) r made.1

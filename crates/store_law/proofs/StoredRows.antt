@@ -1,5 +1,5 @@
 -- What the store of a farm has at a kind and an id, and the list of its rows.
-use Rattle.std.proofs.Common.{◌≡◌, ℕ, Bool, true, false, cond, List, [], ◌∷◌, map, Option, Some, Less, Equal, Greater, refl, ap, sym, ◌∙◌, inl, inr, is_eq}
+use Rattle.std.proofs.Common.{◌≡◌, ℕ, Bool, true, false, cond, List, [], ◌∷◌, map, Option, Some, Less, Equal, Greater, refl, ap, sym, subst, ◌∙◌, inl, inr, is_eq}
 use Rattle.std.specs.Cmp.{eq_by_cmp_equiv}
 use Rattle.std.specs.FinMap.{entries, find, get, get-from_entries}
 use Rattle.std.specs.List.{AllByRecursion}
@@ -13,19 +13,20 @@ use Rattle.std.proofs.lemmas.Option.{none-some, same_Some}
 use Rattle.farm_types.specs.Farm.{Farm}
 use Rattle.farm_types.specs.Kept.{IsKeptFarm}
 use Rattle.farm_rows.specs.declared.farm_row.FarmRow.{FarmRow}
-use Rattle.farm_rows.specs.Recovery.{farm_said}
-use Rattle.farm_rows.specs.Rows.{rows_of}
+use Rattle.farm_rows.specs.declared.head_row.TheConstants.{ROW_FORMAT}
+use Rattle.farm_rows.specs.Recovery.{Said, farm_said}
+use Rattle.farm_rows.specs.Rows.{HasRowsIn, rows_in, rows_of}
 use Rattle.farm_keeper.specs.declared.row.Row.{Row}
 use Rattle.farm_keeper.specs.Rows.{Key, Lists, entry_of, key_cmp, rows_from}
 use Rattle.farm_keeper.proofs.RowLaws.{Lists-only, Lists-sorted, exact_key, key_total}
 use Rattle.recovery_law.proofs.Said.{rows_say}
-use Rattle.row_codec.specs.RowFields.{row_text}
+use Rattle.row_codec.specs.RowFields.{text_in}
 use Rattle.row_codec.specs.RowLaws.{Fits}
 use Rattle.row_codec.proofs.ReadBack.{spelled_once}
-use Rattle.store_law.proofs.InOrder.{pairs, rows_rise}
+use Rattle.store_law.proofs.InOrder.{pairs, pairs_in, rows_rise}
 use Rattle.store_law.proofs.Keys.{pair_of}
 use Rattle.store_law.proofs.Members.{Has}
-use Rattle.store_law.specs.Stored.{stored, stored_row, stored_rows}
+use Rattle.store_law.specs.Stored.{stored, stored_in, stored_row, stored_row_in, stored_rows, stored_rows_in}
 
 -- ---- kinds and ids that compare
 
@@ -58,7 +59,7 @@ has_later first [] r all h = absurd h
 has_later first (x ∷ xs) r all (inl is) = ap (λ (s : FarmRow). key_cmp first (pair_of s)) (sym is) ∙ all.0
 has_later first (x ∷ xs) r all (inr h) = has_later first xs r all.1 h
 
-behind_first : (x : FarmRow) (xs : List FarmRow) (r : FarmRow) → Rise (x ∷ xs) → Has xs r → key_cmp (pair_of x) (pair_of r) ≡ Less
+pub behind_first : (x : FarmRow) (xs : List FarmRow) (r : FarmRow) → Rise (x ∷ xs) → Has xs r → key_cmp (pair_of x) (pair_of r) ≡ Less
 behind_first x xs r rise h = has_later (pair_of x) xs r (sorted_head key_cmp (pair_of x) (pairs xs) rise) h
 
 -- two of them of one kind and id are one
@@ -71,9 +72,6 @@ one_at (x ∷ xs) r s rise (inr h) (inr g) same = one_at xs r s (sorted_tail key
 
 -- ---- what is found at a kind and an id
 
-abbrev found_in : List FarmRow → Key → Option (List ℕ)
-found_in rows key = find key_cmp key (map entry_of (map stored_row rows))
-
 first_found : (b : Bool) (text : List ℕ) (rest : Option (List ℕ)) → b ≡ true → cond b (Some text) rest ≡ Some text
 first_found true text rest h = refl
 first_found false text rest h = absurd (false≢true h)
@@ -82,52 +80,56 @@ later_found : (b : Bool) (text other : List ℕ) (rest : Option (List ℕ)) → 
 later_found true text other rest h at = absurd (false≢true (sym h))
 later_found false text other rest h at = at
 
-finds : (rows : List FarmRow) (r : FarmRow) → Rise rows → Has rows r → found_in rows (pair_of r) ≡ Some (row_text r)
-finds [] r rise h = absurd h
-finds (x ∷ xs) r rise (inl is) =
-    first_found (eq_by_cmp key_cmp (pair_of r) (pair_of x)) (row_text x) (found_in xs (pair_of r)) (pair_itself (pair_of r) (pair_of x) (ap pair_of (sym is)))
-    ∙ ap (λ (s : FarmRow). Some (row_text s)) is
-finds (x ∷ xs) r rise (inr h) =
-    later_found (eq_by_cmp key_cmp (pair_of r) (pair_of x)) (row_text r) (row_text x) (found_in xs (pair_of r))
-    (less_apart (pair_of x) (pair_of r) (behind_first x xs r rise h)) (finds xs r (sorted_tail key_cmp (pair_of x) (pairs xs) rise) h)
+module _ (format : ℕ) where
+  abbrev found_in : List FarmRow → Key → Option (List ℕ)
+  found_in rows key = find key_cmp key (map entry_of (map (stored_row_in format) rows))
 
--- the row of those bytes at a kind and an id
-abbrev pub IsRow : List FarmRow → Key → List ℕ → FarmRow → Type 0
-IsRow rows key text r = Has rows r × (pair_of r ≡ key) × (row_text r ≡ text)
+  finds : (rows : List FarmRow) (r : FarmRow) → Rise rows → Has rows r → found_in rows (pair_of r) ≡ Some (text_in format r)
+  finds [] r rise h = absurd h
+  finds (x ∷ xs) r rise (inl is) =
+      first_found (eq_by_cmp key_cmp (pair_of r) (pair_of x)) (text_in format x) (found_in xs (pair_of r)) (pair_itself (pair_of r) (pair_of x) (ap pair_of (sym is)))
+      ∙ ap (λ (s : FarmRow). Some (text_in format s)) is
+  finds (x ∷ xs) r rise (inr h) =
+      later_found (eq_by_cmp key_cmp (pair_of r) (pair_of x)) (text_in format r) (text_in format x) (found_in xs (pair_of r))
+      (less_apart (pair_of x) (pair_of r) (behind_first x xs r rise h)) (finds xs r (sorted_tail key_cmp (pair_of x) (pairs xs) rise) h)
 
-found_by : (x : FarmRow) (xs : List FarmRow) (key : Key) (text : List ℕ) (b : Bool) → eq_by_cmp key_cmp key (pair_of x) ≡ b
-    → (found_in xs key ≡ Some text → (r : FarmRow) × IsRow xs key text r) → cond b (Some (row_text x)) (found_in xs key) ≡ Some text → (r : FarmRow) × IsRow (x ∷ xs) key text r
-found_by x xs key text true is later at = (x, (inl refl, sym (same_pair key (pair_of x) is), same_Some (row_text x) text at))
-found_by x xs key text false is later at = let r = later at in (r.0, (inr r.1.0, r.1.1, r.1.2))
+  -- the row of those bytes at a kind and an id
+  abbrev pub IsRow : List FarmRow → Key → List ℕ → FarmRow → Type 0
+  IsRow rows key text r = Has rows r × (pair_of r ≡ key) × (text_in format r ≡ text)
 
-found : (rows : List FarmRow) (key : Key) (text : List ℕ) → found_in rows key ≡ Some text → (r : FarmRow) × IsRow rows key text r
-found [] key text at = absurd (none-some text at)
-found (x ∷ xs) key text at = found_by x xs key text (eq_by_cmp key_cmp key (pair_of x)) refl (found xs key text) at
+  found_by : (x : FarmRow) (xs : List FarmRow) (key : Key) (text : List ℕ) (b : Bool) → eq_by_cmp key_cmp key (pair_of x) ≡ b
+      → (found_in xs key ≡ Some text → (r : FarmRow) × IsRow xs key text r) → cond b (Some (text_in format x)) (found_in xs key) ≡ Some text → (r : FarmRow) × IsRow (x ∷ xs) key text r
+  found_by x xs key text true is later at = (x, (inl refl, sym (same_pair key (pair_of x) is), same_Some (text_in format x) text at))
+  found_by x xs key text false is later at = let r = later at in (r.0, (inr r.1.0, r.1.1, r.1.2))
+
+  found : (rows : List FarmRow) (key : Key) (text : List ℕ) → found_in rows key ≡ Some text → (r : FarmRow) × IsRow rows key text r
+  found [] key text at = absurd (none-some text at)
+  found (x ∷ xs) key text at = found_by x xs key text (eq_by_cmp key_cmp key (pair_of x)) refl (found xs key text) at
 
 -- ---- the store of a farm
 
-pub stored_is : (f : Farm) → rows_from (stored_rows f) ≡ stored f
-unfolding stored
-stored_is f = refl
+pub stored_is : (format : ℕ) (f : Farm) → rows_from (stored_rows_in format f) ≡ stored_in format f
+unfolding stored_in
+stored_is format f = refl
 
-get_found : (f : Farm) (key : Key) → get (stored f) key ≡ found_in (rows_of f) key
-unfolding stored
-get_found f key = get-from_entries key_total (map entry_of (stored_rows f)) key
+get_found : (format : ℕ) (f : Farm) (key : Key) → get (stored_in format f) key ≡ found_in format (rows_in format f) key
+unfolding stored_in
+get_found format f key = get-from_entries key_total (map entry_of (stored_rows_in format f)) key
 
-module _ (f : Farm) (kept : IsKeptFarm f) where
-  -- the store has the bytes of each row
-  pub get_row : (r : FarmRow) → Has (rows_of f) r → get (stored f) (pair_of r) ≡ Some (row_text r)
-  get_row r h = get_found f (pair_of r) ∙ finds (rows_of f) r (rows_rise f kept) h
-
-  pub listed : Lists (stored_rows f) (stored f)
-  listed = Lists-sorted (stored_rows f) (rows_rise f kept) ∙ ap entries (stored_is f)
+-- the store has the bytes of each row
+pub get_row : (format : ℕ) (f : Farm) → IsKeptFarm f → HasRowsIn format f → (r : FarmRow) → Has (rows_in format f) r → get (stored_in format f) (pair_of r) ≡ Some (text_in format r)
+get_row format f kept has r h = get_found format f (pair_of r) ∙ finds format (rows_in format f) r (rows_rise format f kept has) h
 
 -- what the store has is the bytes of a row
-pub got_row : (f : Farm) (key : Key) (text : List ℕ) → get (stored f) key ≡ Some text → (r : FarmRow) × IsRow (rows_of f) key text r
-got_row f key text at = found (rows_of f) key text (sym (get_found f key) ∙ at)
+pub got_row : (format : ℕ) (f : Farm) (key : Key) (text : List ℕ) → get (stored_in format f) key ≡ Some text → (r : FarmRow) × IsRow format (rows_in format f) key text r
+got_row format f key text at = found format (rows_in format f) key text (sym (get_found format f key) ∙ at)
 
-pub only_listed : (f : Farm) (list : List Row) → IsKeptFarm f → Lists list (stored f) → list ≡ stored_rows f
-only_listed f list kept lists = Lists-only list (stored_rows f) (stored f) lists (listed f kept)
+pub listed : (format : ℕ) (f : Farm) → IsKeptFarm f → HasRowsIn format f → Lists (stored_rows_in format f) (stored_in format f)
+listed format f kept has =
+    Lists-sorted (stored_rows_in format f) (subst (IsStrictlySortedBy key_cmp) (sym (pairs_in format (rows_in format f))) (rows_rise format f kept has)) ∙ ap entries (stored_is format f)
+
+pub only_listed : (format : ℕ) (f : Farm) (list : List Row) → IsKeptFarm f → HasRowsIn format f → Lists list (stored_in format f) → list ≡ stored_rows_in format f
+only_listed format f list kept has lists = Lists-only list (stored_rows_in format f) (stored_in format f) lists (listed format f kept has)
 
 -- ---- farms of one store
 
@@ -147,7 +149,7 @@ stored_same (r ∷ rs) [] fits also e = absurd (no_first (stored_row r) (map sto
 stored_same (r ∷ rs) (s ∷ ss) fits also e =
     let one : stored_row r ≡ stored_row s = head_same (stored_row r) (stored_row s) (map stored_row rs) (map stored_row ss) e in
     let more = stored_same rs ss fits.1 also.1 (tail_same (stored_row r) (stored_row s) (map stored_row rs) (map stored_row ss) e) in
-    let row = spelled_once r s fits.0 also.0 (ap (λ (x : Row). x.kind) one) (ap (λ (x : Row). x.id) one) (ap (λ (x : Row). x.bytes) one) in
+    let row = spelled_once ROW_FORMAT r s (fits.0, inl refl) (also.0, inl refl) (ap (λ (x : Row). x.kind) one) (ap (λ (x : Row). x.id) one) (ap (λ (x : Row). x.bytes) one) in
     λ i. row i ∷ more i
 
 ok_same : {X Y : Type 0} (x y : X) → ◌≡◌ {A = Result X Y} (Ok x) (Ok y) → x ≡ y
@@ -155,6 +157,7 @@ ok_same x y e = cc
 
 pub one_farm : (f g : Farm) → IsKeptFarm f → IsKeptFarm g → AllByRecursion Fits (rows_of f) → AllByRecursion Fits (rows_of g) → stored f ≡ stored g → f ≡ g
 one_farm f g kept also fits fit same =
-    let lists = only_listed g (stored_rows f) also (listed f kept ∙ ap entries same) in
+    let lists = only_listed ROW_FORMAT g (stored_rows f) also (inl refl) (listed ROW_FORMAT f kept (inl refl) ∙ ap entries same) in
     let rows = stored_same (rows_of f) (rows_of g) fits fit lists in
-    ok_same f g (sym (rows_say f kept) ∙ ap farm_said rows ∙ rows_say g also)
+    let one = ok_same (record { farm = f; format = ROW_FORMAT }) (record { farm = g; format = ROW_FORMAT }) (sym (rows_say f kept) ∙ ap farm_said rows ∙ rows_say g also) in
+    ap (λ (s : Said). s.farm) one

@@ -14,7 +14,7 @@ use Rattle.farm_types.specs.Farm.{Farm, for_some}
 use Rattle.farm_types.specs.Finish.{finishes}
 use Rattle.farm_types.specs.Kept.{EachThere, runs_unmet}
 use Rattle.farm_types.specs.Settle.{is_blocked, opens}
-use Rattle.farm_rows.specs.Recovery.{StoredKey, end_fault, first_depend, first_job, first_layer, first_slot, groups_so_far, head_ends, is_wrongly_marked, lacks_frames, lacks_slots}
+use Rattle.farm_rows.specs.Recovery.{StoredKey, end_fault, first_depend, first_job, first_layer, first_slot, groups_so_far, head_ends, is_wrongly_marked, lacks_frames, lacks_limit, lacks_slots}
 use Rattle.farm_rows.proofs.Faultless.{each_there, groups_alike, neither, none_told}
 use Rattle.stored_rows.specs.Told.{early_fault}
 use Rattle.stored_farm.specs.Ends.{first_flagged, first_stuck, first_wrong, goes_on, hangs, is_marked_in, is_marked_wrongly, is_set, lacks_mark, waits_unmarked, waits_unmet}
@@ -45,17 +45,21 @@ late_fault f = or_else (first_depend (is_wrongly_marked f) f.depends) (or_else (
 -- the faults of depends come last
 pub all_faults : (f : Farm) → end_fault f ≡ or_else (early_fault f) (late_fault f)
 all_faults f =
-    let a = head_ends f in
-    let b = first_job (lacks_frames f) f.jobs in
-    let c = first_layer (lacks_slots f) f.layers in
-    let d = first_job (finishes f.slots) f.jobs in
-    let e = late_fault f in
-    sym (or_assoc a (or_else b (or_else c d)) e ∙ ap (or_else a) (or_assoc b (or_else c d) e ∙ ap (or_else b) (or_assoc c d e)))
+    let a = first_layer (lacks_limit f) f.layers in
+    let b = head_ends f in
+    let c = first_job (lacks_frames f) f.jobs in
+    let d = first_layer (lacks_slots f) f.layers in
+    let e = first_job (finishes f.slots) f.jobs in
+    let late = late_fault f in
+    sym
+    (or_assoc a (or_else b (or_else c (or_else d e))) late
+    ∙ ap (or_else a) (or_assoc b (or_else c (or_else d e)) late ∙ ap (or_else b) (or_assoc c (or_else d e) late ∙ ap (or_else c) (or_assoc d e late))))
 
 -- all frames are there
 all_there : (f : Farm) → early_fault f ≡ None → EachThere f.layers f.slots
 all_there f e =
-    let head = neither (head_ends f) _ e in
+    let limits = neither (first_layer (lacks_limit f) f.layers) _ e in
+    let head = neither (head_ends f) _ limits.1 in
     let frames = neither (first_job (lacks_frames f) f.jobs) _ head.1 in
     let slots = neither (first_layer (lacks_slots f) f.layers) _ frames.1 in
     each_there f (none_told _ (lacks_slots f) f.layers slots.0)

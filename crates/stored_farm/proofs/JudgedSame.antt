@@ -17,11 +17,10 @@ use Rattle.farm_types.specs.Forms.{is_between}
 use Rattle.farm_types.specs.Kept.{is_formed_depend}
 use Rattle.farm_types.specs.Rising.{IsRising}
 use Rattle.farm_types.proofs.Lists.{and_both, for_some_true}
-use Rattle.farm_rows.specs.declared.farm_row.FarmRow.TheVariants as row
 use Rattle.farm_rows.specs.declared.ids.TheConstants.{GROUP_IDS}
-use Rattle.farm_rows.specs.Recovery.{end_is_there, groups_fit, groups_so_far, row_fits}
+use Rattle.farm_rows.specs.Recovery.{end_is_there, groups_fit, groups_so_far}
 use Rattle.stored_rows.specs.SoFar.{HasFewNumbers}
-use Rattle.stored_farm.specs.Judged.{groups_pass, has_its_forms, has_position, is_mark_among, passes, passes_unmet}
+use Rattle.stored_farm.specs.Judged.{groups_pass, has_its_forms, has_position, is_mark_among, passes, passes_unmet, takes_depend, takes_mark}
 use Rattle.stored_farm.specs.Kept.{groups_kept, with_depends}
 use Rattle.stored_farm.specs.Marks.{EachRises, position_key}
 use Rattle.stored_farm.proofs.Long.{length_of}
@@ -80,7 +79,7 @@ module _ (f : Farm) (k : HasFewNumbers f) (ds : List DependRow) (ms : List MetRo
     unmet_by true = refl
     unmet_by false = ap (λ (b : Bool). end_is_there f r.target && b) pass_is
 
-    pub depend_judged : passes f (length ds) left r (groups_kept f r) ≡ row_fits (with_depends f ds ms) (row.Depend r)
+    pub depend_judged : passes f (length ds) left r (groups_kept f r) ≡ takes_depend (with_depends f ds ms) r
     depend_judged =
         let numbered = is_between 1 (f.next_depend - 1) r.depend in
         let counted = ltb (length ds) MOST_DEPENDS in
@@ -98,7 +97,7 @@ module _ (f : Farm) (k : HasFewNumbers f) (ds : List DependRow) (ms : List MetRo
         let some = and_both (ltb 0 (length (groups_so_far f r))) _ alone.1 in
         leb-true (left + length (groups_so_far f r)) MOST_GROUPS some.1
 
-    pub room_for : left ≤ MOST_GROUPS → row_fits (with_depends f ds ms) (row.Depend r) ≡ true → left + length (groups_kept f r) ≤ MOST_GROUPS
+    pub room_for : left ≤ MOST_GROUPS → takes_depend (with_depends f ds ms) r ≡ true → left + length (groups_kept f r) ≤ MOST_GROUPS
     room_for few fits =
         let recorded = and_both f.recorded (has_its_forms f (length ds) r && passes_unmet f left r (groups_kept f r)) (depend_judged ∙ fits) in
         let unmet = and_both (has_its_forms f (length ds) r) (passes_unmet f left r (groups_kept f r)) recorded.1 in
@@ -119,7 +118,7 @@ module _ (f : Farm) (k : HasFewNumbers f) (ds : List DependRow) (ms : List MetRo
   has_by p d true = refl
   has_by p d false = ap (λ (gs : List Group). list_any (λ (g : Group). eqb g.position p) gs) (sym (so_far_beside f ds ms d))
 
-  pub mark_judged : (m : MetRow) → (f.recorded && is_mark_among ds (map (groups_kept f) ds) m) ≡ row_fits (with_depends f ds ms) (row.Met m)
+  pub mark_judged : (m : MetRow) → (f.recorded && is_mark_among ds (map (groups_kept f) ds) m) ≡ takes_mark (with_depends f ds ms) m
   mark_judged m =
       let wanted : DependRow → Bool = λ (d : DependRow). eqb d.depend m.depend in
       ap (λ (b : Bool). f.recorded && b)
@@ -140,7 +139,7 @@ module _ (f : Farm) (k : HasFewNumbers f) (ds : List DependRow) (ms : List MetRo
   each_rises = λ n gs at. record { high = MOST_FRAMES; rise = each_by (slice_get ds n) gs (sym (get_mapped ds n) ∙ at) }
 
   -- the mark's position is one of a frame
-  pub mark_below : (m : MetRow) → row_fits (with_depends f ds ms) (row.Met m) ≡ true → m.position < GROUP_IDS
+  pub mark_below : (m : MetRow) → takes_mark (with_depends f ds ms) m ≡ true → m.position < GROUP_IDS
   mark_below m fits =
       let wanted : DependRow → Bool = λ (d : DependRow). eqb d.depend m.depend in
       let both = and_both f.recorded (is_mark_among ds (map (groups_kept f) ds) m) (mark_judged m ∙ fits) in

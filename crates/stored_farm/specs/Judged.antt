@@ -9,7 +9,15 @@ use Rattle.farm_types.specs.DependActs.{waits_for_itself}
 use Rattle.farm_types.specs.Farm.{Farm, for_some}
 use Rattle.farm_types.specs.Forms.{is_between}
 use Rattle.farm_types.specs.Kept.{is_formed_depend}
-use Rattle.farm_rows.specs.Recovery.{end_is_there}
+use Rattle.farm_rows.specs.Recovery.{depend_fits, end_is_there, met_fits}
+
+-- ---- a depend's row, or a mark's, in a store of any format
+
+abbrev pub takes_depend : Farm → DependRow → Bool
+takes_depend f r = f.recorded && depend_fits f r
+
+abbrev pub takes_mark : Farm → MetRow → Bool
+takes_mark f m = f.recorded && met_fits f m
 
 -- ---- a depend, of which there are so many, with its groups, beside so many
 

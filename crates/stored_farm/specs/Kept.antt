@@ -34,10 +34,11 @@ has_own_id m = nat_lt m.position GROUP_IDS
 abbrev pub with_depends : Farm → List DependRow → List MetRow → Farm
 with_depends f depends met = record f { depends = depends; met = met }
 
--- A row of another kind comes before all depends, and where it may come, it may come after the last one of these kinds. Beside each depend that isn't
--- satisfied are its groups, and how many there are together.
+-- Where a row may come, it may come after the last one of the other kinds. A row of a kind before those of depends comes before all of them. Beside each
+-- depend that isn't satisfied are its groups, and how many there are together.
 pub record KeepsDepends (rows : Told) (last : Option StoredKey) (depends : List DependRow) (groups : List (List Group)) (met : List MetRow) (left : ℕ) : Type 0 where
-  pub early : (key : StoredKey) → key.0 ≤ 8 → comes_after last key ≡ true → (comes_after rows.last key ≡ true) × (depends ≡ [])
+  pub comes : (key : StoredKey) → key.0 ≤ 11 → comes_after last key ≡ true → comes_after rows.last key ≡ true
+  pub early : (key : StoredKey) → key.0 ≤ 8 → comes_after last key ≡ true → depends ≡ []
   pub depends_rise : Rises depend_key depends last 9
   pub met_rise : Rises met_id met last 10
   pub met_own : list_all has_own_id met ≡ true

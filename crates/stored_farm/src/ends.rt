@@ -162,7 +162,8 @@ pub(crate) fn unmet_flags(
 // Sets the flags of the frames that wait in the groups that aren't marked.
 fn set_unmarked(flags: &mut Vec<bool>, met: &[MetRow], depend: u32, groups: &[Group])
     requires { MarksRise met.now }
-    ensures flags { (slot : ℕ) → slot < length flags.old.items → is_set flags.new.items slot ≡ (is_set flags.old.items slot || waits_unmarked met.now depend groups.now slot) }
+    ensures flags { (slot : ℕ) → slot < length flags.old.items → is_set flags.new.items slot
+        ≡ (is_set flags.old.items slot || waits_unmarked met.now depend groups.now slot) }
     ensures count { length flags.new.items ≡ length flags.old.items }
 {
     for group in groups {
@@ -173,7 +174,8 @@ fn set_unmarked(flags: &mut Vec<bool>, met: &[MetRow], depend: u32, groups: &[Gr
 // Sets the flags of the group's waiting frames, if it isn't marked.
 fn set_waiters(flags: &mut Vec<bool>, met: &[MetRow], depend: u32, group: &Group)
     requires { MarksRise met.now }
-    ensures flags { (slot : ℕ) → slot < length flags.old.items → is_set flags.new.items slot ≡ (is_set flags.old.items slot || (not (is_marked_in met.now depend group.now) && waits_in slot group.now)) }
+    ensures flags { (slot : ℕ) → slot < length flags.old.items → is_set flags.new.items slot
+        ≡ (is_set flags.old.items slot || (not (is_marked_in met.now depend group.now) && waits_in slot group.now)) }
     ensures count { length flags.new.items ≡ length flags.old.items }
 {
     if is_marked(met, depend, group.position) {

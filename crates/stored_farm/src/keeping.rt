@@ -1,8 +1,9 @@
 //! Rows of depends and marks: whether they fit, and what is kept of them.
 
 ghost use Rattle.std.specs.Prelude.{◌≡◌, ◌&&◌, None, true, IfOk, OnOk};
-ghost use Rattle.farm_rows.specs.Recovery.{comes_after, end_fault, key_of, row_fits};
+ghost use Rattle.farm_rows.specs.Recovery.{comes_after, end_fault, key_of};
 ghost use Rattle.farm_rows.specs.declared.farm_row.FarmRow.TheVariants as row;
+ghost use Rattle.stored_farm.specs.Judged.{takes_depend, takes_mark};
 ghost use Rattle.stored_farm.specs.Kept.{groups_kept};
 ghost use Rattle.stored_rows.specs.Told.{early_fault, told_with};
 
@@ -35,7 +36,7 @@ impl StoredFarm {
         groups: &[Group],
     ) -> Result<bool, AllocError>
         requires { groups.now ≡ groups_kept self.now.farm depend.now }
-        ensures { IfOk result (λ fits. fits ≡ row_fits self.now.farm (row.Depend depend.now)) }
+        ensures { IfOk result (λ fits. fits ≡ takes_depend self.now.farm depend.now) }
     {
         self.rows.kept();
         let depends = self.depends.as_slice();
@@ -52,7 +53,7 @@ impl StoredFarm {
     ) -> Result<(), AllocError>
         requires next { comes_after self.old.last (9, depend.depend) ≡ true }
         requires groups { groups ≡ groups_kept self.old.farm depend }
-        requires fits { row_fits self.old.farm (row.Depend depend) ≡ true }
+        requires fits { takes_depend self.old.farm depend ≡ true }
         ensures { OnOk result (self.new ≡ told_with self.old (row.Depend depend)) }
     {
         self.rows.kept();
@@ -68,7 +69,7 @@ impl StoredFarm {
 
     // Whether the mark fits.
     pub(crate) fn mark_fits(&self, mark: &MetRow) -> bool
-        ensures { result ≡ row_fits self.now.farm (row.Met mark.now) }
+        ensures { result ≡ takes_mark self.now.farm mark.now }
     {
         self.rows.kept();
         let depends = self.depends.as_slice();
@@ -80,7 +81,7 @@ impl StoredFarm {
     // Keeps a mark that fits.
     pub(crate) fn keep_mark(&mut self, mark: MetRow) -> Result<(), AllocError>
         requires next { comes_after self.old.last (key_of (row.Met mark)) ≡ true }
-        requires fits { row_fits self.old.farm (row.Met mark) ≡ true }
+        requires fits { takes_mark self.old.farm mark ≡ true }
         ensures { OnOk result (self.new ≡ told_with self.old (row.Met mark)) }
     {
         self.rows.kept();

@@ -1,7 +1,7 @@
 //! The farm that the rows so far say.
 
 ghost use Rattle.std.specs.Prelude.{◌≡◌, ◌≤◌, true, IfOk};
-ghost use Rattle.farm_rows.specs.Recovery.{comes_after, end_fault, key_of};
+ghost use Rattle.farm_rows.specs.Recovery.{IsFormat, comes_after, end_fault, key_of};
 ghost use Rattle.farm_rows.specs.Rows.{row_kind};
 ghost use Rattle.farm_rows.specs.declared.farm_row.FarmRow.TheVariants as row;
 ghost use Rattle.stored_farm.specs.Kept.{whole_of};
@@ -9,12 +9,12 @@ ghost use Rattle.stored_rows.specs.Told.{Accepts, none_told};
 
 use crate::order::comes_after;
 use farm_rows::{BookLists, FarmRow};
-use farm_types::{DependRow, Group, Items, MetRow};
+use farm_types::{DependRow, Group, Items, LimitNo, LimitRow, MetRow};
 use std::alloc::{AllocError, Global};
 use std::marker::Model;
 use stored_rows::StoredRows;
 
-/// The farm that the rows so far say, and the key of the last one, which contracts see as plain lists (`Told` of `stored_rows`).
+/// The farm that the rows so far say, the key of the last one, and the format of them, which contracts see as plain lists (`Told` of `stored_rows`).
 #[derive(Drop)]
 pub struct StoredFarm {
     pub(crate) rows: StoredRows,
@@ -32,7 +32,7 @@ impl Model for StoredFarm {
 
     ghost Value = { Told };
 
-    ghost view = { λ a. record { last = a.last; farm = with_depends a.rows.farm a.depends.items a.met.items } };
+    ghost view = { λ a. record { last = a.last; farm = with_depends a.rows.farm a.depends.items a.met.items; format = a.rows.format } };
 
     ghost invariant = { λ a. KeepsDepends a.rows a.last a.depends.items a.groups.items a.met.items a.left };
 }
@@ -67,6 +67,14 @@ impl StoredFarm {
         ensures { result ≡ self.now.last }
     {
         self.last
+    }
+
+    /// The format of the rows so far.
+    pub fn format(&self) -> u64
+        ensures value { result ≡ self.now.format }
+        ensures known { IsFormat result }
+    {
+        self.rows.format()
     }
 
     /// The kind and the id of the first row at fault, where the last row was the last one of all.
@@ -111,11 +119,12 @@ impl StoredFarm {
         match row {
             FarmRow::Depend(depend) => self.add_depend(alloc, depend),
             FarmRow::Met(mark) => self.add_mark(mark),
+            FarmRow::Limit { limit, row: told } => self.add_limit(alloc, limit, told),
             early => self.add_early(alloc, early),
         }
     }
 
-    // Takes a row of another kind.
+    // Takes a row of a kind before those of depends.
     fn add_early(&mut self, alloc: Global, row: FarmRow) -> Result<bool, AllocError>
         requires early { row_kind row ≤ 8 }
         requires next { comes_after self.old.last (key_of row) ≡ true }
@@ -124,10 +133,27 @@ impl StoredFarm {
         let key = (row.kind(), row.id());
         let last = self.last;
         // Where memory runs out, no row comes after.
-        self.last = Some((11, 0));
+        self.last = Some((12, 0));
         let taken = self.rows.add(alloc, row)?;
         self.last = if taken { Some(key) } else { last };
         Ok(taken)
+    }
+
+    // Takes a limit.
+    fn add_limit(
+        &mut self,
+        alloc: Global,
+        limit: LimitNo,
+        told: LimitRow,
+    ) -> Result<bool, AllocError>
+        requires { comes_after self.old.last (key_of (row.Limit limit told)) ≡ true }
+        ensures { IfOk result (λ taken. Accepts taken self.old (row.Limit limit told) self.new) }
+    {
+        if !self.rows.add_limit(alloc, limit, told)? {
+            return Ok(false);
+        }
+        self.last = Some((11, u64::from(limit.0)));
+        Ok(true)
     }
 
     // Takes a depend.

@@ -14,8 +14,7 @@ use Rattle.farm_types.specs.declared.limits.TheConstants.{MOST_LAYERS}
 use Rattle.farm_types.specs.declared.rows.LayerRow.{LayerRow}
 use Rattle.farm_types.specs.declared.slot_row.Frame.{Frame}
 use Rattle.farm_types.specs.declared.slot_row.SlotRow.{SlotRow}
-use Rattle.farm_types.specs.Farm.{Farm, for_some, is_placed, layers_of, slot_from}
-use Rattle.farm_types.specs.Kept.{for_any, layer_in}
+use Rattle.farm_types.specs.Farm.{Farm, for_some, is_placed, layers_of, slot_from, for_any, layer_in}
 use Rattle.farm_types.specs.Ranges.{range_numbers}
 use Rattle.farm_types.specs.Rising.{IsRising, layer_key}
 use Rattle.farm_types.proofs.Lists.{and_both}

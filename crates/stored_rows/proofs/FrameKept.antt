@@ -300,9 +300,9 @@ module _ (t : Told) (h : HostsKnown) (j : JobsKnown) (l : List LayerKnown) (k : 
 
   -- the same of the slot that the row says
   pub frame_kept_as : (r : FrameRow) → comes_after t.last (8, r.slot) ≡ true → slot_fits t.farm r ≡ true → (s : SlotRow) → s ≡ slot_row t.farm r
-      → KnowsTold (record { last = Some (8, r.slot); farm = record t.farm { slots = with_slot t.farm.slots r.slot s } }) (with_attempt s.proc h) (with_left t.farm.jobs s.frame j) (with_found t.farm.layers r.slot s.frame l)
+      → KnowsTold (record { last = Some (8, r.slot); farm = record t.farm { slots = with_slot t.farm.slots r.slot s }; format = t.format }) (with_attempt s.proc h) (with_left t.farm.jobs s.frame j) (with_found t.farm.layers r.slot s.frame l)
   frame_kept_as r after fits s is =
-      subst (λ (u : SlotRow). KnowsTold (record { last = Some (8, r.slot); farm = record t.farm { slots = with_slot t.farm.slots r.slot u } }) (with_attempt u.proc h) (with_left t.farm.jobs u.frame j) (with_found t.farm.layers r.slot u.frame l))
+      subst (λ (u : SlotRow). KnowsTold (record { last = Some (8, r.slot); farm = record t.farm { slots = with_slot t.farm.slots r.slot u }; format = t.format }) (with_attempt u.proc h) (with_left t.farm.jobs u.frame j) (with_found t.farm.layers r.slot u.frame l))
       (sym is) (frame_kept r after fits)
 
   -- the sums that are kept stay numbers of 64 bits with an attempt that has room

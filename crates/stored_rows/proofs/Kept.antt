@@ -1,26 +1,28 @@
 -- What rows of farms, shows, allocations, subscriptions, hosts and jobs keep of what is known.
-use Rattle.std.proofs.Common.{◌≡◌, ◌<◌, ℕ, Bool, true, false, cond, eqb, ltb, suc, zero, List, [], ◌∷◌, ◌++◌, length, map, Option, Some, refl, sym, ap, subst, ◌∙◌, arith}
+use Rattle.std.proofs.Common.{◌≡◌, ◌<◌, not, leb, leb-true, ℕ, Bool, true, false, cond, eqb, ltb, suc, zero, List, [], ◌∷◌, ◌++◌, length, map, Option, Some, refl, sym, ap, subst, ◌∙◌, arith}
 use Rattle.std.specs.List.{filter, list_all, list_any}
 use Rattle.std.specs.Cmp.Derive.{both_true}
 use Rattle.std.specs.Str.{bytes_eq}
 use Rattle.std.proofs.lemmas.Bool.{not-true}
 use Rattle.std.proofs.lemmas.List.{append-nil, length-append, map_push}
 use Rattle.std.proofs.lemmas.List.Elements.{filter-append}
-use Rattle.farm_types.specs.declared.limits.TheConstants.{MOST_HOSTS}
+use Rattle.farm_types.specs.declared.limits.TheConstants.{MOST_HOSTS, MOST_LIMITS}
 use Rattle.farm_types.proofs.Lists.{and_both}
 use Rattle.farm_types.specs.declared.rows.HostRow.{HostRow}
 use Rattle.farm_types.specs.declared.rows.JobRow.{JobRow}
 use Rattle.farm_types.specs.declared.rows.LayerRow.{LayerRow}
+use Rattle.farm_types.specs.declared.rows.LimitRow.{LimitRow}
 use Rattle.farm_types.specs.declared.slot_row.SlotRow.{SlotRow}
 use Rattle.farm_types.specs.Farm.{Farm}
-use Rattle.farm_types.specs.Kept.{finish_of, has_its_finish, host_label, is_formed_host, is_formed_job, job_label}
+use Rattle.farm_types.specs.Kept.{finish_of, has_its_finish, host_label, is_formed_host, is_formed_job, is_formed_limit, job_label, limit_label}
 use Rattle.farm_types.specs.Finish.{is_finished}
 use Rattle.farm_types.specs.Sums.{total_at}
 use Rattle.farm_types.specs.Forms.{is_between}
 use Rattle.farm_types.specs.Rising.{job_key, layer_key}
 use Rattle.farm_rows.specs.declared.head_row.HeadRow.{HeadRow}
+use Rattle.farm_rows.specs.declared.head_row.TheConstants.{ROW_FORMAT}
 use Rattle.farm_rows.specs.declared.farm_row.FarmRow.TheVariants as row
-use Rattle.farm_rows.specs.Recovery.{StoredKey, comes_after, end_fits, host_fits, is_new, job_fits}
+use Rattle.farm_rows.specs.Recovery.{IsFormat, StoredKey, comes_after, end_fits, head_fits, host_fits, is_new, job_fits, limit_fits}
 use Rattle.row_index.specs.Index.{HostsKnown, JobsKnown, LayerKnown, known_with}
 use Rattle.stored_rows.specs.Known.{KnowsHosts, KnowsSlots, KnowsSubs, KnowsTold, has_left}
 use Rattle.stored_rows.specs.Told.{Told, told_with}
@@ -29,6 +31,19 @@ use Rattle.stored_rows.proofs.Until.{rises_kept, rises_more, rises_none, until_k
 -- ---- what a row that fits says
 
 module _ (f : Farm) where
+  pub format_known : (r : HeadRow) → head_fits f r ≡ true → IsFormat r.format
+  format_known r fits =
+      let format = and_both (is_between 1 ROW_FORMAT r.format) _ (and_both (not f.recorded) _ fits).1 in
+      let both = and_both (leb 1 r.format) (leb r.format ROW_FORMAT) format.0 in
+      (leb-true 1 r.format both.0, leb-true r.format ROW_FORMAT both.1)
+
+  pub limit_is_new : (format n : ℕ) (r : LimitRow) → limit_fits format f n r ≡ true → list_any (λ (x : LimitRow). bytes_eq (limit_label x) r.name) f.limits ≡ false
+  limit_is_new format n r fits =
+      let next = and_both (eqb format ROW_FORMAT) _ fits in
+      let below = and_both (eqb n (length f.limits)) _ next.1 in
+      let formed = and_both (ltb n MOST_LIMITS) _ below.1 in
+      not-true _ (and_both (is_formed_limit r) _ formed.1).1
+
   pub host_is_new : (n : ℕ) (r : HostRow) → host_fits f n r ≡ true → list_any (λ (x : HostRow). bytes_eq (host_label x) r.name) f.hosts ≡ false
   host_is_new n r fits =
       let below = and_both (eqb n (length f.hosts)) _ fits in
@@ -77,9 +92,9 @@ slots_kept slots layers last key after k = record { few = k.few; until = until_k
 
 module _ (t : Told) (h : HostsKnown) (j : JobsKnown) (l : List LayerKnown) (k : KnowsTold t h j l) where
   -- after a row that leaves hosts, jobs, layers and slots as they are
-  pub told_kept : (key : StoredKey) (f : Farm) → comes_after t.last key ≡ true → f.hosts ≡ t.farm.hosts → f.jobs ≡ t.farm.jobs → f.layers ≡ t.farm.layers → f.slots ≡ t.farm.slots → f.next_finish ≡ t.farm.next_finish
-      → KnowsSubs f.shows f.subs → KnowsTold (record { last = Some key; farm = f }) h j l
-  told_kept key f after hosts jobs layers slots next subs =
+  pub told_kept : (key : StoredKey) (f : Farm) (format : ℕ) → comes_after t.last key ≡ true → f.hosts ≡ t.farm.hosts → f.jobs ≡ t.farm.jobs → f.layers ≡ t.farm.layers → f.slots ≡ t.farm.slots → f.next_finish ≡ t.farm.next_finish
+      → KnowsSubs f.shows f.subs → KnowsTold (record { last = Some key; farm = f; format = format }) h j l
+  told_kept key f format after hosts jobs layers slots next subs =
       record {
         of_subs = subs;
         of_hosts = subst (λ (xs : List HostRow). KnowsHosts h xs f.slots) (sym hosts) (subst (KnowsHosts h t.farm.hosts) (sym slots) k.of_hosts);

@@ -12,11 +12,11 @@ use Rattle.farm_types.specs.declared.rows.SubRow.{SubRow}
 use Rattle.farm_types.specs.declared.slot_row.Frame.{Frame}
 use Rattle.farm_types.specs.declared.slot_row.SlotRow.{SlotRow}
 use Rattle.farm_types.specs.Booking.{is_pending}
-use Rattle.farm_types.specs.Farm.{Farm, changed_at, is_placed, slot_from}
+use Rattle.farm_types.specs.Farm.{Farm, changed_at, is_placed, slot_from, for_any, layer_in}
 use Rattle.farm_types.specs.Depends.{is_done_state}
 use Rattle.farm_types.specs.declared.attempt.ProcRow.{ProcRow}
 use Rattle.farm_types.specs.Finish.{is_finished}
-use Rattle.farm_types.specs.Kept.{finish_of, for_any, has_its_finish, host_label, job_label, layer_in}
+use Rattle.farm_types.specs.Kept.{finish_of, has_its_finish, host_label, job_label}
 use Rattle.farm_types.specs.Operators.{is_left_of}
 use Rattle.farm_types.specs.Ranges.{range_numbers}
 use Rattle.farm_types.specs.Rising.{IsRising, job_key, layer_key}

@@ -3,9 +3,9 @@
 ghost use Rattle.std.specs.Prelude.{◌≡◌, ◌+◌, ◌&&◌, not, filter, length, nat_le, option_map, slice_get};
 ghost use Rattle.std.specs.List.{position_or_len};
 ghost use Rattle.farm_types.specs.Finish.{finishes};
-ghost use Rattle.farm_types.specs.Kept.{is_pending_job};
+ghost use Rattle.farm_types.specs.Kept.{has_its_limit, is_pending_job};
 ghost use Rattle.farm_types.specs.Rising.{layer_key};
-ghost use Rattle.farm_rows.specs.Recovery.{first_job, first_layer, head_ends, lacks_frames, lacks_slots};
+ghost use Rattle.farm_rows.specs.Recovery.{first_job, first_layer, head_ends, lacks_frames, lacks_limit, lacks_slots};
 ghost use Rattle.row_index.specs.Index.{lacks_any};
 ghost use Rattle.stored_rows.specs.Known.{first_ending};
 ghost use Rattle.stored_rows.specs.Told.{early_fault};
@@ -15,11 +15,14 @@ use farm_types::{JobRow, LayerRow};
 use row_index::{KnownLayer, layer_key};
 
 impl StoredRows {
-    /// The kind and the id of the first row at fault after the last one, but for the faults of depends: the farm's own row, a job whose layers aren't
-    /// all its frames, a layer that lacks a slot, a pending job of which no frame is left.
+    /// The kind and the id of the first row at fault after the last one, but for the faults of depends: a layer whose limit isn't there, the farm's
+    /// own row, a job whose layers aren't all its frames, a layer that lacks a slot, a pending job of which no frame is left.
     pub fn end_fault(&self) -> Option<(u8, u64)>
         ensures { result ≡ early_fault self.now.farm }
     {
+        if let Some(layer) = self.layer_lacking_limit() {
+            return Some((7, layer));
+        }
         if !self.has_numbers_left() {
             return Some((1, 0));
         }
@@ -33,6 +36,13 @@ impl StoredRows {
             None => None,
             Some(job) => Some((6, job)),
         }
+    }
+
+    // The first layer whose limit isn't there.
+    fn layer_lacking_limit(&self) -> Option<u64>
+        ensures { option_map (λ layer. (7, layer)) result ≡ first_layer (lacks_limit self.now.farm) self.now.farm.layers }
+    {
+        first_unlimited(self.lists.limits.len(), self.lists.layers.as_slice())
     }
 
     // Whether no more jobs can finish than were numbered.
@@ -70,6 +80,28 @@ impl StoredRows {
         ensures { option_map (λ job. (6, job)) result ≡ first_job (finishes self.now.farm.slots) self.now.farm.jobs }
     {
         first_ending(self.lists.jobs.as_slice(), self.jobs.left())
+    }
+}
+
+// The key of the first of these layers whose limit isn't there, where there are so many.
+fn first_unlimited(limits: usize, layers: &[LayerRow]) -> Option<u64>
+    ensures { option_map (λ layer. (7, layer)) result ≡ first_layer (λ l. not (has_its_limit limits l)) layers.now }
+{
+    for layer in layers {
+        if !has_its_limit(limits, layer) {
+            return Some(layer_key(layer.job, layer.place));
+        }
+    }
+    None
+}
+
+// Whether the layer has no limit, or one of so many.
+fn has_its_limit(limits: usize, layer: &LayerRow) -> bool
+    ensures { result ≡ has_its_limit limits layer.now }
+{
+    match layer.limit {
+        None => true,
+        Some(limit) => (limit.0 as usize) < limits,
     }
 }
 

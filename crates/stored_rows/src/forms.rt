@@ -3,14 +3,14 @@
 ghost use Rattle.std.specs.Prelude.{◌≡◌, ◌^◌, length, nat_lt};
 ghost use Rattle.std.specs.List.{list_all};
 ghost use Rattle.farm_types.specs.Forms.{is_between, is_command_byte, is_command_text, is_name_or_empty, is_tag_text};
-ghost use Rattle.farm_types.specs.Kept.{are_tags, is_formed_alloc, is_formed_host, is_formed_job, is_formed_show};
+ghost use Rattle.farm_types.specs.Kept.{are_tags, is_formed_alloc, is_formed_host, is_formed_job, is_formed_limit, is_formed_show};
 ghost use Rattle.farm_types.specs.declared.limits.TheConstants.{LAST_BOOT, LEAST_CORES, LEAST_MEMORY};
-ghost use Rattle.farm_types.specs.declared.limits.TheConstants.{MOST_COMMAND, MOST_CORES, MOST_FRAMES, MOST_MEMORY, MOST_PRIORITY};
+ghost use Rattle.farm_types.specs.declared.limits.TheConstants.{MOST_COMMAND, MOST_CORES, MOST_FRAMES, MOST_MEMORY, MOST_PRIORITY, MOST_RUNNING};
 
 use farm_types::{
-    AllocRow, Cores, HostRow, Items, JobRow, Kb, LAST_BOOT, LEAST_CORES, LEAST_MEMORY,
-    MOST_COMMAND, MOST_CORES, MOST_FRAMES, MOST_MEMORY, MOST_PRIORITY, MOST_RETRIES, MOST_TAGS,
-    ShowRow, Text, is_name, is_tag,
+    AllocRow, Cores, HostRow, Items, JobRow, Kb, LAST_BOOT, LEAST_CORES, LEAST_MEMORY, LimitRow,
+    MOST_COMMAND, MOST_CORES, MOST_FRAMES, MOST_MEMORY, MOST_PRIORITY, MOST_RETRIES, MOST_RUNNING,
+    MOST_TAGS, ShowRow, Text, is_name, is_tag,
 };
 
 /// Whether the show has its form.
@@ -25,6 +25,13 @@ pub(crate) fn is_formed_alloc(row: &AllocRow) -> bool
     ensures { result ≡ is_formed_alloc row.now }
 {
     is_tag(row.facility.as_str()) && is_tag(row.tag.as_str())
+}
+
+/// Whether the limit has its form.
+pub(crate) fn is_formed_limit(row: &LimitRow) -> bool
+    ensures { result ≡ is_formed_limit row.now }
+{
+    is_name(row.name.as_str()) && row.most <= MOST_RUNNING
 }
 
 /// Whether the host has its form.

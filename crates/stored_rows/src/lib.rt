@@ -9,6 +9,7 @@ mod head_row;
 mod host_row;
 mod job_row;
 mod layer_row;
+mod limit_row;
 mod readers;
 mod show_row;
 mod stored_rows;

@@ -2,8 +2,7 @@
 
 ghost use Rattle.std.specs.Prelude.{◌≡◌, bytes_eq, find, length, map, option_copied, option_map, IfOk};
 ghost use Rattle.std.specs.List.{position_or_len};
-ghost use Rattle.farm_types.specs.Farm.{layers_of};
-ghost use Rattle.farm_types.specs.Kept.{for_any};
+ghost use Rattle.farm_types.specs.Farm.{layers_of, for_any};
 ghost use Rattle.farm_rows.specs.Recovery.{end_is_there, is_part_in, shape_so_far, slot_or};
 ghost use Rattle.stored_rows.specs.Known.{is_found, layer_known};
 ghost use Rattle.stored_rows.specs.SoFar.{shape_with, shapes_with};

@@ -9,18 +9,21 @@ ghost use Rattle.farm_rows.specs.Recovery.{comes_after, key_of};
 ghost use Rattle.farm_rows.specs.Rows.{row_kind};
 ghost use Rattle.stored_rows.specs.Told.{Accepts, farm_of, none_told};
 
-use farm_rows::{BookLists, FarmRow};
+use farm_rows::{BookLists, FarmRow, ROW_FORMAT};
 use farm_types::SLOT_LIMIT;
-use row_index::{KnownHosts, KnownJobs, KnownLayer};
+use row_index::{KnownHosts, KnownJobs, KnownLayer, Names};
 use std::alloc::{AllocError, Global};
 use std::marker::Model;
 
-/// The farm that the rows so far say, and the key of the last one. Clauses see the farm as plain lists, without depends.
+/// The farm that the rows so far say, the key of the last one, and the format of them. Clauses see the farm as plain lists, without depends.
 #[derive(Drop)]
 pub struct StoredRows {
     pub(crate) lists: BookLists,
     pub(crate) next_depend: u64,
     pub(crate) last: Option<(u8, u64)>,
+    pub(crate) format: u64,
+    // The limits' names.
+    pub(crate) limits: Names,
     pub(crate) hosts: KnownHosts,
     pub(crate) jobs: KnownJobs,
     pub(crate) layers: Vec<KnownLayer>,
@@ -47,6 +50,8 @@ impl StoredRows {
             lists: no_lists(alloc)?,
             next_depend: 1,
             last: None,
+            format: ROW_FORMAT,
+            limits: Names::new(alloc),
             hosts: KnownHosts::new(alloc),
             jobs: KnownJobs::new(alloc),
             layers: Vec::new(alloc),
@@ -85,11 +90,12 @@ impl StoredRows {
             FarmRow::Frame(told) => Ok(self.add_frame(&told)),
             FarmRow::Depend(_) => unreachable!(),
             FarmRow::Met(_) => unreachable!(),
+            FarmRow::Limit { .. } => unreachable!(),
         }
     }
 
-    // Whether a row of that kind and id comes after the last one.
-    fn comes_after(&self, kind: u8, id: u64) -> bool
+    /// Whether a row of that kind and id comes after the last one.
+    pub(crate) fn comes_after(&self, kind: u8, id: u64) -> bool
         ensures { result ≡ comes_after self.now.last (kind, id) }
     {
         match self.last {
@@ -134,6 +140,7 @@ fn no_lists(alloc: Global) -> Result<BookLists, AllocError>
         shows: Vec::new(alloc),
         allocs: Vec::new(alloc),
         subs: Vec::new(alloc),
+        limits: Vec::new(alloc),
         hosts: Vec::new(alloc),
         jobs: Vec::new(alloc),
         layers: Vec::new(alloc),

@@ -93,6 +93,7 @@ high_layer =
       cores = 100;
       memory = 3355443;
       tags = codes "general" ∷ [];
+      limit = [];
     }
 
 abbrev pub high : JobSpec

@@ -62,6 +62,7 @@ demo_layer running succeeded waiting =
       dead = 0;
       depend = 0;
       eaten = 0;
+      limit = [];
       memory = 3355443;
       name = codes "render";
       range = codes "1-10";

@@ -34,6 +34,8 @@ pub fn limits_of_the_farm_are_as_documented()
     ensures groups { farm.MOST_GROUPS ≡ 1000000 }
     ensures finished { farm.MOST_FINISHED ≡ 1000 }
     ensures silent { farm.SILENT_SECONDS ≡ 300 }
+    ensures limits { farm.MOST_LIMITS ≡ 255 }
+    ensures running { farm.MOST_RUNNING ≡ 65536 }
     ensures candidates { farm.CANDIDATES_EACH ≡ 64 }
     ensures bookings { farm.BOOKINGS_EACH ≡ 12 }
 {}

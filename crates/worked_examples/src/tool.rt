@@ -18,16 +18,18 @@ ghost use Rattle.cue_words.specs.Commands.{words_of};
 ghost use Rattle.cue_words.specs.Parts.{Usage, BadSpec};
 ghost use Rattle.cue_tool.specs.Listings.{listing_of};
 
-/// The list of subscriptions, one of its rows shorter than the head in some columns; and an empty list, which is its head.
+/// The lists of subscriptions and of limits, whose rows are shorter than the head in some columns; and an empty list, which is its head.
 pub fn lists_are_tables()
     ensures subs { listing_of (codes "subs") (record { rows = row.Sub (record { alloc = codes "farm.general"; booked = 600; burst = 200; show = codes "alpha"; size = 1000 }) ∷ []; total = 1 })
         ≡ Some (codes "alloc         booked  burst  show   size" ++ 10 ∷ codes "farm.general  600     200    alpha  1000" ++ 10 ∷ []) }
+    ensures limits { listing_of (codes "limits") (record { rows = row.Limit (record { most = 40; name = codes "arnold"; running = 2 }) ∷ []; total = 1 })
+        ≡ Some (codes "most  name    running" ++ 10 ∷ codes "40    arnold  2" ++ 10 ∷ []) }
     ensures none { listing_of (codes "shows") (record { rows = []; total = 0 }) ≡ Some (codes "name" ++ 10 ∷ []) }
     ensures other_rows { listing_of (codes "hosts") (record { rows = row.Name (codes "a") ∷ []; total = 1 }) ≡ None }
     ensures no_list { listing_of (codes "host") (record { rows = []; total = 0 }) ≡ None }
 {}
 
-/// What a host sends at its start, and its second report.
+/// What a host sends at its start, its second report, a limit, and a list.
 pub fn requests_are_texts()
     ensures boot { request_text (request.Boot (record { host = codes "h1"; nonce = 7; alloc = codes "farm.general"; tags = []; cores = 100; memory = 4194304 }))
         ≡ codes "{\"alloc\":\"farm.general\",\"cores\":100,\"host\":\"h1\",\"memory\":4194304,\"nonce\":7,\"op\":\"boot\",\"tags\":[]}" }
@@ -41,6 +43,7 @@ pub fn requests_are_texts()
       running = [];
     }))
         ≡ codes "{\"boot\":1,\"done\":[{\"signal\":0,\"slot\":0,\"status\":0,\"version\":1}],\"host\":\"h1\",\"op\":\"report\",\"running\":[],\"seq\":2}" }
+    ensures limit { request_text (request.Limit (codes "arnold") 40) ≡ codes "{\"most\":40,\"name\":\"arnold\",\"op\":\"limit\"}" }
     ensures list { request_text (request.List (record { what = listed.Frames (codes "b"); from = 0 })) ≡ codes "{\"from\":0,\"job\":\"b\",\"op\":\"list\",\"what\":\"frames\"}" }
 {}
 
@@ -50,6 +53,7 @@ pub fn words_are_lines()
     ensures list_of_job { words_of (codes "list" ∷ codes "x" ∷ codes "b" ∷ []) None ≡ Ok (Ask (codes "{\"from\":0,\"job\":\"b\",\"op\":\"list\",\"what\":\"x\"}")) }
     ensures sub { words_of (codes "sub" ∷ codes "alpha" ∷ codes "farm.general" ∷ codes "10" ∷ codes "2.5" ∷ []) None
         ≡ Ok (Ask (codes "{\"alloc\":\"farm.general\",\"burst\":250,\"op\":\"sub\",\"show\":\"alpha\",\"size\":1000}")) }
+    ensures limit { words_of (codes "limit" ∷ codes "arnold" ∷ codes "040" ∷ []) None ≡ Ok (Ask (codes "{\"most\":40,\"name\":\"arnold\",\"op\":\"limit\"}")) }
     ensures nimby { words_of (codes "nimby" ∷ codes "h1" ∷ []) None ≡ Ok (Ask (codes "{\"host\":\"h1\",\"lock\":\"NIMBY_LOCKED\",\"op\":\"host\"}")) }
     ensures depend { words_of (codes "depend" ∷ codes "FRAME_BY_FRAME" ∷ codes "all" ∷ codes "p" ∷ codes "w" ∷ codes "on" ∷ codes "p" ∷ codes "t" ∷ []) None
         ≡ Ok (Ask (codes "{\"any\":false,\"job\":\"p\",\"kind\":\"FRAME_BY_FRAME\",\"layer\":\"w\",\"on_job\":\"p\",\"on_layer\":\"t\",\"op\":\"depend\"}")) }
@@ -79,6 +83,7 @@ pub fn words_are_wrong_by_place()
     ensures no_number { words_of (codes "drop" ∷ codes "+1" ∷ []) None ≡ Err (Usage 1) }
     ensures eleven_digits { words_of (codes "drop" ∷ codes "00000000001" ∷ []) None ≡ Err (Usage 1) }
     ensures no_cores { words_of (codes "sub" ∷ codes "a" ∷ codes "b" ∷ codes "1." ∷ codes "x" ∷ []) None ≡ Err (Usage 3) }
+    ensures no_most { words_of (codes "limit" ∷ codes "arnold" ∷ codes "many" ∷ []) None ≡ Err (Usage 2) }
     ensures no_kind { words_of (codes "depend" ∷ codes "JOB" ∷ []) None ≡ Err (Usage 1) }
     ensures no_on { words_of (codes "depend" ∷ codes "JOB_ON_JOB" ∷ codes "any" ∷ codes "a" ∷ codes "b" ∷ []) None ≡ Err (Usage 4) }
     ensures no_spec { words_of (codes "submit" ∷ codes "f" ∷ []) None ≡ Err BadSpec }
@@ -113,6 +118,8 @@ pub fn replies_are_read()
     ensures done { read_or_none (reply_at (member (codes "ok") (boolean true) no_members)) ≡ Some reply.Done }
     ensures tick { read_or_none (reply_at (member (codes "down") (number (unsigned 1)) (member (codes "lost") (number (unsigned 4)) (member (codes "ok") (boolean true) no_members))))
         ≡ Some (reply.Tick 1 4) }
+    ensures limit { read_or_none (reply_at (member (codes "most") (number (unsigned 2)) (member (codes "ok") (boolean true) (member (codes "running") (number (unsigned 3)) no_members))))
+        ≡ Some (reply.Limit 2 3) }
     ensures stale { read_or_none (reply_at (member (codes "code") (number (unsigned 6)) (member (codes "last") (number (unsigned 1)) (member (codes "ok") (boolean false)
         (member (codes "why") (string (codes "stale")) no_members))))) ≡ Some (reply.Refused (Stale 1)) }
     ensures other_code { read_or_none (reply_at (member (codes "code") (number (unsigned 5)) (member (codes "last") (number (unsigned 1)) (member (codes "ok") (boolean false)

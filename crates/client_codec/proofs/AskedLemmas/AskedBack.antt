@@ -11,6 +11,7 @@ use Rattle.client_codec.proofs.AskedLemmas.AskedBoot.{boot_fits, boot_read}
 use Rattle.client_codec.proofs.AskedLemmas.AskedDepend.{depend_fits, depend_read}
 use Rattle.client_codec.proofs.AskedLemmas.AskedFields.{IsReadAs, line_back}
 use Rattle.client_codec.proofs.AskedLemmas.AskedFrames.{eat_read, frame_fits, kill_frame_read, retry_read}
+use Rattle.client_codec.proofs.AskedLemmas.AskedLimit.{limit_fits, limit_read}
 use Rattle.client_codec.proofs.AskedLemmas.AskedList.{list_fits, list_read}
 use Rattle.client_codec.proofs.AskedLemmas.AskedNames.{alloc_fits, alloc_read, drop_fits, drop_read, kill_job_fits, kill_job_read, lock_fits, lock_read, pause_fits, pause_read, show_fits, show_read}
 use Rattle.client_codec.proofs.AskedLemmas.AskedReport.{report_fits, report_read}
@@ -31,6 +32,7 @@ request_back (request.Show name) h = line_back 1 (request_data (request.Show nam
 request_back (request.Alloc facility tag) h =
     line_back 1 (request_data (request.Alloc facility tag)) (request.Alloc facility tag) (alloc_fits facility tag h.0 h.1) (omega arith) (alloc_read facility tag h.0 h.1)
 request_back (request.Sub line) h = line_back 1 (request_data (request.Sub line)) (request.Sub line) (sub_fits line h.0 h.1) (omega arith) (sub_read line h.0)
+request_back (request.Limit name most) h = line_back 1 (request_data (request.Limit name most)) (request.Limit name most) (limit_fits name most h.0 h.1) (omega arith) (limit_read name most h.0 h.1)
 request_back (request.Boot line) h = line_back 2 (request_data (request.Boot line)) (request.Boot line) (boot_fits line h.0 h.1) (omega arith) (boot_read line h.0)
 request_back (request.Report report) h = line_back 3 (request_data (request.Report report)) (request.Report report) (report_fits report h.0 h.1) (omega arith) (report_read report h.0 h.1)
 request_back (request.Lock host lock) h = line_back 1 (request_data (request.Lock host lock)) (request.Lock host lock) (lock_fits host lock h) (omega arith) (lock_read host lock h)

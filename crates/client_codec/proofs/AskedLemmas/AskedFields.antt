@@ -10,7 +10,7 @@ use Rattle.serde_json.specs.View.{items_of}
 use Rattle.serde_json.specs.Written.{compact_text}
 use Rattle.cue_json.specs.Fields.{Fault, ◌>>=◌, as_signed, has_key, of_kind, of_member, signed_at}
 use Rattle.cue_json.specs.Items.{item_at, items_at, list_of}
-use Rattle.farm_types.specs.Forms.{is_frame_number, is_tag_text}
+use Rattle.farm_types.specs.Forms.{is_frame_number, is_name_or_empty, is_tag_text}
 use Rattle.farm_types.specs.Limits.{IsBetween}
 use Rattle.farm_types.proofs.Lists.{and_both}
 use Rattle.farm_lines.specs.declared.limits.TheConstants.{LEAST_FRAME, MOST_FRAME}
@@ -18,10 +18,10 @@ use Rattle.farm_lines.specs.declared.request.Request.{Request}
 use Rattle.farm_lines.specs.Fields.{or_default}
 use Rattle.farm_lines.specs.Request.{request_at, request_of}
 use Rattle.farm_lines.specs.RequestText.{texts_data}
-use Rattle.farm_lines.specs.Spec.{number_at, tags_at, tags_in, within}
+use Rattle.farm_lines.specs.Spec.{number_at, tags_at, tags_in, text_of, within}
 use Rattle.farm_lines.specs.Words.{signed, whole}
 use Rattle.object_writer.proofs.DataBack.{Fits, ItemsFit, object_back}
-use Rattle.client_codec.proofs.FieldsBack.{between, whole_back}
+use Rattle.client_codec.proofs.FieldsBack.{between, form_back, whole_back}
 use Rattle.client_codec.proofs.ItemsBack.{items_back, items_seen}
 use Rattle.client_codec.proofs.AskedLemmas.TextsFit.{tag_fits}
 
@@ -76,6 +76,10 @@ module _ (field : List ℕ) (ms : Members) where
   -- a field that is there though it may be left out
   pub there : {X : Type 0} (default x : X) (read : List ℕ → Members → Result X Fault) (d : Data) → get_member field ms ≡ Some d → read field ms ≡ Ok x → or_default default read field ms ≡ Ok x
   there default x read d found is = rw (found, is) refl
+
+  -- so a name or none
+  pub or_empty_back : (text : List ℕ) → get_member field ms ≡ Some (string text) → is_name_or_empty text ≡ true → or_default [] (text_of is_name_or_empty) field ms ≡ Ok text
+  or_empty_back text found h = there [] text (text_of is_name_or_empty) (string text) found (form_back field ms is_name_or_empty text found h)
 
   pub told : {X : Type 0} (x : X) (r : Result X Fault) (d : Data) → get_member field ms ≡ Some d → r ≡ Ok x → cond (has_key field ms) (r >>= λ x. Ok (Some x)) (Ok None) ≡ Ok (Some x)
   told x r d found is = rw (found, is) refl

@@ -10,7 +10,7 @@ use Rattle.cue_json.specs.Fields.{◌>>=◌, flag_at, others_at}
 use Rattle.farm_types.specs.declared.job.JobSpec.{JobSpec}
 use Rattle.farm_types.specs.declared.limits.TheConstants.{MOST_FRAMES, MOST_LAYERS, MOST_PRIORITY, MOST_RETRIES}
 use Rattle.farm_types.specs.Formed.{IsFormedJob, IsFormedLayer, IsFormedOwn}
-use Rattle.farm_types.specs.Forms.{is_name_or_empty, is_tag_text}
+use Rattle.farm_types.specs.Forms.{is_tag_text}
 use Rattle.farm_types.specs.Jobs.{frames_in}
 use Rattle.farm_types.specs.Limits.{IsBetween}
 use Rattle.farm_lines.specs.declared.job_form.JobForm.{JobForm}
@@ -19,9 +19,9 @@ use Rattle.farm_lines.specs.DependLines.{own_depend_at, own_depends}
 use Rattle.farm_lines.specs.Fields.{or_default}
 use Rattle.farm_lines.specs.Request.{after_others, judged, submit_at}
 use Rattle.farm_lines.specs.RequestText.{layer_data, own_depend_data, spec_data, submit_line}
-use Rattle.farm_lines.specs.Spec.{form_first, job_form_at, job_keys, job_of, layer_form_at, number_at, spec_at, text_of}
+use Rattle.farm_lines.specs.Spec.{form_first, job_form_at, job_keys, job_of, layer_form_at, number_at, spec_at}
 use Rattle.farm_lines.specs.Words.{whole}
-use Rattle.client_codec.proofs.AskedLemmas.AskedFields.{IsReadAs, list_back, list_seen, number_back, there, within_back}
+use Rattle.client_codec.proofs.AskedLemmas.AskedFields.{IsReadAs, list_back, list_seen, number_back, or_empty_back, there, within_back}
 use Rattle.client_codec.proofs.AskedLemmas.AskedLayers.{form_of, layer_fits, layer_read, layers_back}
 use Rattle.client_codec.proofs.AskedLemmas.AskedOwn.{own_fits, own_read}
 use Rattle.object_writer.proofs.DataBack.{Fits}
@@ -46,10 +46,7 @@ job_form s =
       depends = s.depends;
     }
 
--- a name or none, and a flag, which are there though they may be left out
-or_empty_back : (field : List ℕ) (ms : Members) (text : List ℕ) → get_member field ms ≡ Some (string text) → is_name_or_empty text ≡ true → or_default [] (text_of is_name_or_empty) field ms ≡ Ok text
-or_empty_back field ms text found h = there field ms [] text (text_of is_name_or_empty) (string text) found (form_back field ms is_name_or_empty text found h)
-
+-- a flag, which is there though it may be left out
 or_false_back : (field : List ℕ) (ms : Members) (b : Bool) → get_member field ms ≡ Some (boolean b) → or_default false flag_at field ms ≡ Ok b
 or_false_back field ms b found = there field ms false b flag_at (boolean b) found (flag_back field ms b found)
 

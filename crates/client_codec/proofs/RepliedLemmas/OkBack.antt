@@ -1,12 +1,12 @@
 -- Replies to what is done are read back from their text.
 use Rattle.std.proofs.Common.{◌≡◌, ℕ, List, Some, refl, arith}
 use Rattle.std.specs.Prelude.{codes}
-use Rattle.farm_types.specs.declared.limits.TheConstants.{LAST_BOOT, LAST_DEPEND, MOST_BURST, MOST_FRAMES, MOST_HOSTS, SLOT_LIMIT}
+use Rattle.farm_types.specs.declared.limits.TheConstants.{LAST_BOOT, LAST_DEPEND, MOST_BURST, MOST_FRAMES, MOST_HOSTS, MOST_RUNNING, SLOT_LIMIT}
 use Rattle.farm_lines.specs.declared.limits.TheConstants.{MOST_BOOKED}
 use Rattle.farm_lines.specs.declared.reply.Reply.TheVariants as reply
 use Rattle.farm_lines.specs.FormedLines.{IsFormedReply}
-use Rattle.farm_lines.specs.Reply.{boot_data, depend_data, done_data, dropped_data, ended_data, reply_text, sub_data, submit_data, tick_data}
-use Rattle.farm_lines.specs.ReplyLines.{boot_reply, depend_reply, done_reply, drop_reply, ended_reply, reply_of, sub_reply, submit_reply, tick_reply}
+use Rattle.farm_lines.specs.Reply.{boot_data, depend_data, done_data, dropped_data, ended_data, limit_data, reply_text, sub_data, submit_data, tick_data}
+use Rattle.farm_lines.specs.ReplyLines.{boot_reply, depend_reply, done_reply, drop_reply, ended_reply, limit_reply, reply_of, sub_reply, submit_reply, tick_reply}
 use Rattle.client_codec.proofs.FieldsBack.{fields_in, name_back, whole_back}
 use Rattle.client_codec.proofs.ReadBack.{back}
 use Rattle.client_codec.proofs.AskedLemmas.TextsFit.{name_fits}
@@ -26,6 +26,12 @@ sub_back booked burst size h =
       whole_back (codes "size") ms 0 MOST_BURST size refl (omega arith, h.2),
     ) refl
     )
+
+pub limit_back : (most running : ℕ) → IsFormedReply (reply.Limit most running) → reply_of (reply_text (reply.Limit most running)) ≡ Some (reply.Limit most running)
+unfolding limit_data limit_reply
+limit_back most running h =
+    let ms = fields_in (limit_data most running) in
+    back ms (reply.Limit most running) (refl, omega (arith, h.0), (refl, tt, (refl, omega (arith, h.1), tt))) (rw (whole_back (codes "most") ms 0 MOST_RUNNING most refl (omega arith, h.0), whole_back (codes "running") ms 0 SLOT_LIMIT running refl (omega arith, h.1)) refl)
 
 pub boot_back : (boot nonce : ℕ) → IsFormedReply (reply.Boot boot nonce) → reply_of (reply_text (reply.Boot boot nonce)) ≡ Some (reply.Boot boot nonce)
 unfolding boot_data boot_reply

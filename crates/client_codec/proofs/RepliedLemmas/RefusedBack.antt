@@ -95,6 +95,7 @@ wrong_state_back state =
 limit_fits : (what : Counted) → limit_of what < 2 ^ 64
 limit_fits counted.Shows = omega arith
 limit_fits counted.Allocs = omega arith
+limit_fits counted.Limits = omega arith
 limit_fits counted.Hosts = omega arith
 limit_fits counted.Boots = omega arith
 limit_fits counted.Jobs = omega arith
@@ -106,6 +107,7 @@ full_read : (what : Counted) → reply_at (fields_in (refusal_data (Full (limit_
 unfolding refusal_data full_reply full_at
 full_read counted.Shows = refl
 full_read counted.Allocs = refl
+full_read counted.Limits = refl
 full_read counted.Hosts = refl
 full_read counted.Boots = refl
 full_read counted.Jobs = refl

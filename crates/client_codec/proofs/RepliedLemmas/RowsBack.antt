@@ -3,7 +3,8 @@ use Rattle.std.proofs.Common.{◌≡◌, ℕ, List, Ok, refl, arith}
 use Rattle.std.specs.Prelude.{codes}
 use Rattle.serde_json.specs.Find.{as_object}
 use Rattle.cue_json.specs.Items.{item_at}
-use Rattle.farm_types.specs.declared.limits.TheConstants.{LAST_BOOT, LAST_DEPEND, LAST_SLOT, LAST_VERSION, LEAST_CORES, LEAST_MEMORY, MOST_BURST, MOST_CORES, MOST_FRAMES, MOST_MEMORY, MOST_PRIORITY, MOST_RETRIES}
+use Rattle.farm_types.specs.Forms.{is_name_or_empty}
+use Rattle.farm_types.specs.declared.limits.TheConstants.{LAST_BOOT, LAST_DEPEND, LAST_SLOT, LAST_VERSION, LEAST_CORES, LEAST_MEMORY, MOST_BURST, MOST_CORES, MOST_FRAMES, MOST_MEMORY, MOST_PRIORITY, MOST_RETRIES, MOST_RUNNING, SLOT_LIMIT}
 use Rattle.state_names.specs.Words.{host_state_of, host_word, job_state_of, job_word, kind_of, kind_word, lock_of, lock_word, state_of, state_word}
 use Rattle.farm_lines.specs.declared.limits.TheConstants.{MOST_BOOKED}
 use Rattle.farm_lines.specs.declared.list_row.ListRow.{ListRow}
@@ -13,15 +14,16 @@ use Rattle.farm_lines.specs.declared.list_row.ShownFrame.{ShownFrame}
 use Rattle.farm_lines.specs.declared.list_row.ShownHost.{ShownHost}
 use Rattle.farm_lines.specs.declared.list_row.ShownJob.{ShownJob}
 use Rattle.farm_lines.specs.declared.list_row.ShownLayer.{ShownLayer}
+use Rattle.farm_lines.specs.declared.list_row.ShownLimit.{ShownLimit}
 use Rattle.farm_lines.specs.declared.list_row.ShownProc.{ShownProc}
 use Rattle.farm_lines.specs.declared.list_row.ShownSub.{ShownSub}
-use Rattle.farm_lines.specs.FormedLines.{IsFormedHostRow, IsFormedJobRow, IsFormedLayerRow, IsFormedProcRow, IsFormedRow, IsFormedSubRow, IsName}
-use Rattle.farm_lines.specs.ListReplies.{depend_row_data, frame_row_data, host_row_data, job_row_data, layer_row_data, list_row_data, name_data, proc_row_data, sub_row_data}
-use Rattle.farm_lines.specs.ReplyRows.{depend_row_at, frame_row_at, host_row_at, job_row_at, kind_of_row_at, layer_row_at, name_row_at, proc_row_at, row_at, sub_row_at}
+use Rattle.farm_lines.specs.FormedLines.{IsFormedHostRow, IsFormedJobRow, IsFormedLayerRow, IsFormedLimitRow, IsFormedProcRow, IsFormedRow, IsFormedSubRow, IsName}
+use Rattle.farm_lines.specs.ListReplies.{depend_row_data, frame_row_data, host_row_data, job_row_data, layer_row_data, limit_row_data, list_row_data, name_data, proc_row_data, sub_row_data}
+use Rattle.farm_lines.specs.ReplyRows.{depend_row_at, frame_row_at, host_row_at, job_row_at, kind_of_row_at, layer_row_at, limit_row_at, name_row_at, proc_row_at, row_at, sub_row_at}
 use Rattle.farm_lines.specs.RowKinds.{kind_of_row}
 use Rattle.object_writer.proofs.DataBack.{Fits}
-use Rattle.client_codec.proofs.FieldsBack.{fields_in, name_back, whole_back, word_back}
-use Rattle.client_codec.proofs.AskedLemmas.TextsFit.{name_fits, text_fits}
+use Rattle.client_codec.proofs.FieldsBack.{fields_in, form_back, name_back, whole_back, word_back}
+use Rattle.client_codec.proofs.AskedLemmas.TextsFit.{name_fits, name_or_empty_fits, text_fits}
 use Rattle.state_names.proofs.WordsBack.{host_back, host_utf8, job_back, job_utf8, kind_back, kind_utf8, lock_back, lock_utf8, state_back, state_utf8}
 
 -- ---- name
@@ -45,6 +47,18 @@ unfolding sub_row_data sub_row_at
 sub_read s h =
     let ms = fields_in (sub_row_data s) in
     rw (name_back (codes "alloc") ms s.alloc refl h.alloc_name, whole_back (codes "booked") ms 0 MOST_BOOKED s.booked refl (omega arith, h.booked_within), whole_back (codes "burst") ms 0 MOST_BURST s.burst refl (omega arith, h.burst_within), name_back (codes "show") ms s.show refl h.show_name, whole_back (codes "size") ms 0 MOST_BURST s.size refl (omega arith, h.size_within)) refl
+
+-- ---- limit
+
+limit_fits : (l : ShownLimit) → IsFormedLimitRow l → Fits 1 (limit_row_data l)
+unfolding limit_row_data
+limit_fits l h = (refl, omega (arith, h.most_within), (refl, name_fits l.name h.limit_name, (refl, omega (arith, h.running_within), tt)))
+
+limit_read : (l : ShownLimit) → IsFormedLimitRow l → limit_row_at (fields_in (limit_row_data l)) ≡ Ok (row.Limit l)
+unfolding limit_row_data limit_row_at
+limit_read l h =
+    let ms = fields_in (limit_row_data l) in
+    rw (whole_back (codes "most") ms 0 MOST_RUNNING l.most refl (omega arith, h.most_within), name_back (codes "name") ms l.name refl h.limit_name, whole_back (codes "running") ms 0 SLOT_LIMIT l.running refl (omega arith, h.running_within)) refl
 
 -- ---- host
 
@@ -74,13 +88,13 @@ job_read j h =
 
 layer_fits : (l : ShownLayer) → IsFormedLayerRow l → Fits 1 (layer_row_data l)
 unfolding layer_row_data
-layer_fits l h = (refl, omega (arith, h.cores_within.1), (refl, omega (arith, h.counts.dead_within), (refl, omega (arith, h.counts.depend_within), (refl, omega (arith, h.counts.eaten_within), (refl, omega (arith, h.memory_within.1), (refl, name_fits l.name h.layer_name, (refl, text_fits l.range h.range_text, (refl, omega (arith, h.counts.running_within), (refl, omega (arith, h.counts.succeeded_within), (refl, omega (arith, h.counts.waiting_within), tt))))))))))
+layer_fits l h = (refl, omega (arith, h.cores_within.1), (refl, omega (arith, h.counts.dead_within), (refl, omega (arith, h.counts.depend_within), (refl, omega (arith, h.counts.eaten_within), (refl, name_or_empty_fits l.limit h.limit_name, (refl, omega (arith, h.memory_within.1), (refl, name_fits l.name h.layer_name, (refl, text_fits l.range h.range_text, (refl, omega (arith, h.counts.running_within), (refl, omega (arith, h.counts.succeeded_within), (refl, omega (arith, h.counts.waiting_within), tt)))))))))))
 
 layer_read : (l : ShownLayer) → IsFormedLayerRow l → layer_row_at (fields_in (layer_row_data l)) ≡ Ok (row.Layer l)
 unfolding layer_row_data layer_row_at
 layer_read l h =
     let ms = fields_in (layer_row_data l) in
-    rw (whole_back (codes "cores") ms LEAST_CORES MOST_CORES l.cores refl h.cores_within, whole_back (codes "dead") ms 0 MOST_FRAMES l.dead refl (omega arith, h.counts.dead_within), whole_back (codes "depend") ms 0 MOST_FRAMES l.depend refl (omega arith, h.counts.depend_within), whole_back (codes "eaten") ms 0 MOST_FRAMES l.eaten refl (omega arith, h.counts.eaten_within), whole_back (codes "memory") ms LEAST_MEMORY MOST_MEMORY l.memory refl h.memory_within, name_back (codes "name") ms l.name refl h.layer_name, whole_back (codes "running") ms 0 MOST_FRAMES l.running refl (omega arith, h.counts.running_within), whole_back (codes "succeeded") ms 0 MOST_FRAMES l.succeeded refl (omega arith, h.counts.succeeded_within), whole_back (codes "waiting") ms 0 MOST_FRAMES l.waiting refl (omega arith, h.counts.waiting_within)) refl
+    rw (whole_back (codes "cores") ms LEAST_CORES MOST_CORES l.cores refl h.cores_within, whole_back (codes "dead") ms 0 MOST_FRAMES l.dead refl (omega arith, h.counts.dead_within), whole_back (codes "depend") ms 0 MOST_FRAMES l.depend refl (omega arith, h.counts.depend_within), whole_back (codes "eaten") ms 0 MOST_FRAMES l.eaten refl (omega arith, h.counts.eaten_within), form_back (codes "limit") ms is_name_or_empty l.limit refl h.limit_name, whole_back (codes "memory") ms LEAST_MEMORY MOST_MEMORY l.memory refl h.memory_within, name_back (codes "name") ms l.name refl h.layer_name, whole_back (codes "running") ms 0 MOST_FRAMES l.running refl (omega arith, h.counts.running_within), whole_back (codes "succeeded") ms 0 MOST_FRAMES l.succeeded refl (omega arith, h.counts.succeeded_within), whole_back (codes "waiting") ms 0 MOST_FRAMES l.waiting refl (omega arith, h.counts.waiting_within)) refl
 
 -- ---- frame
 
@@ -123,6 +137,7 @@ proc_read p h =
 pub row_fits : (r : ListRow) → IsFormedRow r → Fits 1 (list_row_data r)
 row_fits (row.Name name) h = name_row_fits name h
 row_fits (row.Sub s) h = sub_fits s h
+row_fits (row.Limit l) h = limit_fits l h
 row_fits (row.Host x) h = host_fits x h
 row_fits (row.Job j) h = job_fits j h
 row_fits (row.Layer l) h = layer_fits l h
@@ -131,9 +146,10 @@ row_fits (row.Depend d) h = depend_fits d h
 row_fits (row.Proc p) h = proc_fits p h
 
 pub row_read : (field : List ℕ) (r : ListRow) → IsFormedRow r → item_at field (row_at (kind_of_row r)) (list_row_data r) ≡ Ok r
-unfolding name_data sub_row_data host_row_data job_row_data layer_row_data frame_row_data depend_row_data proc_row_data
+unfolding name_data sub_row_data limit_row_data host_row_data job_row_data layer_row_data frame_row_data depend_row_data proc_row_data
 row_read field (row.Name name) h = name_row_read name h
 row_read field (row.Sub s) h = sub_read s h
+row_read field (row.Limit l) h = limit_read l h
 row_read field (row.Host x) h = host_read x h
 row_read field (row.Job j) h = job_read j h
 row_read field (row.Layer l) h = layer_read l h
@@ -142,9 +158,10 @@ row_read field (row.Depend d) h = depend_read d h
 row_read field (row.Proc p) h = proc_read p h
 
 pub kind_read : (r : ListRow) → kind_of_row_at (as_object (list_row_data r)) ≡ kind_of_row r
-unfolding name_data sub_row_data host_row_data job_row_data layer_row_data frame_row_data depend_row_data proc_row_data
+unfolding name_data sub_row_data limit_row_data host_row_data job_row_data layer_row_data frame_row_data depend_row_data proc_row_data
 kind_read (row.Name name) = refl
 kind_read (row.Sub s) = refl
+kind_read (row.Limit l) = refl
 kind_read (row.Host x) = refl
 kind_read (row.Job j) = refl
 kind_read (row.Layer l) = refl

@@ -2,14 +2,15 @@
 
 ghost use Rattle.serde_json.specs.View.{members_view};
 ghost use Rattle.cue_json.specs.Fields.{Gives};
-ghost use Rattle.farm_lines.specs.ReplyLines.{boot_reply, depend_reply, done_reply, drop_reply, ended_reply, ok_at, sub_reply, submit_reply, tick_reply};
+ghost use Rattle.farm_lines.specs.ReplyLines.{boot_reply, depend_reply, done_reply, drop_reply, ended_reply, limit_reply, ok_at, sub_reply, submit_reply, tick_reply};
 
 use crate::replies::list::read_list;
 use crate::replies::report::read_report;
 use cue_json::{FieldFault, Map};
 use farm_lines::{MOST_BOOKED, Reply, read_name, read_whole};
 use farm_types::{
-    Cores, DependNo, LAST_BOOT, LAST_DEPEND, MOST_BURST, MOST_FRAMES, MOST_HOSTS, SLOT_LIMIT,
+    Cores, DependNo, LAST_BOOT, LAST_DEPEND, MOST_BURST, MOST_FRAMES, MOST_HOSTS, MOST_RUNNING,
+    SLOT_LIMIT,
 };
 use std::alloc::Global;
 
@@ -23,6 +24,8 @@ pub fn read_ok(alloc: Global, object: &Map) -> Result<Reply, FieldFault>
         read_list(alloc, object)
     } else if cue_json::has(object, "booked") {
         read_sub(alloc, object)
+    } else if cue_json::has(object, "most") {
+        read_limit(alloc, object)
     } else if cue_json::has(object, "nonce") {
         read_boot(alloc, object)
     } else if cue_json::has(object, "down") {
@@ -61,6 +64,16 @@ fn read_sub(alloc: Global, object: &Map) -> Result<Reply, FieldFault>
         burst: Cores(burst),
         size: Cores(size),
     })
+}
+
+#[tactic(auto, unfolding(farm_lines::specs::ReplyLines::limit_reply))]
+fn read_limit(alloc: Global, object: &Map) -> Result<Reply, FieldFault>
+    ensures { Gives (λ reply. reply) result (limit_reply (members_view object.now.entries)) }
+{
+    let most = read_whole(alloc, object, "most", 0, MOST_RUNNING)?;
+    let running = read_whole(alloc, object, "running", 0, SLOT_LIMIT)?;
+    cue_json::no_others(alloc, object, &["most", "ok", "running"])?;
+    Ok(Reply::Limit { most, running })
 }
 
 #[tactic(auto, unfolding(farm_lines::specs::ReplyLines::boot_reply))]

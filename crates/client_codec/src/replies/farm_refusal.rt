@@ -18,7 +18,8 @@ use std::alloc::Global;
 
 /// The host's boot number is another.
 pub fn read_wrong_boot(alloc: Global, object: &Map) -> Result<Reply, FieldFault>
-    ensures { Gives (λ reply. reply) result (keyed_refusal 5 boot_refusal_keys (whole_at (codes "boot") 1 LAST_BOOT) (λ boot. reply.Refused (WrongBoot boot)) (members_view object.now.entries)) }
+    ensures { Gives (λ reply. reply) result (keyed_refusal 5 boot_refusal_keys (whole_at (codes "boot") 1 LAST_BOOT)
+        (λ boot. reply.Refused (WrongBoot boot)) (members_view object.now.entries)) }
 {
     read_code(alloc, object, 5)?;
     let boot = read_whole(alloc, object, "boot", 1, LAST_BOOT)?;
@@ -38,7 +39,8 @@ pub fn read_stale(alloc: Global, object: &Map) -> Result<Reply, FieldFault>
 
 /// The job has more frames than there are free slots.
 pub fn read_farm_full(alloc: Global, object: &Map) -> Result<Reply, FieldFault>
-    ensures { Gives (λ reply. reply) result (keyed_refusal 9 free_keys (whole_at (codes "free") 0 SLOT_LIMIT) (λ free. reply.Refused (FarmFull free)) (members_view object.now.entries)) }
+    ensures { Gives (λ reply. reply) result (keyed_refusal 9 free_keys (whole_at (codes "free") 0 SLOT_LIMIT)
+        (λ free. reply.Refused (FarmFull free)) (members_view object.now.entries)) }
 {
     read_code(alloc, object, 9)?;
     let free = read_whole(alloc, object, "free", 0, SLOT_LIMIT)?;
@@ -48,7 +50,8 @@ pub fn read_farm_full(alloc: Global, object: &Map) -> Result<Reply, FieldFault>
 
 /// The state of the frame, or of the depend, doesn't allow what is asked.
 pub fn read_wrong_state(alloc: Global, object: &Map) -> Result<Reply, FieldFault>
-    ensures { Gives (λ reply. reply) result (keyed_refusal 11 state_keys (word_at wrong_state_of (codes "state")) (λ refused. refused) (members_view object.now.entries)) }
+    ensures { Gives (λ reply. reply) result (keyed_refusal 11 state_keys (word_at wrong_state_of (codes "state"))
+        (λ refused. refused) (members_view object.now.entries)) }
 {
     read_code(alloc, object, 11)?;
     let refused = read_state_named(alloc, object, "state")?;

@@ -10,7 +10,7 @@ use cue_json::{FieldFault, Map};
 use farm_lines::Reply;
 use farm_types::{
     Counted, LAST_BOOT, LAST_DEPEND, LAST_JOB, MOST_ALLOCS, MOST_DEPENDS, MOST_GROUPS, MOST_HOSTS,
-    MOST_SHOWS, Refusal,
+    MOST_LIMITS, MOST_SHOWS, Refusal,
 };
 use state_names::{Word, named};
 use std::alloc::Global;
@@ -62,6 +62,7 @@ fn limit_of(what: Counted) -> u64
     match what {
         Counted::Shows => u64::from(MOST_SHOWS),
         Counted::Allocs => u64::from(MOST_ALLOCS),
+        Counted::Limits => u64::from(MOST_LIMITS),
         Counted::Hosts => u64::from(MOST_HOSTS),
         Counted::Boots => u64::from(LAST_BOOT),
         Counted::Jobs => u64::from(LAST_JOB),

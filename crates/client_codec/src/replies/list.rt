@@ -63,6 +63,8 @@ fn kind_of_keys(object: &Map) -> RowKind
         RowKind::Layer
     } else if cue_json::has(object, "booked") {
         RowKind::Sub
+    } else if cue_json::has(object, "most") {
+        RowKind::Limit
     } else if cue_json::has(object, "retries") {
         RowKind::Frame
     } else if cue_json::has(object, "satisfied") {

@@ -2,18 +2,18 @@
 
 ghost use Rattle.serde_json.specs.View.{members_view};
 ghost use Rattle.cue_json.specs.Fields.{Gives, others_at};
-ghost use Rattle.farm_lines.specs.ReplyRows.{count_at, depend_row_at, frame_row_at, host_row_at, job_row_at, layer_row_at, name_row_at, proc_row_at, row_at, sub_row_at};
+ghost use Rattle.farm_lines.specs.ReplyRows.{count_at, depend_row_at, frame_row_at, host_row_at, job_row_at, layer_row_at, limit_row_at, name_row_at, proc_row_at, row_at, sub_row_at};
 ghost use Rattle.farm_lines.specs.RowKinds.{row_keys};
 
 use cue_json::{FieldFault, ItemReader, Map};
 use farm_lines::{
     ListRow, MOST_BOOKED, RowKind, ShownDepend, ShownFrame, ShownHost, ShownJob, ShownLayer,
-    ShownProc, ShownSub, read_name, read_text, read_whole,
+    ShownLimit, ShownProc, ShownSub, read_name, read_name_or_empty, read_text, read_whole,
 };
 use farm_types::{
     Cores, DependNo, Kb, LAST_BOOT, LAST_DEPEND, LAST_SLOT, LAST_VERSION, LEAST_CORES,
     LEAST_MEMORY, MOST_BURST, MOST_CORES, MOST_FRAMES, MOST_MEMORY, MOST_PRIORITY, MOST_RETRIES,
-    Slot, Version,
+    MOST_RUNNING, SLOT_LIMIT, Slot, Version,
 };
 use state_names::read_word;
 use std::alloc::Global;
@@ -33,6 +33,7 @@ impl ItemReader for RowReader {
         match self.keys {
             RowKind::Name => read_name_row(alloc, object),
             RowKind::Sub => read_sub(alloc, object),
+            RowKind::Limit => read_limit(alloc, object),
             RowKind::Host => read_host(alloc, object),
             RowKind::Job => read_job(alloc, object),
             RowKind::Layer => read_layer(alloc, object),
@@ -75,6 +76,21 @@ fn read_sub(alloc: Global, object: &Map) -> Result<ListRow, FieldFault>
         burst: Cores(burst),
         show,
         size: Cores(size),
+    }))
+}
+
+#[tactic(auto, unfolding(farm_lines::specs::ReplyRows::limit_row_at))]
+fn read_limit(alloc: Global, object: &Map) -> Result<ListRow, FieldFault>
+    ensures { Gives (λ row. row) result (limit_row_at (members_view object.now.entries)) }
+{
+    let most = read_whole(alloc, object, "most", 0, MOST_RUNNING)?;
+    let name = read_name(alloc, object, "name")?;
+    let running = read_whole(alloc, object, "running", 0, SLOT_LIMIT)?;
+    no_others(alloc, object, RowKind::Limit)?;
+    Ok(ListRow::Limit(ShownLimit {
+        most,
+        name,
+        running,
     }))
 }
 
@@ -153,6 +169,7 @@ fn read_layer(alloc: Global, object: &Map) -> Result<ListRow, FieldFault>
     let dead = read_count(alloc, object, "dead")?;
     let depend = read_count(alloc, object, "depend")?;
     let eaten = read_count(alloc, object, "eaten")?;
+    let limit = read_name_or_empty(alloc, object, "limit")?;
     let memory = cue_json::whole(alloc, object, "memory", LEAST_MEMORY, MOST_MEMORY)?;
     let name = read_name(alloc, object, "name")?;
     let range = read_text(alloc, object, "range")?;
@@ -165,6 +182,7 @@ fn read_layer(alloc: Global, object: &Map) -> Result<ListRow, FieldFault>
         dead,
         depend,
         eaten,
+        limit,
         memory: Kb(memory),
         name,
         range,

@@ -25,7 +25,8 @@ pub fn write_query(out: &mut ObjectWriter, query: &Query) -> Result<(), AllocErr
 // The job, where the list is one of a job's.
 #[tactic(auto, using(crate::proofs::AskedLemmas::RequestTokens::member_rest))]
 fn write_job_if(out: &mut ObjectWriter, what: &Listed) -> Result<(), AllocError>
-    ensures { OnOk result ((rest : Members) → added out.new (fields_tokens rest) ≡ added out.old (fields_tokens (with_text (codes "job") (job_listed what.now) rest))) }
+    ensures { OnOk result ((rest : Members) → added out.new (fields_tokens rest)
+        ≡ added out.old (fields_tokens (with_text (codes "job") (job_listed what.now) rest))) }
 {
     match what {
         Listed::Layers { job } | Listed::Frames { job } | Listed::Depends { job } => {
@@ -43,6 +44,7 @@ fn list_word(what: &Listed) -> &'static str
         Listed::Shows => "shows",
         Listed::Allocs => "allocs",
         Listed::Subs => "subs",
+        Listed::Limits => "limits",
         Listed::Hosts => "hosts",
         Listed::Jobs => "jobs",
         Listed::Layers { .. } => "layers",

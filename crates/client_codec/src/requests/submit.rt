@@ -68,6 +68,7 @@ fn write_layer(alloc: Global, out: &mut ObjectWriter, layer: &LayerSpec) -> Resu
     out.begin_object()?;
     out.text("command", layer.command.as_str())?;
     out.text("cores", cores.as_str())?;
+    out.text("limit", layer.limit.as_str())?;
     out.memory("memory", layer.memory)?;
     out.text("name", layer.name.as_str())?;
     out.text("range", layer.range.as_str())?;

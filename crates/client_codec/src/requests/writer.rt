@@ -7,6 +7,7 @@ ghost use Rattle.object_writer.specs.Tokens.{added, tokens_of};
 use crate::requests::boot::write_boot;
 use crate::requests::depend::write_depend;
 use crate::requests::frame::write_frame;
+use crate::requests::limit::write_limit;
 use crate::requests::list::write_query;
 use crate::requests::name::{
     pause_word, write_alloc, write_drop, write_job, write_lock, write_name,
@@ -39,6 +40,7 @@ fn write_object(alloc: Global, out: &mut ObjectWriter, request: &Request) -> Res
             write_alloc(alloc, out, facility.as_str(), tag.as_str())
         }
         Request::Sub(line) => write_sub(out, line),
+        Request::Limit { name, most } => write_limit(out, name.as_str(), *most),
         Request::Boot(line) => write_boot(out, line),
         Request::Report(report) => write_report(out, report),
         Request::Lock { host, lock } => write_lock(out, host.as_str(), *lock),

@@ -13,12 +13,13 @@ use Rattle.farm_types.specs.declared.slot_row.SlotRow.{SlotRow}
 use Rattle.farm_types.specs.declared.limits.TheConstants.{LAST_VERSION}
 use Rattle.farm_types.specs.Booking.{is_waiting}
 use Rattle.farm_types.specs.DependActs.{number_of, pending_named}
-use Rattle.farm_types.specs.Farm.{Farm, has_facility}
-use Rattle.farm_types.specs.Jobs.{frames_of, is_pending_named, job_refusal, job_row, layers_refusal, repeated_name, without_finished}
-use Rattle.farm_types.specs.Kept.{KeepsDepends, KeepsRows, for_any, is_kept_frame, is_kept_slot, is_of_pending, layer_in}
-use Rattle.farm_types.specs.Step.{after_submit, lists_of, submit_refusal}
+use Rattle.farm_types.specs.Farm.{Farm, has_facility, for_any, layer_in}
+use Rattle.farm_types.specs.Jobs.{frames_of, is_pending_named, job_row, layers_refusal, repeated_name, without_finished}
+use Rattle.farm_types.specs.Kept.{KeepsDepends, KeepsRows, is_kept_frame, is_kept_slot, is_of_pending}
+use Rattle.farm_types.specs.Step.{after_submit, limits_refusal, lists_of, submit_refusal, unknown_limit}
 use Rattle.farm_types.proofs.Lists.{and_both, find_passes, for_some_true, found_is, list_all-at}
 use Rattle.farm_law.proofs.KeptJobsLists.{found_later}
+use Rattle.farm_law.proofs.KeptLimits.{limits_known}
 use Rattle.farm_law.proofs.KeptNames.{accepted_by}
 use Rattle.farm_law.proofs.Placed.{job_waits}
 use Rattle.depend_law.proofs.Filled.{Fills, placed_fills}
@@ -42,7 +43,8 @@ module _ (f : Farm) (rows : KeepsRows f) (spec : JobSpec) where
   pub named_next : (o : Option ℕ) → submit_refusal f spec o ≡ None → number_of (pending_named (after_submit f spec o) spec.name) ≡ f.next_job
   named_next None none = absurd (none-some (Unknown spec.show) (sym none))
   named_next (Some show) none =
-      let taken = accepted_by (has_facility f spec.facility) (job_refusal (lists_of f) spec) (Unknown spec.facility) none in
+      let unknown = unknown_limit f.limits spec.layers in
+      let taken = (limits_known f spec unknown (accepted_by (has_facility f spec.facility) (limits_refusal f spec unknown) (Unknown spec.facility) none)).1 in
       let new = refused_first (list_any (is_pending_named spec.name) f.jobs) (Exists spec.name) (layers_refusal (lists_of f) spec (repeated_name [] spec.layers)) taken in
       ap number_of
       (found_later (is_pending_named spec.name) (without_finished spec.name f.jobs) (job_row f.next_job show spec ∷ []) (pending_left spec.name spec.name f.jobs ∙ none_found (is_pending_named spec.name) f.jobs new)

@@ -14,17 +14,18 @@ use Rattle.farm_types.specs.declared.slot_row.SlotRow.{SlotRow}
 use Rattle.farm_types.specs.declared.limits.TheConstants.{LAST_VERSION}
 use Rattle.farm_types.specs.Booking.{is_waiting}
 use Rattle.farm_types.specs.Depends.{layer_shape, or_first, shape_of, slots_placed}
-use Rattle.farm_types.specs.Farm.{Farm, for_some, has_facility, is_placed, layers_of, show_named, slot_from}
+use Rattle.farm_types.specs.Farm.{Farm, for_some, has_facility, is_placed, layers_of, show_named, slot_from, for_any, layer_in}
 use Rattle.farm_types.specs.Formed.{IsFormedLayer}
-use Rattle.farm_types.specs.Jobs.{frames_of, job_refusal, job_row, layer_row, layer_rows, place_frames, without_finished}
-use Rattle.farm_types.specs.Kept.{KeepsJobs, for_any, is_kept_frame, is_kept_slot, layer_in}
+use Rattle.farm_types.specs.Jobs.{frames_of, job_row, layer_row, layer_rows, limit_in, place_frames, without_finished}
+use Rattle.farm_types.specs.Kept.{KeepsJobs, is_kept_frame, is_kept_slot}
 use Rattle.farm_types.specs.Ranges.{range_numbers}
-use Rattle.farm_types.specs.Step.{after_submit, lists_of, submit_refusal}
+use Rattle.farm_types.specs.Step.{after_submit, limits_of, limits_refusal, lists_of, submit_refusal, unknown_limit}
 use Rattle.farm_types.proofs.Lists.{and_both, for_some_true, found_is, list_all-at, list_all-from_at}
 use Rattle.std.specs.Prelude.{leb}
 use Rattle.farm_law.proofs.KeptJobsAdded.{Accepted, accepted}
 use Rattle.farm_law.proofs.KeptJobsLayers.{all_of_job, layer_before, none_of_next, none_of_other}
 use Rattle.farm_law.proofs.KeptJobsRows.{frame_kept}
+use Rattle.farm_law.proofs.KeptLimits.{limits_known}
 use Rattle.farm_law.proofs.KeptNames.{accepted_by}
 use Rattle.depend_law.proofs.Placed.{HoldsOf}
 use Rattle.depend_law.proofs.Shapes.{SameSlots, shape_found}
@@ -39,14 +40,17 @@ use Rattle.farm_depends.specs.Placed.{own_shapes, placed}
 -- the farm has the job's row, its layers and its frames more
 pub record IsPlaced (f : Farm) (spec : JobSpec) (p : Farm) : Type 0 where
   pub show : ℕ
+  pub limits : List (Option ℕ)
   pub jobs : p.jobs ≡ without_finished spec.name f.jobs ++ job_row f.next_job show spec ∷ []
-  pub layers : p.layers ≡ f.layers ++ layer_rows f.next_job 0 spec.layers
+  pub layers : p.layers ≡ f.layers ++ layer_rows f.next_job limits 0 spec.layers
   pub slots : p.slots ≡ place_frames f.slots (frames_of f.next_job 0 spec.layers)
 
 placed_by : (f : Farm) (spec : JobSpec) (o : Option ℕ) → submit_refusal f spec o ≡ None → IsPlaced f spec (after_submit f spec o) × Accepted (lists_of f) spec
 placed_by f spec None none = absurd (none-some _ (sym none))
 placed_by f spec (Some show) none =
-    (record { show = show; jobs = refl; layers = refl; slots = refl }, accepted (lists_of f) spec (accepted_by (has_facility f spec.facility) (job_refusal (lists_of f) spec) _ none))
+    let unknown = unknown_limit f.limits spec.layers in
+    let taken = (limits_known f spec unknown (accepted_by (has_facility f spec.facility) (limits_refusal f spec unknown) _ none)).1 in
+    (record { show = show; limits = limits_of f.limits spec.layers; jobs = refl; layers = refl; slots = refl }, accepted (lists_of f) spec taken)
 
 pub placed_is : (f : Farm) (spec : JobSpec) → submit_refusal f spec (show_named f spec.show) ≡ None → IsPlaced f spec (placed f spec)
 placed_is f spec none = (placed_by f spec (show_named f spec.show) none).0
@@ -59,8 +63,8 @@ job_accepted f spec none = (placed_by f spec (show_named f spec.show) none).1
 module _ (f : Farm) (spec : JobSpec) (p : Farm) (is : IsPlaced f spec p) (job : ℕ) (apart : eqb f.next_job job ≡ false) where
   same_layers : layers_of p.layers job ≡ layers_of f.layers job
   same_layers =
-      ap (λ (ls : List LayerRow). layers_of ls job) is.layers ∙ (filter-append (λ (l : LayerRow). eqb l.job job) f.layers (layer_rows f.next_job 0 spec.layers)
-      ∙ (ap (λ (ls : List LayerRow). layers_of f.layers job ++ ls) (none_of_other f.next_job job 0 spec.layers apart) ∙ append-nil (layers_of f.layers job)))
+      ap (λ (ls : List LayerRow). layers_of ls job) is.layers ∙ (filter-append (λ (l : LayerRow). eqb l.job job) f.layers (layer_rows f.next_job is.limits 0 spec.layers)
+      ∙ (ap (λ (ls : List LayerRow). layers_of f.layers job ++ ls) (none_of_other f.next_job job is.limits 0 spec.layers apart) ∙ append-nil (layers_of f.layers job)))
 
   same_slots : SameSlots f.slots p.slots job
   same_slots layer position =
@@ -87,27 +91,27 @@ placed_slots_are slots job layer p (s ∷ ss) (n ∷ numbers) found long =
 abbrev own_shape : LayerSpec → List ℕ → LayerShape
 own_shape m ms = record { name = m.name; numbers = m.numbers; slots = ms }
 
-own_layers_are : (slots : List SlotRow) (job p : ℕ) (ls : List LayerSpec) (lists : List (List ℕ)) → All IsFormedLayer ls → ((layer position : ℕ) → slot_from 0 (is_placed job (p + layer) position) slots ≡ place_in lists layer position)
-    → map (λ (ns : List ℕ). length ns) lists ≡ map (λ (l : LayerSpec). length l.numbers) ls → own_shapes ls lists ≡ map (layer_shape slots) (layer_rows job p ls)
-own_layers_are slots job p [] lists formed found counts = refl
-own_layers_are slots job p (l ∷ ls) [] formed found counts = absurd (cc)
-own_layers_are slots job p (l ∷ ls) (ns ∷ lists) formed found counts =
+own_layers_are : (slots : List SlotRow) (job : ℕ) (layer_limits : List (Option ℕ)) (p : ℕ) (ls : List LayerSpec) (lists : List (List ℕ)) → All IsFormedLayer ls → ((layer position : ℕ) → slot_from 0 (is_placed job (p + layer) position) slots ≡ place_in lists layer position)
+    → map (λ (ns : List ℕ). length ns) lists ≡ map (λ (l : LayerSpec). length l.numbers) ls → own_shapes ls lists ≡ map (layer_shape slots) (layer_rows job layer_limits p ls)
+own_layers_are slots job layer_limits p [] lists formed found counts = refl
+own_layers_are slots job layer_limits p (l ∷ ls) [] formed found counts = absurd (cc)
+own_layers_are slots job layer_limits p (l ∷ ls) (ns ∷ lists) formed found counts =
     let first : length ns ≡ length l.numbers = cc in
     let others : map (λ (ms : List ℕ). length ms) lists ≡ map (λ (m : LayerSpec). length m.numbers) ls = cc in
     let numbers : l.numbers ≡ range_numbers l.range = (formed 0 l (omega arith)).numbers_are in
     let here : p ≡ p + 0 = omega arith in
     let slots_are = placed_slots_are slots job p 0 ns (range_numbers l.range) (λ k. let e : 0 + k ≡ k = omega arith in ap (λ (q : ℕ). slot_from 0 (is_placed job p q) slots) e ∙ (ap (λ (q : ℕ). slot_from 0 (is_placed job q k) slots) here ∙ found 0 k)) (first ∙ ap length numbers) in
-    let shape : own_shape l ns ≡ layer_shape slots (layer_row job p l) = λ i. record { name = l.name; numbers = numbers i; slots = (sym slots_are) i } in
+    let shape : own_shape l ns ≡ layer_shape slots (layer_row job p (limit_in layer_limits p) l) = λ i. record { name = l.name; numbers = numbers i; slots = (sym slots_are) i } in
     ap (λ (s : LayerShape). s ∷ own_shapes ls lists) shape
-    ∙ ap (λ (ss : List LayerShape). layer_shape slots (layer_row job p l) ∷ ss)
-    (own_layers_are slots job (p + 1) ls lists (λ k d within. formed (suc k) d (omega arith))
+    ∙ ap (λ (ss : List LayerShape). layer_shape slots (layer_row job p (limit_in layer_limits p) l) ∷ ss)
+    (own_layers_are slots job layer_limits (p + 1) ls lists (λ k d within. formed (suc k) d (omega arith))
     (λ layer position. let e : p + 1 + layer ≡ p + suc layer = omega arith in ap (λ (q : ℕ). slot_from 0 (is_placed job q position) slots) e ∙ found (suc layer) position) others)
 
 module _ (f : Farm) (spec : JobSpec) (p : Farm) (is : IsPlaced f spec p) (shows : ℕ) (keeps : KeepsJobs (lists_of f) shows) where
-  own_rows : layers_of p.layers f.next_job ≡ layer_rows f.next_job 0 spec.layers
+  own_rows : layers_of p.layers f.next_job ≡ layer_rows f.next_job is.limits 0 spec.layers
   own_rows =
-      ap (λ (ls : List LayerRow). layers_of ls f.next_job) is.layers ∙ (filter-append (λ (l : LayerRow). eqb l.job f.next_job) f.layers (layer_rows f.next_job 0 spec.layers)
-      ∙ (ap (λ (ls : List LayerRow). ls ++ layers_of (layer_rows f.next_job 0 spec.layers) f.next_job) (none_of_next f.layers f.next_job keeps.layers_rise) ∙ all_of_job f.next_job 0 spec.layers))
+      ap (λ (ls : List LayerRow). layers_of ls f.next_job) is.layers ∙ (filter-append (λ (l : LayerRow). eqb l.job f.next_job) f.layers (layer_rows f.next_job is.limits 0 spec.layers)
+      ∙ (ap (λ (ls : List LayerRow). ls ++ layers_of (layer_rows f.next_job is.limits 0 spec.layers) f.next_job) (none_of_next f.layers f.next_job keeps.layers_rise) ∙ all_of_job f.next_job is.limits 0 spec.layers))
 
   -- the shape from the slots that the frames take
   pub own_shape_is : All IsFormedLayer spec.layers → (lists : List (List ℕ))
@@ -115,7 +119,7 @@ module _ (f : Farm) (spec : JobSpec) (p : Farm) (is : IsPlaced f spec p) (shows 
       → map (λ (ns : List ℕ). length ns) lists ≡ map (λ (l : LayerSpec). length l.numbers) spec.layers → record { layers = own_shapes spec.layers lists } ≡ shape_of p f.next_job
   own_shape_is formed lists found counts =
       let shapes =
-      own_layers_are p.slots f.next_job 0 spec.layers lists formed
+      own_layers_are p.slots f.next_job is.limits 0 spec.layers lists formed
       (λ layer position. let e : 0 + layer ≡ layer = omega arith in ap (λ (q : ℕ). slot_from 0 (is_placed f.next_job q position) p.slots) e ∙ (ap (slot_from 0 (is_placed f.next_job layer position)) is.slots ∙ found layer position)) counts in
       λ i. record { layers = (shapes ∙ ap (map (layer_shape p.slots)) (sym own_rows)) i }
 

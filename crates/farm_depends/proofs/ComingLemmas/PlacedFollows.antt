@@ -44,6 +44,7 @@ rows_with f ds ms next k =
       shows = k.shows;
       allocs = k.allocs;
       subs = k.subs;
+      limits = k.limits;
       hosts = k.hosts;
       jobs = k.jobs;
       attempts = record { hosted = k.attempts.hosted; measured = k.attempts.measured; billed = k.attempts.billed; subscribed = k.attempts.subscribed; since = k.attempts.since; versioned = k.attempts.versioned };

@@ -43,6 +43,7 @@ more_slots f moment more.Nothing next = refl
 more_slots f moment (more.Show name) next = refl
 more_slots f moment (more.Alloc facility tag) next = refl
 more_slots f moment (more.Sub sub size burst) next = refl
+more_slots f moment (more.Limit planned name most) next = refl
 more_slots f moment (more.Boot planned line) next = refl
 more_slots f moment (more.Paused job paused) next = refl
 more_slots f moment (more.Job placing spec) next = absurd (omega (arith, next))

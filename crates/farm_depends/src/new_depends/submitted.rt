@@ -28,7 +28,8 @@ pub fn follow_submit(alloc: Global, books: &Books, spec: &JobSpec) -> Result<Fol
     requires whole { IsWhole books.now }
     requires formed { IsFormedAct (act.Submit spec.now) }
     requires accepted { act_refusal books.now.farm (act.Submit spec.now) ≡ None }
-    ensures prepares { PreparesFollow books.now.farm (after_submit books.now.farm spec.now (show_named books.now.farm spec.now.show)) (act.Submit spec.now) result }
+    ensures prepares { PreparesFollow books.now.farm (after_submit books.now.farm spec.now (show_named books.now.farm spec.now.show))
+        (act.Submit spec.now) result }
     ensures marks { IfOk result (HasMarks books.now.graph) }
 {
     books.kept();

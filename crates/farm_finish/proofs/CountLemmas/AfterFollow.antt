@@ -87,6 +87,7 @@ more_slots g moment more.Nothing same = refl
 more_slots g moment (more.Show name) same = refl
 more_slots g moment (more.Alloc facility tag) same = refl
 more_slots g moment (more.Sub sub size burst) same = refl
+more_slots g moment (more.Limit planned name most) same = refl
 more_slots g moment (more.Boot planned line) same = refl
 more_slots g moment (more.Paused job paused) same = refl
 more_slots g moment (more.Job placing spec) same = absurd (omega (arith, same))

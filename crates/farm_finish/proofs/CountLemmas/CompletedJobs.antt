@@ -10,9 +10,9 @@ use Rattle.farm_types.specs.declared.slot_row.Frame.{Frame}
 use Rattle.farm_types.specs.declared.slot_row.SlotRow.{SlotRow}
 use Rattle.farm_types.specs.Booking.{is_pending}
 use Rattle.farm_types.specs.Depends.{is_done, is_done_state}
-use Rattle.farm_types.specs.Farm.{Farm, for_some}
+use Rattle.farm_types.specs.Farm.{Farm, for_some, for_any}
 use Rattle.farm_types.specs.Finish.{finishes, is_frame_of}
-use Rattle.farm_types.specs.Kept.{KeepsRows, for_any, is_of_pending, is_pending_job}
+use Rattle.farm_types.specs.Kept.{KeepsRows, is_of_pending, is_pending_job}
 use Rattle.farm_types.specs.Operators.{is_left_of}
 use Rattle.farm_types.specs.Step.{acted, finishing, lists_of, moment_of}
 use Rattle.farm_types.proofs.Lists.{for_some_true}

@@ -1,5 +1,5 @@
 -- The places of free slots, in steps.
-use Rattle.std.proofs.Common.{◌≡◌, ℕ, zero, suc, ◌+◌, ◌-◌, ◌<◌, ◌≤◌, Bool, true, false, cond, eqb, List, [], ◌∷◌, ◌++◌, length, map, get_or, take, drop, refl, sym, ap, ◌∙◌, arith, append_assoc, append-nil, length-append, length-drop, take-append-drop}
+use Rattle.std.proofs.Common.{◌≡◌, ℕ, zero, suc, Option, ◌+◌, ◌-◌, ◌<◌, ◌≤◌, Bool, true, false, cond, eqb, List, [], ◌∷◌, ◌++◌, length, map, get_or, take, drop, refl, sym, ap, ◌∙◌, arith, append_assoc, append-nil, length-append, length-drop, take-append-drop}
 use Rattle.std.specs.List.{concat}
 use Rattle.std.proofs.lemmas.Bool.{eq-eqb, ne_eqb}
 use Rattle.std.proofs.lemmas.List.{drop-drop, drop_all, drop_more, length-map, length-take-le, map_push, take_more}
@@ -90,15 +90,15 @@ take-add (suc m) n (k ∷ ns) = let e : suc m + n ≡ suc (m + n) = omega arith 
 -- ---- where the frames of a new job are found
 
 -- rows of a job stand at their layers' places
-row_place : (job p layer q k : ℕ) (ls : List LayerSpec) (lists : List (List ℕ)) → layer ≡ p + q → length lists ≡ length ls → place_in lists (layer_position job layer (layer_rows job p ls)) k ≡ place_in lists q k
-row_place job p layer q k [] [] is long = refl
-row_place job p layer q k [] (ns ∷ lists) is long = absurd (omega arith)
-row_place job p layer q k (l ∷ ls) [] is long = absurd (omega arith)
-row_place job p layer zero k (l ∷ ls) (ns ∷ lists) is long = rw (eq-eqb job job refl, eq-eqb p layer (omega arith)) refl
-row_place job p layer (suc q) k (l ∷ ls) (ns ∷ lists) is long =
+row_place : (layer_limits : List (Option ℕ)) (job p layer q k : ℕ) (ls : List LayerSpec) (lists : List (List ℕ)) → layer ≡ p + q → length lists ≡ length ls → place_in lists (layer_position job layer (layer_rows job layer_limits p ls)) k ≡ place_in lists q k
+row_place layer_limits job p layer q k [] [] is long = refl
+row_place layer_limits job p layer q k [] (ns ∷ lists) is long = absurd (omega arith)
+row_place layer_limits job p layer q k (l ∷ ls) [] is long = absurd (omega arith)
+row_place layer_limits job p layer zero k (l ∷ ls) (ns ∷ lists) is long = rw (eq-eqb job job refl, eq-eqb p layer (omega arith)) refl
+row_place layer_limits job p layer (suc q) k (l ∷ ls) (ns ∷ lists) is long =
     let apart : eqb p layer ≡ false = ne_eqb p layer (λ e. absurd (omega arith)) in
-    let e : 1 + layer_position job layer (layer_rows job (p + 1) ls) ≡ suc (layer_position job layer (layer_rows job (p + 1) ls)) = omega arith in
-    rw (eq-eqb job job refl, apart, e) (row_place job (p + 1) layer q k ls lists (omega arith) (omega arith))
+    let e : 1 + layer_position job layer (layer_rows job layer_limits (p + 1) ls) ≡ suc (layer_position job layer (layer_rows job layer_limits (p + 1) ls)) = omega arith in
+    rw (eq-eqb job job refl, apart, e) (row_place layer_limits job (p + 1) layer q k ls lists (omega arith) (omega arith))
 
 pub new_found : (slots : List SlotRow) (next : ℕ) (ls : List LayerSpec) (lists : List (List ℕ)) (below : list_all (is_below next) slots ≡ true) (went : concat lists ≡ lowest_free 0 slots (frames_in ls))
     (counts : map (λ (ns : List ℕ). length ns) lists ≡ map (λ (l : LayerSpec). length l.numbers) ls) (layer position : ℕ)
@@ -108,8 +108,8 @@ new_found slots next ls lists below went counts layer position =
     let long : length lists ≡ length ls = sym (length-map lists (λ (ns : List ℕ). length ns)) ∙ ap length counts ∙ length-map ls (λ (l : LayerSpec). length l.numbers) in
     picked_new (is_placed next layer position) 0 slots (frames_of next 0 ls) (none_placed next layer position slots below)
     ∙ ap (picked (is_placed next layer position) (frames_of next 0 ls)) placed
-    ∙ picked_lists next layer position 0 ls lists counts
-    ∙ row_place next 0 layer layer position ls lists (omega arith) long
+    ∙ picked_lists [] next layer position 0 ls lists counts
+    ∙ row_place [] next 0 layer layer position ls lists (omega arith) long
 
 -- so many frames more
 pub frames_more : (layers : List LayerSpec) (i : ℕ) (l : LayerSpec) → i < length layers → l ≡ get_or layers i l → frames_in (take (i + 1) layers) ≡ frames_in (take i layers) + length l.numbers

@@ -202,15 +202,15 @@ pub rising_within : {X : Type 0} (key : X → ℕ) (low : ℕ) (xs : List X) (hi
 rising_within key low [] high rise = rise
 rising_within key low (x ∷ xs) high rise = omega (arith, rise.0, rising_within key (key x + 1) xs high rise.1)
 
-layers_rising : (job p : ℕ) (ls : List LayerSpec) → p + length ls ≤ PLACE_LIMIT → IsRising layer_key (PLACE_LIMIT * job + p) (layer_rows job p ls) (PLACE_LIMIT * (job + 1))
-layers_rising job p [] few = omega arith
-layers_rising job p (l ∷ ls) few =
+layers_rising : (job : ℕ) (layer_limits : List (Option ℕ)) (p : ℕ) (ls : List LayerSpec) → p + length ls ≤ PLACE_LIMIT → IsRising layer_key (PLACE_LIMIT * job + p) (layer_rows job layer_limits p ls) (PLACE_LIMIT * (job + 1))
+layers_rising job layer_limits p [] few = omega arith
+layers_rising job layer_limits p (l ∷ ls) few =
     let next : PLACE_LIMIT * job + p + 1 ≡ PLACE_LIMIT * job + (p + 1) = omega arith in
-    (omega arith, subst (λ k. IsRising layer_key k (layer_rows job (p + 1) ls) (PLACE_LIMIT * (job + 1))) (sym next) (layers_rising job (p + 1) ls (omega arith)))
+    (omega arith, subst (λ k. IsRising layer_key k (layer_rows job layer_limits (p + 1) ls) (PLACE_LIMIT * (job + 1))) (sym next) (layers_rising job layer_limits (p + 1) ls (omega arith)))
 
-pub length-layer_rows : (job p : ℕ) (ls : List LayerSpec) → length (layer_rows job p ls) ≡ length ls
-length-layer_rows job p [] = refl
-length-layer_rows job p (l ∷ ls) = ap suc (length-layer_rows job (p + 1) ls)
+pub length-layer_rows : (job : ℕ) (layer_limits : List (Option ℕ)) (p : ℕ) (ls : List LayerSpec) → length (layer_rows job layer_limits p ls) ≡ length ls
+length-layer_rows job layer_limits p [] = refl
+length-layer_rows job layer_limits p (l ∷ ls) = ap suc (length-layer_rows job layer_limits (p + 1) ls)
 
 -- each layer has a frame at least
 pub layers_within : (ls : List LayerSpec) → All LayerKeepsLimits ls → length ls ≤ frames_in ls
@@ -267,9 +267,9 @@ all_later (s ∷ ss) next h =
     let both = and_both (is_below next s) (list_all (is_below next) ss) h in
     and_from (is_below (next + 1) s) _ (below_later s.frame next both.0) (all_later ss next both.1)
 
-module _ (b : JobLists) (show : ℕ) (spec : JobSpec) (limits : JobKeepsLimits spec) (none : job_refusal b spec ≡ None) (ok : IsBook b) where
+module _ (b : JobLists) (show : ℕ) (layer_limits : List (Option ℕ)) (spec : JobSpec) (limits : JobKeepsLimits spec) (none : job_refusal b spec ≡ None) (ok : IsBook b) where
   abbrev pub placed_lists : JobLists
-  placed_lists = with_new_job b show spec
+  placed_lists = with_new_job b show layer_limits spec
 
   abbrev frames : List Frame
   frames = frames_of b.next_job 0 spec.layers
@@ -307,7 +307,7 @@ module _ (b : JobLists) (show : ℕ) (spec : JobSpec) (limits : JobKeepsLimits s
       and_from (nat_lt 0 (frames_in spec.layers)) _ (lt-ltb 0 (frames_in spec.layers) (omega (arith, limits.frames_within.0))) (le-leb (taken_by b.next_job placed_lists.slots) (frames_in spec.layers) (omega (arith, e, none)))
 
   -- new layers are of the new job alone
-  other_rows : (job p : ℕ) (ls : List LayerSpec) → eqb b.next_job job ≡ false → list_any (λ (l : LayerRow). eqb l.job job) (layer_rows b.next_job p ls) ≡ false
+  other_rows : (job p : ℕ) (ls : List LayerSpec) → eqb b.next_job job ≡ false → list_any (λ (l : LayerRow). eqb l.job job) (layer_rows b.next_job layer_limits p ls) ≡ false
   other_rows job p [] apart = refl
   other_rows job p (l ∷ ls) apart = rw apart (other_rows job (p + 1) ls apart)
 
@@ -320,7 +320,7 @@ module _ (b : JobLists) (show : ℕ) (spec : JobSpec) (limits : JobKeepsLimits s
   owned_kept low (j ∷ js) rise all =
       let both = and_both (has_layers_if b.layers j) (list_all (has_layers_if b.layers) js) all in
       let apart : eqb b.next_job j.job ≡ false = ne_eqb b.next_job j.job (λ e. absurd (omega (arith, e, rising_within job_key (j.job + 1) js b.next_job rise.1))) in
-      let same = any_both (λ (l : LayerRow). eqb l.job j.job) b.layers (layer_rows b.next_job 0 spec.layers) (other_rows j.job 0 spec.layers apart) in
+      let same = any_both (λ (l : LayerRow). eqb l.job j.job) b.layers (layer_rows b.next_job layer_limits 0 spec.layers) (other_rows j.job 0 spec.layers apart) in
       and_from (has_layers_if placed_lists.layers j) _ (ap (λ (c : Bool). is_pending j.state || not c) same ∙ both.0) (owned_kept (j.job + 1) js rise.1 both.1)
 
   pub placed_book : IsBook placed_lists
@@ -333,8 +333,8 @@ module _ (b : JobLists) (show : ℕ) (spec : JobSpec) (limits : JobKeepsLimits s
         next_within = omega (arith, last);
         jobs_rise = rising-append job_key 0 b.next_job (b.next_job + 1) b.jobs (job_row b.next_job show spec ∷ []) ok.jobs_rise (omega arith, omega arith);
         layers_rise =
-            rising-append layer_key 0 (PLACE_LIMIT * b.next_job) (PLACE_LIMIT * (b.next_job + 1)) b.layers (layer_rows b.next_job 0 spec.layers) ok.layers_rise
-            (subst (λ k. IsRising layer_key k (layer_rows b.next_job 0 spec.layers) (PLACE_LIMIT * (b.next_job + 1))) from (layers_rising b.next_job 0 spec.layers (omega (arith, limits.layers_within.1))));
+            rising-append layer_key 0 (PLACE_LIMIT * b.next_job) (PLACE_LIMIT * (b.next_job + 1)) b.layers (layer_rows b.next_job layer_limits 0 spec.layers) ok.layers_rise
+            (subst (λ k. IsRising layer_key k (layer_rows b.next_job layer_limits 0 spec.layers) (PLACE_LIMIT * (b.next_job + 1))) from (layers_rising b.next_job layer_limits 0 spec.layers (omega (arith, limits.layers_within.1))));
         layers_owned = list_all-append (has_layers_if placed_lists.layers) b.jobs (job_row b.next_job show spec ∷ []) ∙ and_from _ _ (owned_kept 0 b.jobs ok.jobs_rise ok.layers_owned) refl;
         frames_below = all_placed (λ o. not (for_some o (λ x. nat_le (b.next_job + 1) x.job))) b.slots frames (all_later b.slots b.next_job ok.frames_below) new_below;
         slots_had = list_all-append (has_slots placed_lists.slots) b.jobs (job_row b.next_job show spec ∷ []) ∙ and_from _ _ (had_kept 0 b.jobs ok.jobs_rise ok.slots_had) (and_from _ _ new_had refl);
@@ -379,9 +379,9 @@ module _ (b : JobLists) (show : ℕ) (spec : JobSpec) (limits : JobKeepsLimits s
       ∙ ap (λ cs. cs ++ counts_of b.next_job placed_lists.slots ∷ []) (counts_kept 0 b.jobs ok.jobs_rise) ∙ ap (λ c. counts_for b.jobs b.slots ++ c ∷ []) counts_new
 
 -- the rows of a job's layers are its own, in order
-pub rows_are_layers : (job p : ℕ) (ls : List LayerSpec) → are_layers job p (layer_rows job p ls) ≡ true
-rows_are_layers job p [] = refl
-rows_are_layers job p (l ∷ ls) = rw (eq-eqb job job refl, eq-eqb p p refl) (rows_are_layers job (p + 1) ls)
+pub rows_are_layers : (job : ℕ) (layer_limits : List (Option ℕ)) (p : ℕ) (ls : List LayerSpec) → are_layers job p (layer_rows job layer_limits p ls) ≡ true
+rows_are_layers job layer_limits p [] = refl
+rows_are_layers job layer_limits p (l ∷ ls) = rw (eq-eqb job job refl, eq-eqb p p refl) (rows_are_layers job layer_limits (p + 1) ls)
 
 -- the new job isn't finished
 pub placed_finished : (b : JobLists) (show : ℕ) (spec : JobSpec) (keys : List ℕ) → KeepsFinished b.jobs keys → KeepsFinished (b.jobs ++ job_row b.next_job show spec ∷ []) keys

@@ -136,19 +136,19 @@ pub other_job : (job layer position next p : ℕ) (ls : List LayerSpec) → eqb 
 other_job job layer position next p ls apart = all_of (λ o. not (for_some o (is_placed job layer position))) next p ls (λ l q n. rw apart refl)
 
 -- each frame of a job is found in its layer's list, at its position
-pub picked_lists : (job layer position p : ℕ) (ls : List LayerSpec) (lists : List (List ℕ)) → map (λ (ns : List ℕ). length ns) lists ≡ map (λ (l : LayerSpec). length l.numbers) ls
-    → picked (is_placed job layer position) (frames_of job p ls) (concat lists) ≡ place_in lists (layer_position job layer (layer_rows job p ls)) position
-picked_lists job layer position p [] [] same = refl
-picked_lists job layer position p [] (ns ∷ lists) same = absurd (cc)
-picked_lists job layer position p (l ∷ ls) [] same = absurd (cc)
-picked_lists job layer position p (l ∷ ls) (ns ∷ lists) same =
+pub picked_lists : (layer_limits : List (Option ℕ)) (job layer position p : ℕ) (ls : List LayerSpec) (lists : List (List ℕ)) → map (λ (ns : List ℕ). length ns) lists ≡ map (λ (l : LayerSpec). length l.numbers) ls
+    → picked (is_placed job layer position) (frames_of job p ls) (concat lists) ≡ place_in lists (layer_position job layer (layer_rows job layer_limits p ls)) position
+picked_lists layer_limits job layer position p [] [] same = refl
+picked_lists layer_limits job layer position p [] (ns ∷ lists) same = absurd (cc)
+picked_lists layer_limits job layer position p (l ∷ ls) [] same = absurd (cc)
+picked_lists layer_limits job layer position p (l ∷ ls) (ns ∷ lists) same =
     let first : length ns ≡ length l.numbers = cc in
     let others : map (λ (ms : List ℕ). length ms) lists ≡ map (λ (m : LayerSpec). length m.numbers) ls = cc in
-    by (eqb p layer) refl first (picked_lists job layer position (p + 1) ls lists others)
+    by (eqb p layer) refl first (picked_lists layer_limits job layer position (p + 1) ls lists others)
   where
     by : (b : Bool) → eqb p layer ≡ b → length ns ≡ length l.numbers
-        → picked (is_placed job layer position) (frames_of job (p + 1) ls) (concat lists) ≡ place_in lists (layer_position job layer (layer_rows job (p + 1) ls)) position
-        → picked (is_placed job layer position) (frames_of job p (l ∷ ls)) (concat (ns ∷ lists)) ≡ place_in (ns ∷ lists) (layer_position job layer (layer_rows job p (l ∷ ls))) position
+        → picked (is_placed job layer position) (frames_of job (p + 1) ls) (concat lists) ≡ place_in lists (layer_position job layer (layer_rows job layer_limits (p + 1) ls)) position
+        → picked (is_placed job layer position) (frames_of job p (l ∷ ls)) (concat (ns ∷ lists)) ≡ place_in (ns ∷ lists) (layer_position job layer (layer_rows job layer_limits p (l ∷ ls))) position
     by true is long later =
         let same : p ≡ layer = eqb-true p layer is in
         let here : picked (is_placed job layer position) (frames_from job p 0 l.numbers) ns ≡ slice_get ns position =
@@ -156,7 +156,7 @@ picked_lists job layer position p (l ∷ ls) (ns ∷ lists) same =
         picked_before (is_placed job layer position) (frames_from job p 0 l.numbers) (frames_of job (p + 1) ls) ns (concat lists) (length-from job p 0 l.numbers ∙ sym long) (later_layers job layer position (p + 1) ls (omega (arith, same)))
         ∙ here ∙ rw (eq-eqb job job refl, is) refl
     by false is long later =
-        let e : 1 + layer_position job layer (layer_rows job (p + 1) ls) ≡ suc (layer_position job layer (layer_rows job (p + 1) ls)) = omega arith in
+        let e : 1 + layer_position job layer (layer_rows job layer_limits (p + 1) ls) ≡ suc (layer_position job layer (layer_rows job layer_limits (p + 1) ls)) = omega arith in
         picked_behind (is_placed job layer position) (frames_from job p 0 l.numbers) (frames_of job (p + 1) ls) ns (concat lists) (length-from job p 0 l.numbers ∙ sym long) (other_layer job layer position p l.numbers is)
         ∙ later ∙ rw (eq-eqb job job refl, is, e) refl
 
@@ -248,9 +248,9 @@ no_layer job layer low high (l ∷ ls) rise below =
     rw apart (no_layer job layer (layer_key l + 1) high ls rise.1 below)
 
 -- no layer of another job among a job's rows
-no_row : (job layer next p : ℕ) (ls : List LayerSpec) → eqb next job ≡ false → list_any (is_layer job layer) (layer_rows next p ls) ≡ false
-no_row job layer next p [] apart = refl
-no_row job layer next p (l ∷ ls) apart = rw apart (no_row job layer next (p + 1) ls apart)
+no_row : (layer_limits : List (Option ℕ)) (job layer next p : ℕ) (ls : List LayerSpec) → eqb next job ≡ false → list_any (is_layer job layer) (layer_rows next layer_limits p ls) ≡ false
+no_row layer_limits job layer next p [] apart = refl
+no_row layer_limits job layer next p (l ∷ ls) apart = rw apart (no_row layer_limits job layer next (p + 1) ls apart)
 
 -- no frame of a job that wasn't placed
 pub none_placed : (next layer position : ℕ) (slots : List SlotRow) → list_all (is_below next) slots ≡ true → list_all (λ (s : SlotRow). not (for_some s.frame (is_placed next layer position))) slots ≡ true
@@ -358,38 +358,38 @@ frames_of_job next p ls = all_of (λ o. for_some o (λ (y : Frame). eqb y.job ne
 length-counts : {X Y : Type 0} (f : X → ℕ) (g : Y → ℕ) (xs : List X) (ys : List Y) → map f xs ≡ map g ys → length xs ≡ length ys
 length-counts f g xs ys same = sym (length-map xs f) ∙ ap (λ (ns : List ℕ). length ns) same ∙ length-map ys g
 
-module _ (layers : List LayerRow) (slots : List SlotRow) (places lists : List (List ℕ)) (next : ℕ) (ls : List LayerSpec) (rise : IsRising layer_key 0 layers (PLACE_LIMIT * next))
+module _ (layers : List LayerRow) (slots : List SlotRow) (places lists : List (List ℕ)) (next : ℕ) (layer_limits : List (Option ℕ)) (ls : List LayerSpec) (rise : IsRising layer_key 0 layers (PLACE_LIMIT * next))
     (below : list_all (is_below next) slots ≡ true) (keeps : KeepsLayers layers slots places) (went : concat lists ≡ put_places 0 slots (frames_of next 0 ls))
     (counts : map (λ (ns : List ℕ). length ns) lists ≡ map (λ (l : LayerSpec). length l.numbers) ls) where
-  as_many_lists : length lists ≡ length (layer_rows next 0 ls)
-  as_many_lists = length-counts (λ (ns : List ℕ). length ns) (λ (l : LayerSpec). length l.numbers) lists ls counts ∙ sym (length-layer_rows next 0 ls)
+  as_many_lists : length lists ≡ length (layer_rows next layer_limits 0 ls)
+  as_many_lists = length-counts (λ (ns : List ℕ). length ns) (λ (l : LayerSpec). length l.numbers) lists ls counts ∙ sym (length-layer_rows next layer_limits 0 ls)
 
   behind : (m q k : ℕ) → m ≡ length layers + q → place_in (places ++ lists) m k ≡ place_in lists q k
   behind m q k is = ap (option_and_then (λ (ns : List ℕ). slice_get ns k)) (slice_get-back places lists m q (omega (arith, is, keeps.as_many)))
 
   old_found : (b : Bool) (job layer k : ℕ) → eqb next job ≡ false → list_any (is_layer job layer) layers ≡ b
-      → place_in places (layer_position job layer layers) k ≡ place_in (places ++ lists) (layer_position job layer (layers ++ layer_rows next 0 ls)) k
+      → place_in places (layer_position job layer layers) k ≡ place_in (places ++ lists) (layer_position job layer (layers ++ layer_rows next layer_limits 0 ls)) k
   old_found true job layer k apart some =
       let within = position-within (is_layer job layer) layers some in
       ap (option_and_then (λ (ns : List ℕ). slice_get ns k)) (sym (slice_get-front places lists (layer_position job layer layers) (omega (arith, within, keeps.as_many))))
-      ∙ ap (λ (m : ℕ). place_in (places ++ lists) m k) (sym (position-front (is_layer job layer) layers (layer_rows next 0 ls) some))
+      ∙ ap (λ (m : ℕ). place_in (places ++ lists) m k) (sym (position-front (is_layer job layer) layers (layer_rows next layer_limits 0 ls) some))
   old_found false job layer k apart none =
       let nowhere = position-none (is_layer job layer) layers none in
-      let past = position-none (is_layer job layer) (layer_rows next 0 ls) (no_row job layer next 0 ls apart) in
+      let past = position-none (is_layer job layer) (layer_rows next layer_limits 0 ls) (no_row layer_limits job layer next 0 ls apart) in
       ap (option_and_then (λ (ns : List ℕ). slice_get ns k)) (slice_get_past places (layer_position job layer layers) (omega (arith, nowhere, keeps.as_many)))
-      ∙ sym (ap (option_and_then (λ (ns : List ℕ). slice_get ns k)) (slice_get_past lists (layer_position job layer (layer_rows next 0 ls)) (omega (arith, past, as_many_lists))))
-      ∙ sym (behind (layer_position job layer (layers ++ layer_rows next 0 ls)) (layer_position job layer (layer_rows next 0 ls)) k (position-back (is_layer job layer) layers (layer_rows next 0 ls) none))
+      ∙ sym (ap (option_and_then (λ (ns : List ℕ). slice_get ns k)) (slice_get_past lists (layer_position job layer (layer_rows next layer_limits 0 ls)) (omega (arith, past, as_many_lists))))
+      ∙ sym (behind (layer_position job layer (layers ++ layer_rows next layer_limits 0 ls)) (layer_position job layer (layer_rows next layer_limits 0 ls)) k (position-back (is_layer job layer) layers (layer_rows next layer_limits 0 ls) none))
 
   found_by : (job layer k : ℕ) → (job ≡ next) ⊎ (job ≡ next → ⊥)
-      → slot_from 0 (is_placed job layer k) (place_frames slots (frames_of next 0 ls)) ≡ place_in (places ++ lists) (layer_position job layer (layers ++ layer_rows next 0 ls)) k
+      → slot_from 0 (is_placed job layer k) (place_frames slots (frames_of next 0 ls)) ≡ place_in (places ++ lists) (layer_position job layer (layers ++ layer_rows next layer_limits 0 ls)) k
   found_by job layer k (inr apart) =
       let other : eqb next job ≡ false = ne_eqb next job (λ e. apart (sym e)) in
       none_new (is_placed job layer k) 0 slots (frames_of next 0 ls) (other_job job layer k next 0 ls other) ∙ keeps.found job layer k ∙ old_found (list_any (is_layer job layer) layers) job layer k other refl
   found_by job layer k (inl same) =
       rw same
-      (picked_new (is_placed next layer k) 0 slots (frames_of next 0 ls) (none_placed next layer k slots below) ∙ ap (picked (is_placed next layer k) (frames_of next 0 ls)) (sym went) ∙ picked_lists next layer k 0 ls lists counts
-      ∙ sym (behind (layer_position next layer (layers ++ layer_rows next 0 ls)) (layer_position next layer (layer_rows next 0 ls)) k
-      (position-back (is_layer next layer) layers (layer_rows next 0 ls) (no_layer next layer 0 (PLACE_LIMIT * next) layers rise (omega arith)))))
+      (picked_new (is_placed next layer k) 0 slots (frames_of next 0 ls) (none_placed next layer k slots below) ∙ ap (picked (is_placed next layer k) (frames_of next 0 ls)) (sym went) ∙ picked_lists layer_limits next layer k 0 ls lists counts
+      ∙ sym (behind (layer_position next layer (layers ++ layer_rows next layer_limits 0 ls)) (layer_position next layer (layer_rows next layer_limits 0 ls)) k
+      (position-back (is_layer next layer) layers (layer_rows next layer_limits 0 ls) (no_layer next layer 0 (PLACE_LIMIT * next) layers rise (omega arith)))))
 
   first_by : (s : ℕ) (row : SlotRow) (x : Frame) → slice_get (place_frames slots (frames_of next 0 ls)) s ≡ Some row → row.frame ≡ Some x → (x.job ≡ next) ⊎ (x.job ≡ next → ⊥)
       → slot_from 0 (is_placed x.job x.layer x.position) (place_frames slots (frames_of next 0 ls)) ≡ Some s
@@ -400,9 +400,9 @@ module _ (layers : List LayerRow) (slots : List SlotRow) (places lists : List (L
       none_new (is_placed x.job x.layer x.position) 0 slots (frames_of next 0 ls) (other_job x.job x.layer x.position next 0 ls (ne_eqb next x.job (λ e. far (sym e))))
       ∙ keeps.first s row x (old_row next slots (frames_of next 0 ls) s row x (frames_of_job next 0 ls) far at is) is
 
-  pub placed_layers : KeepsLayers (layers ++ layer_rows next 0 ls) (place_frames slots (frames_of next 0 ls)) (places ++ lists)
+  pub placed_layers : KeepsLayers (layers ++ layer_rows next layer_limits 0 ls) (place_frames slots (frames_of next 0 ls)) (places ++ lists)
   placed_layers = record {
-    as_many = omega (arith, length-append places lists, length-append layers (layer_rows next 0 ls), keeps.as_many, as_many_lists);
+    as_many = omega (arith, length-append places lists, length-append layers (layer_rows next layer_limits 0 ls), keeps.as_many, as_many_lists);
     found = λ job layer k. found_by job layer k (cases_eq job next);
     first = λ s row x at is. first_by s row x at is (cases_eq x.job next);
   }

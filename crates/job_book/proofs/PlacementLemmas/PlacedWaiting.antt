@@ -58,9 +58,9 @@ all_wait : (f : ℕ → Bool) (ns : List ℕ) → ((j n : ℕ) → slice_get ns 
 all_wait f [] each = refl
 all_wait f (n ∷ ns) each = λ j. each 0 n refl j ∷ all_wait f ns (λ k m at. each (suc k) m at) j
 
-rows_of_job : (next p : ℕ) (ls : List LayerSpec) → list_all (λ (l : LayerRow). eqb l.job next) (layer_rows next p ls) ≡ true
-rows_of_job next p [] = refl
-rows_of_job next p (l ∷ ls) = and_from _ _ (eq-eqb next next refl) (rows_of_job next (p + 1) ls)
+rows_of_job : (layer_limits : List (Option ℕ)) (next p : ℕ) (ls : List LayerSpec) → list_all (λ (l : LayerRow). eqb l.job next) (layer_rows next layer_limits p ls) ≡ true
+rows_of_job layer_limits next p [] = refl
+rows_of_job layer_limits next p (l ∷ ls) = and_from _ _ (eq-eqb next next refl) (rows_of_job layer_limits next (p + 1) ls)
 
 -- no frame of the job that doesn't wait
 abbrev is_idle : ℕ → Frame → Bool
@@ -86,8 +86,8 @@ idle_old next (s ∷ ss) below =
 idle_none : (next : ℕ) (slots : List SlotRow) (ls : List LayerSpec) → list_all (is_below next) slots ≡ true → list_all (λ (s : SlotRow). none_idle next s.frame) (place_frames slots (frames_of next 0 ls)) ≡ true
 idle_none next slots ls below = all_placed (none_idle next) slots (frames_of next 0 ls) (idle_old next slots below) (all_of (none_idle next) next 0 ls (λ l q n. rw (eq-eqb next next refl) refl))
 
-module _ (layers : List LayerRow) (slots : List SlotRow) (index more : List LayerPlaces) (next : ℕ) (ls : List LayerSpec) (rise : IsRising layer_key 0 layers (PLACE_LIMIT * next))
-    (later : IsRising layer_key 0 (layers ++ layer_rows next 0 ls) (PLACE_LIMIT * (next + 1))) (below : list_all (is_below next) slots ≡ true) (keeps : KeepsLayers layers slots (map slots_of index)) (waiting : KeepsWaiting slots index)
+module _ (layers : List LayerRow) (slots : List SlotRow) (index more : List LayerPlaces) (next : ℕ) (layer_limits : List (Option ℕ)) (ls : List LayerSpec) (rise : IsRising layer_key 0 layers (PLACE_LIMIT * next))
+    (later : IsRising layer_key 0 (layers ++ layer_rows next layer_limits 0 ls) (PLACE_LIMIT * (next + 1))) (below : list_all (is_below next) slots ≡ true) (keeps : KeepsLayers layers slots (map slots_of index)) (waiting : KeepsWaiting slots index)
     (went : concat (map slots_of more) ≡ put_places 0 slots (frames_of next 0 ls)) (counts : map count_of more ≡ map (λ (l : LayerSpec). length l.numbers) ls) (marks : map marks_of more ≡ map marks_of (map fresh_places ls)) where
   abbrev new : List SlotRow
   new = place_frames slots (frames_of next 0 ls)
@@ -96,10 +96,10 @@ module _ (layers : List LayerRow) (slots : List SlotRow) (index more : List Laye
   list_counts [] = refl
   list_counts (x ∷ xs) = λ j. length x.slots ∷ list_counts xs j
 
-  pub more_layers : KeepsLayers (layers ++ layer_rows next 0 ls) new (map slots_of (index ++ more))
+  pub more_layers : KeepsLayers (layers ++ layer_rows next layer_limits 0 ls) new (map slots_of (index ++ more))
   more_layers =
-      subst (KeepsLayers (layers ++ layer_rows next 0 ls) new) (sym (map-append slots_of index more))
-      (placed_layers layers slots (map slots_of index) (map slots_of more) next ls rise below keeps went (list_counts more ∙ counts))
+      subst (KeepsLayers (layers ++ layer_rows next layer_limits 0 ls) new) (sym (map-append slots_of index more))
+      (placed_layers layers slots (map slots_of index) (map slots_of more) next layer_limits ls rise below keeps went (list_counts more ∙ counts))
 
   -- of the layers that were there
   old_marks : (m : ℕ) (x : LayerPlaces) → slice_get index m ≡ Some x → x.waiting ≡ map (waits_in new) x.slots
@@ -124,11 +124,11 @@ module _ (layers : List LayerRow) (slots : List SlotRow) (index more : List Laye
 
       waits : (j n : ℕ) → slice_get x.slots j ≡ Some n → waits_in new n ≡ true
       waits j n stands =
-          let found = listed (layers ++ layer_rows next 0 ls) new (index ++ more) (PLACE_LIMIT * (next + 1)) m j n x later more_layers at stands in
+          let found = listed (layers ++ layer_rows next layer_limits 0 ls) new (index ++ more) (PLACE_LIMIT * (next + 1)) m j n x later more_layers at stands in
           let its = from_slot (is_placed found.layer.job found.layer.place j) new n found.found in
           let counted : length index ≡ length layers = sym (length-map index slots_of) ∙ keeps.as_many in
-          let row : slice_get (layer_rows next 0 ls) q ≡ Some found.layer = sym (slice_get-back layers (layer_rows next 0 ls) m q (omega (arith, behind, counted))) ∙ found.at in
-          let of_job : found.layer.job ≡ next = eqb-true found.layer.job next (list_all-at (λ (l : LayerRow). eqb l.job next) (layer_rows next 0 ls) q found.layer (rows_of_job next 0 ls) row) in
+          let row : slice_get (layer_rows next layer_limits 0 ls) q ≡ Some found.layer = sym (slice_get-back layers (layer_rows next layer_limits 0 ls) m q (omega (arith, behind, counted))) ∙ found.at in
+          let of_job : found.layer.job ≡ next = eqb-true found.layer.job next (list_all-at (λ (l : LayerRow). eqb l.job next) (layer_rows next layer_limits 0 ls) q found.layer (rows_of_job layer_limits next 0 ls) row) in
           let first = and_both (eqb its.frame.job found.layer.job && eqb its.frame.layer found.layer.place) (eqb its.frame.position j) its.passes in
           let job = eqb-true its.frame.job found.layer.job (and_both (eqb its.frame.job found.layer.job) (eqb its.frame.layer found.layer.place) first.0).0 in
           let none : none_idle next its.row.frame ≡ true = list_all-at (λ (s : SlotRow). none_idle next s.frame) new n its.row (idle_none next slots ls below) its.at in

@@ -10,11 +10,11 @@ use Rattle.farm_types.specs.declared.rows.LayerRow.{LayerRow}
 use Rattle.farm_types.specs.declared.slot_row.Frame.{Frame}
 use Rattle.farm_types.specs.declared.slot_row.SlotRow.{SlotRow}
 use Rattle.farm_types.specs.Booking.{is_pending}
-use Rattle.farm_types.specs.Farm.{for_some}
+use Rattle.farm_types.specs.Farm.{for_some, for_any, layer_in}
 use Rattle.farm_types.specs.Finish.{is_frame_of}
 use Rattle.farm_types.specs.Forms.{is_between, is_name_or_empty, is_name_text, is_tag_text}
 use Rattle.farm_types.specs.Jobs.{JobLists, free_among, is_free}
-use Rattle.farm_types.specs.Kept.{KeepsJobs, for_any, has_its_finish, is_formed_job, is_formed_layer, is_kept_frame, is_kept_slot, is_of_pending, is_pending_job, layer_in}
+use Rattle.farm_types.specs.Kept.{KeepsJobs, has_its_finish, is_formed_job, is_formed_layer, is_kept_frame, is_kept_slot, is_of_pending, is_pending_job}
 use Rattle.farm_types.specs.Rising.{IsRising, job_key}
 use Rattle.farm_types.specs.Rising.{layer_key as kept_key}
 use Rattle.farm_types.proofs.Lists.{and_both, find_passes, for_some_true, found_is, list_all-at, list_all-from_at}

@@ -12,8 +12,8 @@ use Rattle.farm_types.specs.declared.rows.LayerRow.{LayerRow}
 use Rattle.farm_types.specs.declared.slot_row.Frame.{Frame}
 use Rattle.farm_types.specs.declared.slot_row.SlotRow.{SlotRow}
 use Rattle.farm_types.specs.Booking.{is_waiting}
-use Rattle.farm_types.specs.Farm.{for_some, is_placed, slot_from}
-use Rattle.farm_types.specs.Kept.{EachOnce, EachThere, for_any, is_kept_frame, is_kept_slot, layer_in}
+use Rattle.farm_types.specs.Farm.{for_some, is_placed, slot_from, for_any, layer_in}
+use Rattle.farm_types.specs.Kept.{EachOnce, EachThere, is_kept_frame, is_kept_slot}
 use Rattle.farm_types.specs.Ranges.{range_numbers}
 use Rattle.farm_types.specs.Rising.{IsRising}
 use Rattle.farm_types.proofs.Changed.{changed_at_each, length-changed_at, slice_get-set_other, slice_get-set_same}

@@ -11,16 +11,24 @@ ghost use Rattle.job_book.specs.Book.{Checks};
 
 use crate::jobs::Jobs;
 use crate::placement::placing::Placing;
-use farm_types::{Counted, FarmFault, JobNo, JobSpec, LAST_JOB, LayerSpec, Refusal, ShowNo, Text};
+use farm_types::{
+    Counted, FarmFault, Items, JobNo, JobSpec, LAST_JOB, LayerSpec, LimitNo, Refusal, ShowNo, Text,
+};
 use job_entries::Entries;
 use std::alloc::Global;
 
 impl Jobs {
-    /// Where a job of that show would be placed, or its first refusal: a pending job of its name, a layer's name that
-    /// stands twice, fewer free slots than it has frames, no number left for a job. It changes nothing.
-    pub fn check(&self, alloc: Global, spec: &JobSpec, show: ShowNo) -> Result<Placing, FarmFault>
+    /// Where a job of that show would be placed, its layers with these limits, or its first refusal: a pending job of its name, a
+    /// layer's name that stands twice, fewer free slots than it has frames, no number left for a job. It changes nothing.
+    pub fn check(
+        &self,
+        alloc: Global,
+        spec: &JobSpec,
+        show: ShowNo,
+        limits: Items<Option<LimitNo>>,
+    ) -> Result<Placing, FarmFault>
         requires { JobKeepsLimits spec.now }
-        ensures { Checks self.now show spec.now result }
+        ensures { Checks self.now show limits spec.now result }
     {
         self.check_name(alloc, &spec.name)?;
         check_layers(alloc, spec.layers.as_slice())?;
@@ -29,6 +37,7 @@ impl Jobs {
         Ok(Placing {
             job: JobNo(self.entries.next() as u32),
             show,
+            limits,
             slots: self.free_slots(alloc, frames)?,
             frames,
         })

@@ -3,7 +3,7 @@
 ghost use Rattle.std.specs.Prelude.{◌≡◌, ◌≤◌, ◌+◌, ◌++◌, length, None, false};
 ghost use Rattle.std.specs.List.{list_any};
 ghost use Rattle.std.specs.Vec.{vec_capacity};
-ghost use Rattle.farm_types.specs.Jobs.{frames_in, job_refusal, job_row, layer_row, layer_rows, with_job};
+ghost use Rattle.farm_types.specs.Jobs.{frames_in, job_refusal, job_row, layer_row, layer_rows, limit_in, with_job};
 ghost use Rattle.farm_types.specs.SpecLimits.{JobKeepsLimits};
 ghost use Rattle.farm_types.specs.declared.limits.TheConstants.{MOST_LAYERS};
 ghost use Rattle.job_book.specs.Book.{placing_of, with_new_job};
@@ -14,7 +14,7 @@ use crate::jobs::Jobs;
 use crate::placement::placing::{JobSpare, Placing};
 use crate::placement::put::{behind_last, put_layers};
 use crate::reading::ready::put_ready;
-use farm_types::{JobNo, JobRow, JobSpec, JobState, LayerRow, LayerSpec};
+use farm_types::{JobNo, JobRow, JobSpec, JobState, LayerRow, LayerSpec, LimitNo};
 use job_entries::{Entry, all_waiting};
 
 impl Jobs {
@@ -23,9 +23,9 @@ impl Jobs {
     pub fn place(&mut self, spec: JobSpec, reserved: JobSpare, placing: Placing) -> JobNo
         requires limits { JobKeepsLimits spec }
         requires accepted { job_refusal self.old spec ≡ None }
-        requires placing { placing ≡ placing_of self.old placing.show spec }
+        requires placing { placing ≡ placing_of self.old placing.show placing.limits spec }
         requires reserved { reserved ≡ spare_of spec }
-        ensures book { self.new ≡ with_job self.old placing.show spec }
+        ensures book { self.new ≡ with_job self.old placing.show placing.limits spec }
         ensures job { result ≡ self.old.next_job }
     {
         self.leave_named(&spec.name);
@@ -36,10 +36,10 @@ impl Jobs {
     fn place_new(&mut self, spec: JobSpec, reserved: JobSpare, placing: Placing) -> JobNo
         requires limits { JobKeepsLimits spec }
         requires accepted { job_refusal self.old spec ≡ None }
-        requires placing { placing ≡ placing_of self.old placing.show spec }
+        requires placing { placing ≡ placing_of self.old placing.show placing.limits spec }
         requires reserved { reserved ≡ spare_of spec }
         requires unnamed { list_any (is_named spec.name) self.old.jobs ≡ false }
-        ensures book { self.new ≡ with_new_job self.old placing.show spec }
+        ensures book { self.new ≡ with_new_job self.old placing.show placing.limits spec }
         ensures job { result ≡ self.old.next_job }
     {
         let JobSpare {
@@ -52,7 +52,7 @@ impl Jobs {
         let places = placing.slots.as_slice();
         put_layers(&mut self.slots, places, job, layers.as_slice(), &mut index);
         self.lowest = behind_last(places);
-        add_layers(&mut rows, job, layers);
+        add_layers(&mut rows, job, placing.limits.as_slice(), layers);
         self.names.add(name, job);
         put_ready(&mut self.ready, &row);
         self.entries
@@ -88,23 +88,39 @@ fn taken_apart(spec: JobSpec, placing: &Placing) -> (JobRow, Vec<LayerSpec>)
     (row, spec.layers.into_vec())
 }
 
-// The rows of a job's layers, behind the others.
-fn add_layers(rows: &mut Vec<LayerRow>, job: JobNo, layers: Vec<LayerSpec>)
+// The rows of a job's layers with these limits, behind the others.
+fn add_layers(
+    rows: &mut Vec<LayerRow>,
+    job: JobNo,
+    limits: &[Option<LimitNo>],
+    layers: Vec<LayerSpec>,
+)
     requires capacity { length rows.old.items + length layers.items ≤ vec_capacity rows.old }
     requires count { length layers.items ≤ MOST_LAYERS }
-    ensures rows { rows.new.items ≡ rows.old.items ++ layer_rows job 0 layers.items }
+    ensures rows { rows.new.items ≡ rows.old.items ++ layer_rows job limits.now 0 layers.items }
     ensures capacity { vec_capacity rows.new ≡ vec_capacity rows.old }
 {
     let mut place = 0;
     for layer in layers {
-        rows.push_reserved(layer_row(job, place, layer));
+        let limit = limit_in(limits, place);
+        rows.push_reserved(layer_row(job, place, limit, layer));
         place += 1;
     }
 }
 
+// The limit of the layer at a place, none past the last.
+fn limit_in(limits: &[Option<LimitNo>], place: u32) -> Option<LimitNo>
+    ensures { result ≡ limit_in limits.now place }
+{
+    match limits.get(place as usize) {
+        None => None,
+        Some(limit) => *limit,
+    }
+}
+
 // The row of a layer, whose texts are moved.
-fn layer_row(job: JobNo, place: u32, layer: LayerSpec) -> LayerRow
-    ensures { result ≡ layer_row job place layer }
+fn layer_row(job: JobNo, place: u32, limit: Option<LimitNo>, layer: LayerSpec) -> LayerRow
+    ensures { result ≡ layer_row job place limit layer }
 {
     LayerRow {
         job,
@@ -115,5 +131,6 @@ fn layer_row(job: JobNo, place: u32, layer: LayerSpec) -> LayerRow
         cores: layer.cores,
         memory: layer.memory,
         tags: layer.tags,
+        limit,
     }
 }

@@ -1,15 +1,17 @@
 //! Where a job is to be placed, and the memory for it.
 
-use farm_types::{Items, JobNo, LayerRow, ShowNo, Slot};
+use farm_types::{Items, JobNo, LayerRow, LimitNo, ShowNo, Slot};
 use job_index::LayerFrames;
 use std::marker::Model;
 
-/// Where a job is to be placed: its number and its show's, the slots that its frames take, layer by layer and each in range
-/// order, and how many frames it has. The slots are looked for once, when the job is checked.
+/// Where a job is to be placed: its number and its show's, the limit of each of its layers, where it has one, the slots that its
+/// frames take, layer by layer and each in range order, and how many frames it has. The slots are looked for once, when the job
+/// is checked.
 #[derive(Debug, Drop)]
 pub struct Placing {
     pub job: JobNo,
     pub show: ShowNo,
+    pub limits: Items<Option<LimitNo>>,
     pub slots: Items<Slot>,
     pub frames: u32,
 }

@@ -1,7 +1,7 @@
 //! What is read of the book.
 
-ghost use Rattle.std.specs.Prelude.{◌≡◌, ◌==◌, ◌&&◌, ◌≤◌, ◌<◌, [], length, slice_get, find, option_copied, true, All, IfNone, IfSome, Some};
-ghost use Rattle.farm_types.specs.Farm.{is_placed, slot_from};
+ghost use Rattle.std.specs.Prelude.{◌≡◌, ◌==◌, ◌&&◌, ◌≤◌, ◌<◌, [], length, slice_get, find, option_and_then, option_copied, true, All, IfNone, IfSome, Some};
+ghost use Rattle.farm_types.specs.Farm.{is_placed, layer_in, slot_from};
 ghost use Rattle.farm_types.specs.Rising.{IsNextKey, job_key};
 ghost use Rattle.farm_types.specs.declared.limits.TheConstants.{MOST_SHOWS, SLOT_LIMIT};
 ghost use Rattle.job_book.specs.Book.{job_named, job_after, frame_at, frame_view, state_at, has_frame, has_job, counts_of};
@@ -12,7 +12,9 @@ use crate::jobs::Jobs;
 use crate::reading::frame_view::FrameView;
 use crate::reading::layer_index::{slot_in, waiting_in};
 use crate::reading::ready::jobs_in;
-use farm_types::{Frame, FrameState, JobNo, JobRow, LayerRow, ShowNo, Slot, SlotRow, Version};
+use farm_types::{
+    Frame, FrameState, JobNo, JobRow, LayerRow, LimitNo, ShowNo, Slot, SlotRow, Version,
+};
 use job_entries::Counts;
 
 impl Jobs {
@@ -52,6 +54,16 @@ impl Jobs {
         ensures { option_copied result ≡ find (λ l. l.job == job && l.place == place) self.now.layers }
     {
         self.entries.layer(job, place)
+    }
+
+    /// The limit of the layer at that place (from 0) of a job, none where the layer has none or isn't there.
+    pub fn layer_limit(&self, job: JobNo, place: u32) -> Option<LimitNo>
+        ensures { result ≡ option_and_then (λ l. l.limit) (layer_in self.now.layers job place) }
+    {
+        match self.layer(job, place) {
+            None => None,
+            Some(layer) => layer.limit,
+        }
     }
 
     /// The number of the first job of that name, finished ones too.

@@ -1,11 +1,12 @@
 //! What is read of one job: its layers, and where the frames of each stand.
 
 ghost use Rattle.std.specs.Prelude.{◌≡◌, ◌==◌, ◌&&◌, ℕ, None, IfSome, find, option_map, slice_get, true};
-ghost use Rattle.std.specs.List.{list_any};
+ghost use Rattle.std.specs.List.{list_all, list_any};
 ghost use Rattle.farm_types.specs.Farm.{for_some, is_placed, layers_of, slot_from};
 ghost use Rattle.farm_types.specs.Finish.{is_finished};
 ghost use Rattle.farm_types.specs.Jobs.{is_finished_named, is_pending_named, without_finished};
 ghost use Rattle.job_book.specs.Book.{without_job};
+ghost use Rattle.job_book.specs.Inside.{is_below};
 
 use crate::jobs::Jobs;
 use crate::placement::check::is_pending_in;
@@ -13,11 +14,12 @@ use crate::reading::layer_index::slots_in;
 use farm_types::{JobNo, LayerRow, Slot};
 
 impl Jobs {
-    /// The next job's number, one past the last where none is left. No job and no layer has it.
+    /// The next job's number, one past the last where none is left. No job and no layer has it, and no frame is of it or a later one.
     pub fn next_number(&self) -> u64
         ensures value { result ≡ self.now.next_job }
         ensures no_job { find (λ j. j.job == self.now.next_job) self.now.jobs ≡ None }
         ensures no_layer { (place : ℕ) → find (λ l. l.job == self.now.next_job && l.place == place) self.now.layers ≡ None }
+        ensures no_frame { list_all (is_below self.now.next_job) self.now.slots ≡ true }
     {
         self.entries.next()
     }

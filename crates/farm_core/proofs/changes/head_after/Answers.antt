@@ -1,6 +1,7 @@
 use Rattle.std.proofs.Common.{arith, ◌≡◌, ◌≤◌, ◌+◌, ◌∙◌, length, sym, ap}
 use Rattle.farm_types.specs.Jobs.{JobLists}
 use Rattle.farm_types.specs.declared.limits.TheConstants.{LAST_JOB}
+use Rattle.farm_rows.specs.declared.head_row.TheConstants.{ROW_FORMAT}
 use Rattle.depend_book.specs.Book.{DependLists}
 use Rattle.farm_core.proofs.HeadAfter.{depends_within, finishes_within, head_is}
 use Rattle.farm_core.proofs.changes.head_after.Goals as goal
@@ -32,5 +33,5 @@ returns c =
     let change = c.args.change.now in
     let number : c.next_finish.result ≡ f.next_finish = c.next_finish.ensures ∙ ap (λ (l : JobLists). l.next_finish) c.jobs.ensures in
     let depends : c.next_number.result ≡ f.next_depend = c.next_number.ensures ∙ ap (λ (x : DependLists). x.next) c.depends.ensures in
-    (λ i. record { format = 1; moment = c.moment.ensures i; jobs = c.next_job_after.ensures i; finishes = number i + c.len.ensures i; depends = depends i + c.len-2.ensures i })
+    (λ i. record { format = ROW_FORMAT; moment = c.moment.ensures i; jobs = c.next_job_after.ensures i; finishes = number i + c.len.ensures i; depends = depends i + c.len-2.ensures i })
     ∙ sym (head_is f change)

@@ -66,3 +66,8 @@ returns-in-Met c =
     let position = c.in-Met.position in
     c.is_met.ensures
     ∙ (sym (some_by (list_any (is_mark depend position) f.met) (row.Met (record { depend = depend; position = position }))) ∙ ap (λ (k : RowKey). is_some (row_at f k)) (sym c.in-Met.is))
+
+pub returns-in-Limit : goal.returns-in-Limit
+returns-in-Limit c =
+    let f = c.args.books.now.farm in
+    c.has_limit.ensures ∙ (sym (some_row (row.Limit c.in-Limit.limit) (slice_get f.limits c.in-Limit.limit)) ∙ ap (λ (k : RowKey). is_some (row_at f k)) (sym c.in-Limit.is))

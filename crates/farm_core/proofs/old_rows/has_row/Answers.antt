@@ -6,7 +6,7 @@ use Rattle.farm_rows.specs.declared.farm_row.FarmRow.TheVariants as row
 use Rattle.farm_rows.specs.declared.row_key.RowKey.TheVariants as key
 use Rattle.farm_rows.specs.Changes.{is_mark, row_at}
 use Rattle.farm_rows.specs.Rows.{head_row}
-use Rattle.farm_core.proofs.SameRow.{alloc_in, at_row, depend_in, head_same, host_in, job_in, layer_in, same_by, same_row, show_in, sub_in}
+use Rattle.farm_core.proofs.SameRow.{alloc_in, at_row, depend_in, head_same, host_in, job_in, layer_in, limit_in, same_by, same_row, show_in, sub_in}
 use Rattle.farm_core.proofs.old_rows.has_row.Goals as goal
 
 pub returns-in-Head : goal.returns-in-Head
@@ -33,6 +33,11 @@ pub returns-in-Host : goal.returns-in-Host
 returns-in-Host c =
     let f = c.args.books.now.farm in
     at_row f c.args.row.now (row.Host c.in-Host.host c.in-Host.row) c.is_host.result c.in-Host.is (same_row (row.Host c.in-Host.host) host_in (λ x. refl) (slice_get f.hosts c.in-Host.host) c.in-Host.row c.is_host.result c.is_host.ensures)
+
+pub returns-in-Limit : goal.returns-in-Limit
+returns-in-Limit c =
+    let f = c.args.books.now.farm in
+    at_row f c.args.row.now (row.Limit c.in-Limit.limit c.in-Limit.row) c.is_limit.result c.in-Limit.is (same_row (row.Limit c.in-Limit.limit) limit_in (λ x. refl) (slice_get f.limits c.in-Limit.limit) c.in-Limit.row c.is_limit.result c.is_limit.ensures)
 
 pub returns-in-Job : goal.returns-in-Job
 returns-in-Job c =

@@ -22,3 +22,11 @@ returns-clause-number c = refl
 pub returns-clause-open : goal.returns-clause-open
 unfolding is_utf8 chars groups_so_far groups_of is_range_text range_numbers numbers_of set_of add_section section_at fault_of section_numbers printed_section digits lib.Utf8.encode
 returns-clause-open c = refl
+
+pub returns-clause-limit : goal.returns-clause-limit
+unfolding is_utf8 chars groups_so_far groups_of is_range_text range_numbers numbers_of set_of add_section section_at fault_of section_numbers printed_section digits lib.Utf8.encode
+returns-clause-limit c = refl
+
+pub returns-clause-new : goal.returns-clause-new
+unfolding is_utf8 chars groups_so_far groups_of is_range_text range_numbers numbers_of set_of add_section section_at fault_of section_numbers printed_section digits lib.Utf8.encode
+returns-clause-new c = refl

@@ -14,3 +14,7 @@ use Rattle.farm_rows.proofs.recovering.rows_give_the_farm_back.Goals as goal
 pub returns-clause-whole : goal.returns-clause-whole
 unfolding is_utf8 chars groups_so_far groups_of is_range_text range_numbers numbers_of set_of add_section section_at fault_of section_numbers printed_section digits lib.Utf8.encode
 returns-clause-whole c = refl
+
+pub returns-clause-old : goal.returns-clause-old
+unfolding is_utf8 chars groups_so_far groups_of is_range_text range_numbers numbers_of set_of add_section section_at fault_of section_numbers printed_section digits lib.Utf8.encode
+returns-clause-old c = refl

@@ -2,7 +2,7 @@
 use Rattle.std.proofs.Common.{refl}
 use Rattle.std.specs.Fmt.{digits}
 use Rattle.serde_json.proofs.OnLiterals.{serde_json_on_literals}
-use Rattle.row_codec.specs.RowFields.{depend_fields, free_fields, head_fields, host_fields, job_fields, layer_fields, met_fields, resting_fields, running_fields, sub_fields}
+use Rattle.row_codec.specs.RowFields.{depend_fields, free_fields, head_fields, host_fields, job_fields, layer_fields, limit_fields, met_fields, resting_fields, running_fields, sub_fields}
 use Rattle.row_codec.proofs.examples.bytes_of_rows.Goals as goal
 
 pub returns-clause-head : goal.returns-clause-head
@@ -44,3 +44,7 @@ returns-clause-job c = refl
 pub returns-clause-dead : goal.returns-clause-dead
 unfolding serde_json_on_literals digits resting_fields
 returns-clause-dead c = refl
+
+pub returns-clause-limit : goal.returns-clause-limit
+unfolding serde_json_on_literals digits limit_fields
+returns-clause-limit c = refl

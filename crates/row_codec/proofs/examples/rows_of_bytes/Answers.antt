@@ -4,8 +4,8 @@ use Rattle.std.specs.Fmt.{digits}
 use Rattle.std.specs.Str.{chars, is_utf8}
 use Rattle.serde_json.proofs.OnLiterals.{serde_json_on_literals}
 use Rattle.cue_json.specs.Lines.{object_in}
-use Rattle.row_codec.specs.RowFields.{head_fields, sub_fields}
-use Rattle.row_codec.specs.RowReading.{head_at, host_at, row_from, sub_at}
+use Rattle.row_codec.specs.RowFields.{head_fields, layer_fields, sub_fields}
+use Rattle.row_codec.specs.RowReading.{head_at, host_at, layer_at, row_from, sub_at}
 use Rattle.row_codec.proofs.examples.rows_of_bytes.Goals as goal
 
 pub returns-clause-sub : goal.returns-clause-sub
@@ -35,3 +35,11 @@ returns-clause-kind c = refl
 pub returns-clause-id : goal.returns-clause-id
 unfolding row_from object_in is_utf8 chars serde_json_on_literals digits head_at head_fields
 returns-clause-id c = refl
+
+pub returns-clause-old : goal.returns-clause-old
+unfolding row_from object_in is_utf8 chars serde_json_on_literals digits layer_at layer_fields
+returns-clause-old c = refl
+
+pub returns-clause-new : goal.returns-clause-new
+unfolding row_from object_in is_utf8 chars serde_json_on_literals digits layer_at layer_fields
+returns-clause-new c = refl

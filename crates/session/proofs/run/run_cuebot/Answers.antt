@@ -12,7 +12,7 @@ pub returns-in_default-clause-call : goal.returns-in_default-clause-call
 returns-in_default-clause-call g c = (
   idle [],
   called_for_usage c.args.words.now (g.S.Source.left c.args.source.now) (g.S.Source.faults c.args.source.now) (g.W.Sink.written c.args.sink.now) (g.W.Sink.faults c.args.sink.now)
-      (g.C.Clock.readings c.args.clock.now) (g.K.Keeper.faults c.args.keeper) _ _ _ _ _ _ refl
+      (g.C.Clock.readings c.args.clock.now) (g.K.Keeper.faults c.args.keeper) _ _ _ _ _ _ _ refl
       (no_form c.form.result (form_of c.args.words.now) c.form.ensures.value c.in_default.not-Some) (Tells-none (g.C.Clock.readings c.args.clock.now)),
 )
 
@@ -20,7 +20,7 @@ pub returns-in_default-make-clause-call : goal.returns-in_default-make-clause-ca
 returns-in_default-make-clause-call g c = (
   idle [],
   called_for_memory c.args.words.now (g.S.Source.left c.args.source.now) (g.S.Source.faults c.args.source.now) (g.W.Sink.written c.args.sink.now) (g.W.Sink.faults c.args.sink.now)
-      (g.C.Clock.readings c.args.clock.now) (g.K.Keeper.faults c.args.keeper) _ _ _ _ _ _ refl
+      (g.C.Clock.readings c.args.clock.now) (g.K.Keeper.faults c.args.keeper) _ _ _ _ _ _ _ refl
       (Tells-none (g.C.Clock.readings c.args.clock.now)),
 )
 
@@ -38,7 +38,7 @@ returns-in-Opened-clause-call g c =
       opened_call c.now-moment.result session.0,
       called_opened g.K.Keeper.commits g.K.Keeper.tells g.K.Keeper.holds g.K.Keeper.left g.K.Keeper.faults c.args.keeper c.in-Opened.recorder.keeper
           c.answer_opened.result.1 c.args.words.now c.answer_opened.result.0
-          c.now-moment.result c.in-Opened.recorder.farm session.0 before after (g.C.Clock.readings c.now-moment.new.self) _ _ _ _ _ opens.1
+          c.now-moment.result c.in-Opened.recorder.farm session.0 before after (g.C.Clock.readings c.now-moment.new.self) _ _ _ _ _ _ opens.1
           c.answer_opened.ensures.opened refl refl
           (word_form c.in-Some.form) (sym c.form.ensures.value ∙ ap (option_map word_form) c.in-Some.is)
           (opened_still (g.K.Keeper.tells c.in-Opened.recorder.keeper) (g.K.Keeper.tells c.answer_opened.result.1) (g.K.Keeper.holds c.args.keeper)
@@ -53,7 +53,7 @@ pub returns-clause-call : goal.returns-clause-call
 returns-clause-call g c =
     let told = c.tell_fault.ensures.told in (
       told_call told.0 (c.now-moment.result ∷ []),
-      called_failed c.args.words.now (word_form c.in-Some.form) c.now-moment.result _ _ _ _
+      called_failed c.args.words.now (word_form c.in-Some.form) c.now-moment.result _ _ _ _ _
           (sym c.form.ensures.value ∙ ap (option_map word_form) c.in-Some.is) c.in-Failed.fault c.tell_fault.result told.0
           (g.S.Source.left c.args.source.now) (g.S.Source.faults c.args.source.now) (g.W.Sink.written c.args.sink.now) (g.W.Sink.written c.tell_fault.new.sink)
           (g.W.Sink.faults c.args.sink.now)

@@ -6,7 +6,7 @@ use Rattle.farm_types.specs.declared.refusal.Refusal.TheVariants as refusal
 use Rattle.farm_lines.specs.declared.reply.Reply.{Reply}
 use Rattle.farm_lines.specs.declared.reply.Reply.TheVariants as reply
 use Rattle.farm_lines.specs.ListReplies.{list_data}
-use Rattle.farm_lines.specs.Reply.{bad_amount, bad_line, bad_range, boot_data, depend_data, done_data, dropped_data, ended_data, entries_full, no_memory, refusal_data, report_data, still_held, store_fault, sub_data, submit_data, tick_data, too_long, reply_data}
+use Rattle.farm_lines.specs.Reply.{bad_amount, bad_line, bad_range, boot_data, depend_data, done_data, dropped_data, ended_data, entries_full, limit_data, no_memory, refusal_data, report_data, still_held, store_fault, sub_data, submit_data, tick_data, too_long, reply_data}
 use Rattle.farm_lines.specs.Words.{whole}
 use Rattle.rqd_core.specs.Replies.{code_of}
 use Rattle.worked_examples.proofs.daemon.codes_are_those_of_lines.Goals as goal
@@ -27,9 +27,10 @@ refused_code (refusal.Started frame) = refl
 refused_code (refusal.Full limit what) = refl
 
 told_code : (r : Reply) → get (codes "code") (reply_data r) ≡ option_map whole (code_of r)
-unfolding bad_amount bad_line bad_range boot_data depend_data done_data dropped_data ended_data entries_full no_memory report_data still_held store_fault sub_data submit_data tick_data too_long list_data
+unfolding bad_amount bad_line bad_range boot_data depend_data done_data dropped_data ended_data entries_full limit_data no_memory report_data still_held store_fault sub_data submit_data tick_data too_long list_data
 told_code reply.Done = refl
 told_code (reply.Sub booked burst size) = refl
+told_code (reply.Limit most running) = refl
 told_code (reply.Boot boot nonce) = refl
 told_code (reply.Tick down lost) = refl
 told_code (reply.Submitted frames job) = refl

@@ -8,6 +8,10 @@ pub returns-clause-subs : goal.returns-clause-subs
 unfolding chars digits
 returns-clause-subs c = refl
 
+pub returns-clause-limits : goal.returns-clause-limits
+unfolding chars digits
+returns-clause-limits c = refl
+
 pub returns-clause-none : goal.returns-clause-none
 unfolding chars digits
 returns-clause-none c = refl

@@ -1,6 +1,6 @@
 -- The examples compute.
 use Rattle.std.proofs.Common.{refl}
-use Rattle.farm_lines.specs.ReplyLines.{done_reply, tick_reply, full_at, full_reply, list_reply_at}
+use Rattle.farm_lines.specs.ReplyLines.{done_reply, tick_reply, full_at, full_reply, limit_reply, list_reply_at}
 use Rattle.farm_lines.specs.ReplyRows.{frame_row_at, name_row_at}
 use Rattle.worked_examples.proofs.tool.replies_are_read.Goals as goal
 
@@ -11,6 +11,10 @@ returns-clause-done c = refl
 pub returns-clause-tick : goal.returns-clause-tick
 unfolding done_reply tick_reply full_at full_reply frame_row_at name_row_at list_reply_at
 returns-clause-tick c = refl
+
+pub returns-clause-limit : goal.returns-clause-limit
+unfolding limit_reply
+returns-clause-limit c = refl
 
 pub returns-clause-stale : goal.returns-clause-stale
 unfolding done_reply tick_reply full_at full_reply frame_row_at name_row_at list_reply_at

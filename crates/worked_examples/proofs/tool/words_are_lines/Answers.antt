@@ -17,6 +17,10 @@ pub returns-clause-sub : goal.returns-clause-sub
 unfolding serde_json_on_literals digits words_of
 returns-clause-sub c = refl
 
+pub returns-clause-limit : goal.returns-clause-limit
+unfolding words_of serde_json_on_literals digits
+returns-clause-limit c = refl
+
 pub returns-clause-nimby : goal.returns-clause-nimby
 unfolding serde_json_on_literals digits words_of
 returns-clause-nimby c = refl

@@ -35,6 +35,10 @@ pub returns-clause-no_cores : goal.returns-clause-no_cores
 unfolding words_of
 returns-clause-no_cores c = refl
 
+pub returns-clause-no_most : goal.returns-clause-no_most
+unfolding words_of
+returns-clause-no_most c = refl
+
 pub returns-clause-no_kind : goal.returns-clause-no_kind
 unfolding words_of
 returns-clause-no_kind c = refl

@@ -1,8 +1,12 @@
+use Rattle.std.specs.List.{list_all}
 use Rattle.std.proofs.Common.{◌≡◌, ◌∙◌, ◌-◌, ℕ, List, length, ap, sym, arith}
 use Rattle.farm_types.specs.declared.slot_row.SlotRow.{SlotRow}
 use Rattle.farm_types.specs.Jobs.{JobLists, frames_of, place_frames}
+use Rattle.farm_types.specs.Sums.{running_among}
 use Rattle.attempt_book.specs.Book.{AttemptLists}
+use Rattle.farm_books.specs.Inside.{is_framed}
 use Rattle.farm_books.specs.Install.{procs_of}
+use Rattle.farm_books.proofs.CountedLimits.{placed_framed, running_more}
 use Rattle.farm_books.proofs.SlotAttempts.{placed_count, placed_procs}
 use Rattle.farm_books.proofs.books.Books.install_job.Goals as goal
 
@@ -27,4 +31,9 @@ invariant_of-self c =
       attempts_are =
           ap (λ (b : AttemptLists). b.procs) c.grow.ensures ∙ placed_procs a.attempts.procs slots frames more c.self.invariant.attempts_are count
           ∙ sym (ap (λ (b : JobLists). procs_of b.slots) c.place.ensures.book);
+      framed = ap (λ (b : JobLists). list_all is_framed b.slots) c.place.ensures.book ∙ placed_framed slots frames c.self.invariant.framed;
+      running = λ limit below.
+          c.self.invariant.running limit below
+          ∙ sym (ap (λ (b : JobLists). running_among b.layers limit b.slots) c.place.ensures.book
+          ∙ running_more a.jobs.layers a.jobs.next_job c.args.placing.limits c.args.spec.layers limit slots c.next_number-next.ensures.no_frame c.self.invariant.framed);
     }

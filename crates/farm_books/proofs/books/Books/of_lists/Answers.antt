@@ -1,9 +1,13 @@
 use Rattle.std.proofs.Common.{◌∙◌, length, sym, ap}
+use Rattle.std.specs.List.{list_all}
 use Rattle.farm_types.specs.Jobs.{JobLists}
 use Rattle.farm_types.specs.Step.{lists_of}
 use Rattle.farm_rows.specs.Lists.{farm_in}
 use Rattle.attempt_book.specs.Book.{AttemptLists}
+use Rattle.farm_law.proofs.RunningInLimits.{free_have_none}
+use Rattle.farm_books.specs.Inside.{is_framed}
 use Rattle.farm_books.specs.Install.{procs_of}
+use Rattle.farm_books.proofs.CountedLimits.{given_framed}
 use Rattle.farm_books.proofs.RestoredBooks.{booked_in_slots, known_in, most_shows}
 use Rattle.farm_books.proofs.books.Books.of_lists.Goals as goal
 
@@ -21,8 +25,12 @@ of_rows-requires-4 c =
 
 pub invariant_of-result : goal.invariant_of-result
 invariant_of-result c =
+    let f = farm_in c.args.lists in
+    let slots = c.as_slice-2.ensures.value ∙ sym (ap (λ (b : JobLists). b.slots) c.in_ok-jobs.ensures) in
     record {
       attempts_are =
           ap (λ (b : AttemptLists). b.procs) c.in_ok-attempts.ensures
-          ∙ ap procs_of (c.as_slice-2.ensures.value ∙ sym (ap (λ (b : JobLists). b.slots) c.in_ok-jobs.ensures));
+          ∙ ap procs_of slots;
+      framed = ap (λ (b : JobLists). list_all is_framed b.slots) c.in_ok-jobs.ensures ∙ given_framed f.slots (free_have_none f.slots c.requires.sound.attempts);
+      running = c.in_ok-limits.ensures.running;
     }

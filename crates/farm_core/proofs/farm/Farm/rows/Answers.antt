@@ -17,6 +17,6 @@ returns c =
     let head = c.head.result in
     let first = c.in_ok-push.ensures.items ∙ ap (λ (rows : List FarmRow). rows ++ row.Head head ∷ []) c.new-rows.ensures.items in
     c.from_vec.ensures
-    ∙ (all_pushed f b head c.push.new.self.items c.push_rows.new.rows.items c.push_depends.new.rows.items (c.head.ensures ∙ ap head_row (sym same))
-    (sym c.is_recorded.ensures ∙ told) first c.in_ok-push_rows.ensures c.in_ok-push_depends.ensures
+    ∙ (all_pushed f b head c.push.new.self.items c.push_rows.new.rows.items c.push_depends.new.rows.items c.push_limits.new.rows.items (c.head.ensures ∙ ap head_row (sym same))
+    (sym c.is_recorded.ensures ∙ told) first c.in_ok-push_rows.ensures c.in_ok-push_depends.ensures c.in_ok-push_limits.ensures
     ∙ (ap rows_of same ∙ ap rows_of c.self.view_is))

@@ -1,10 +1,8 @@
 use Rattle.std.proofs.Common.{◌∙◌, ℕ, List, length, ap, sym}
 use Rattle.farm_types.specs.declared.depend.DependRow.{DependRow}
 use Rattle.farm_types.specs.declared.depend.Group.{Group}
-use Rattle.farm_rows.specs.declared.farm_row.FarmRow.TheVariants as row
-use Rattle.farm_rows.specs.Recovery.{row_fits}
 use Rattle.stored_rows.specs.Told.{Told}
-use Rattle.stored_farm.specs.Judged.{passes}
+use Rattle.stored_farm.specs.Judged.{passes, takes_depend}
 use Rattle.stored_farm.specs.Kept.{groups_kept}
 use Rattle.stored_farm.proofs.Changes.{left_said}
 use Rattle.stored_farm.proofs.JudgedSame.{depend_judged, kept_beside}
@@ -22,4 +20,4 @@ returns c =
     ∙ (ap (λ (n : ℕ). passes f n a.left d c.args.groups.now) (ap (λ (xs : List DependRow). length xs) c.as_slice-depends.ensures.value)
     ∙ (ap (λ (gs : List Group). passes f (length ds) a.left d gs) own
     ∙ (depend_judged f c.kept.ensures ds ms a.left (left_said a.rows a.last ds a.groups.items ms a.left c.self.invariant) d
-    ∙ ap (λ (t : Told). row_fits t.farm (row.Depend d)) c.self.view_is)))
+    ∙ ap (λ (t : Told). takes_depend t.farm d) c.self.view_is)))

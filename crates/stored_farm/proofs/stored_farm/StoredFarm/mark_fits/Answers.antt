@@ -1,8 +1,6 @@
 use Rattle.std.proofs.Common.{◌∙◌, ◌&&◌, ap, sym, subst}
-use Rattle.farm_rows.specs.declared.farm_row.FarmRow.TheVariants as row
-use Rattle.farm_rows.specs.Recovery.{row_fits}
 use Rattle.stored_rows.specs.Told.{Told}
-use Rattle.stored_farm.specs.Judged.{is_mark_among}
+use Rattle.stored_farm.specs.Judged.{is_mark_among, takes_mark}
 use Rattle.stored_farm.specs.Marks.{EachRises}
 use Rattle.stored_farm.proofs.JudgedSame.{each_rises, mark_judged}
 use Rattle.stored_farm.proofs.stored_farm.StoredFarm.mark_fits.Goals as goal
@@ -20,4 +18,4 @@ returns c =
     let groups = c.as_slice-groups.ensures.value ∙ c.self.invariant.groups_are in
     c.both.ensures
     ∙ ((λ i. c.is_recorded.ensures i && (c.mark_fits-fits.ensures ∙ (λ j. is_mark_among (c.as_slice-depends.ensures.value j) (groups j) m)) i)
-    ∙ (mark_judged f c.kept.ensures a.depends.items a.met.items m ∙ ap (λ (t : Told). row_fits t.farm (row.Met m)) c.self.view_is))
+    ∙ (mark_judged f c.kept.ensures a.depends.items a.met.items m ∙ ap (λ (t : Told). takes_mark t.farm m) c.self.view_is))

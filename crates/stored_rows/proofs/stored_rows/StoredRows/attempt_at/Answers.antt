@@ -4,8 +4,7 @@ use Rattle.std.specs.List.{find}
 use Rattle.farm_types.specs.declared.rows.HostRow.{HostRow}
 use Rattle.farm_types.specs.declared.rows.JobRow.{JobRow}
 use Rattle.farm_types.specs.declared.rows.LayerRow.{LayerRow}
-use Rattle.farm_types.specs.Farm.{sub_of}
-use Rattle.farm_types.specs.Kept.{layer_in}
+use Rattle.farm_types.specs.Farm.{sub_of, layer_in}
 use Rattle.farm_rows.specs.Recovery.{attempt_at, attempt_fits}
 use Rattle.row_index.proofs.SubNumbers.{sub_below}
 use Rattle.stored_rows.specs.Inside.{told_of}

@@ -2,8 +2,7 @@ use Rattle.std.proofs.Common.{rules, ◌≡◌, ◌∙◌, ap, refl, sym, subst,
 use Rattle.std.specs.List.{find, list_all}
 use Rattle.std.specs.Str.{bytes_eq}
 use Rattle.farm_types.specs.declared.rows.LayerRow.{LayerRow}
-use Rattle.farm_types.specs.Farm.{for_some, layers_of}
-use Rattle.farm_types.specs.Kept.{for_any}
+use Rattle.farm_types.specs.Farm.{for_some, layers_of, for_any}
 use Rattle.farm_types.specs.Rising.{IsRising, layer_key}
 use Rattle.farm_rows.specs.Recovery.{is_part_in}
 use Rattle.row_index.specs.Index.{LayerKnown}

@@ -10,6 +10,8 @@ invariant_of-self-2 c =
     let a = c.self.inside in
     let after = subst (λ (t : Told). comes_after t.last (3, c.args.number) ≡ true) (sym c.self.view_is) c.requires.after in
     record {
-      told = told_kept (told_of a) a.hosts a.jobs a.layers.items c.self.invariant.told (3, c.from.result) _ (subst (λ (n : ℕ). comes_after a.last (3, n) ≡ true) (sym (c.from.ensures ∙ c.number.view_is)) after) refl refl refl refl refl c.self.invariant.told.of_subs;
+      told = told_kept (told_of a) a.hosts a.jobs a.layers.items c.self.invariant.told (3, c.from.result) _ _ (subst (λ (n : ℕ). comes_after a.last (3, n) ≡ true) (sym (c.from.ensures ∙ c.number.view_is)) after) refl refl refl refl refl c.self.invariant.told.of_subs;
+      limits = c.self.invariant.limits;
+      format = c.self.invariant.format;
       room = c.self.invariant.room;
     }

@@ -25,5 +25,7 @@ invariant_of-self c =
     let slot = c.note_slot.ensures ∙ ap (λ (ls : List LayerRow). with_found ls r.slot said.frame a.layers.items) c.as_slice.ensures.value in
     record {
       told = rw (c.id_of.ensures, c.fill.ensures.items, c.note_attempt.ensures, left, slot) (frame_kept_as (told_of a) a.hosts a.jobs a.layers.items c.self.invariant.told r after fits said is);
+      limits = c.self.invariant.limits;
+      format = c.self.invariant.format;
       room = rw c.fill.ensures.room c.self.invariant.room;
     }

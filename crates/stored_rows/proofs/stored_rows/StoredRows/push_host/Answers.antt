@@ -21,4 +21,4 @@ invariant_of-self-2 c =
     let a = c.self.inside in
     let after = subst (λ (t : Told). comes_after t.last (5, c.args.host) ≡ true) (sym c.self.view_is) c.requires.after in
     let rows : c.push_reserved.new.self.items ≡ a.lists.hosts.items ++ c.args.row ∷ [] = c.push_reserved.ensures.items ∙ ap (λ xs. xs ++ c.args.row ∷ []) c.reserve.ensures.items in
-    record { told = rw ((c.from.ensures ∙ c.host.view_is), rows, c.in_ok-add.ensures.ok) (host_kept (told_of a) a.hosts a.jobs a.layers.items c.self.invariant.told c.args.host c.args.row after); room = c.self.invariant.room }
+    record { told = rw ((c.from.ensures ∙ c.host.view_is), rows, c.in_ok-add.ensures.ok) (host_kept (told_of a) a.hosts a.jobs a.layers.items c.self.invariant.told c.args.host c.args.row after); limits = c.self.invariant.limits; format = c.self.invariant.format; room = c.self.invariant.room }

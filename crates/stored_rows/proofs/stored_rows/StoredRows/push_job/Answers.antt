@@ -22,4 +22,4 @@ invariant_of-self-2 c =
     let after = subst (λ (t : Told). comes_after t.last (6, c.args.row.job) ≡ true) (sym c.self.view_is) c.requires.after in
     let ends = job_finish (told_of a).farm c.args.row (subst (λ (t : Told). job_fits t.farm c.args.row ≡ true) (sym c.self.view_is) c.requires.fits) in
     let rows : c.push_reserved.new.self.items ≡ a.lists.jobs.items ++ c.args.row ∷ [] = c.push_reserved.ensures.items ∙ ap (λ xs. xs ++ c.args.row ∷ []) c.reserve.ensures.items in
-    record { told = rw (c.id_of-id.ensures, rows, c.in_ok-add.ensures.ok) (job_kept (told_of a) a.hosts a.jobs a.layers.items c.self.invariant.told c.args.row after ends); room = c.self.invariant.room }
+    record { told = rw (c.id_of-id.ensures, rows, c.in_ok-add.ensures.ok) (job_kept (told_of a) a.hosts a.jobs a.layers.items c.self.invariant.told c.args.row after ends); limits = c.self.invariant.limits; format = c.self.invariant.format; room = c.self.invariant.room }

@@ -17,5 +17,7 @@ invariant_of-self-2 c =
     record {
       told = rw (c.layer_key-id.ensures, rows, known)
           (layer_kept (told_of a) a.hosts a.jobs a.layers.items c.self.invariant.told r c.args.set after (layer_below (told_of a).farm r fits) c.requires.range c.in_ok-known.ensures.few);
+      limits = c.self.invariant.limits;
+      format = c.self.invariant.format;
       room = c.self.invariant.room;
     }

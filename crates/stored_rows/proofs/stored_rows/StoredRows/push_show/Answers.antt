@@ -16,6 +16,8 @@ invariant_of-self-2 c =
     let shows : c.push.new.self.items ≡ a.lists.shows.items ++ c.args.row ∷ [] = c.in_ok-push.ensures.items in
     let subs = subst (λ (xs : List ShowRow). KnowsSubs xs a.lists.subs.items) (sym shows) (show_numbered (told_of a).farm c.args.show c.args.row fits c.self.invariant.told.of_subs) in
     record {
-      told = told_kept (told_of a) a.hosts a.jobs a.layers.items c.self.invariant.told (2, c.from.result) _ (subst (λ (n : ℕ). comes_after a.last (2, n) ≡ true) (sym (c.from.ensures ∙ c.show.view_is)) after) refl refl refl refl refl subs;
+      told = told_kept (told_of a) a.hosts a.jobs a.layers.items c.self.invariant.told (2, c.from.result) _ _ (subst (λ (n : ℕ). comes_after a.last (2, n) ≡ true) (sym (c.from.ensures ∙ c.show.view_is)) after) refl refl refl refl refl subs;
+      limits = c.self.invariant.limits;
+      format = c.self.invariant.format;
       room = c.self.invariant.room;
     }

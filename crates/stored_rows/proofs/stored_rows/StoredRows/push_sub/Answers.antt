@@ -16,6 +16,8 @@ invariant_of-self-2 c =
     let rows : c.push.new.self.items ≡ a.lists.subs.items ++ c.args.row.now ∷ [] = c.in_ok-push.ensures.items in
     let subs = subst (λ (xs : List SubRow). KnowsSubs a.lists.shows.items xs) (sym rows) (sub_numbered (told_of a).farm c.args.row.now fits c.self.invariant.told.of_subs) in
     record {
-      told = told_kept (told_of a) a.hosts a.jobs a.layers.items c.self.invariant.told (4, c.id_of-id.result) _ (subst (λ (n : ℕ). comes_after a.last (4, n) ≡ true) (sym c.id_of-id.ensures) after) refl refl refl refl refl subs;
+      told = told_kept (told_of a) a.hosts a.jobs a.layers.items c.self.invariant.told (4, c.id_of-id.result) _ _ (subst (λ (n : ℕ). comes_after a.last (4, n) ≡ true) (sym c.id_of-id.ensures) after) refl refl refl refl refl subs;
+      limits = c.self.invariant.limits;
+      format = c.self.invariant.format;
       room = c.self.invariant.room;
     }
