@@ -28,8 +28,8 @@ use std::marker::Model;
 use sub_ledger::Subs;
 
 /// The farm's books, and its counters, which contracts see as the farm and the graph of its depends. The live attempts stand twice, in the slots and in
-/// a book of their own, which keeps what they use and each host's own; the book of limits keeps how many of them run in each limit. Of a row that is put in it is known only what its book asks: what every farm keeps
-/// is the law of the layers above.
+/// a book of their own, which keeps what they use and each host's own; the book of limits keeps how many of them run in each limit. Of a row that is put
+/// in it is known only what its book asks: what every farm keeps is the law of the layers above.
 #[derive(Drop)]
 pub struct Books {
     pub(crate) shows: Shows,

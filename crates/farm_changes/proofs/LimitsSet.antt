@@ -1,5 +1,5 @@
 -- A limit that is set: what the farm says of it, and the change of a row that it comes to.
-use Rattle.std.proofs.Common.{◌≡◌, ◌≢◌, ◌≤◌, ◌<◌, ◌+◌, ℕ, suc, Bool, true, false, cond, eqb, List, [], ◌∷◌, ◌++◌, length, Option, Some, None, option_map, refl, sym, ap, subst, ◌∙◌, arith}
+use Rattle.std.proofs.Common.{◌≡◌, ◌≢◌, ◌≤◌, ◌+◌, ℕ, suc, Bool, true, false, cond, eqb, List, [], ◌∷◌, ◌++◌, length, Option, Some, None, option_map, refl, sym, ap, subst, ◌∙◌, arith}
 use Rattle.std.specs.Prelude.{Err, Ok, Result, bytes_eq, nat_lt}
 use Rattle.std.specs.List.{slice_get, slice_set}
 use Rattle.std.proofs.lemmas.Bool.{eq-eqb, false≢true}
@@ -12,10 +12,9 @@ use Rattle.farm_types.specs.declared.refusal.Counted.TheVariants as counted
 use Rattle.farm_types.specs.declared.refusal.Refusal.TheVariants as refusal
 use Rattle.farm_types.specs.declared.rows.LimitRow.{LimitRow}
 use Rattle.farm_types.specs.EntryAnswers.{running_of}
-use Rattle.farm_types.specs.Farm.{Farm, changed_at, limit_from, limit_named}
+use Rattle.farm_types.specs.Farm.{Farm, limit_from, limit_named}
 use Rattle.farm_types.specs.Kept.{KeepsRows, limit_label}
 use Rattle.farm_types.specs.Step.{act_refusal, after_limit, at_moment, limit_refusal, limit_row, with_most}
-use Rattle.farm_types.specs.Sums.{running_in}
 use Rattle.farm_types.proofs.Changed.{changed_at_is, slice_get-set_other, slice_get-set_same}
 use Rattle.farm_law.proofs.KeptNames.{named_within}
 use Rattle.farm_rows.specs.declared.farm_row.FarmRow.TheVariants as row
@@ -32,8 +31,7 @@ use Rattle.limit_book.specs.declared.plan.LimitRefusal.{LimitRefusal}
 use Rattle.limit_book.specs.declared.plan.LimitRefusal.TheVariants.{Full}
 use Rattle.farm_books.specs.Limits.{with_limit}
 use Rattle.farm_draft.specs.declared.rows.Rows.{Rows}
-use Rattle.farm_types.specs.declared.fault.FarmFault.TheVariants.{Refused}
-use Rattle.farm_changes.specs.Change.{FitsLimit, FitsMore, Makes, Prepares, RunsPlanned, with_more}
+use Rattle.farm_changes.specs.Change.{FitsMore, Makes, RunsPlanned, with_more}
 use Rattle.farm_changes.specs.declared.act_answer.ActAnswer.TheVariants as known
 use Rattle.farm_changes.specs.declared.change.Change.{Change}
 use Rattle.farm_changes.specs.declared.change.More.{More}

@@ -1,5 +1,5 @@
 -- The line of a job's spec is read as that spec.
-use Rattle.std.proofs.Common.{◌≡◌, ℕ, true, Bool, false, List, [], length, Some, Ok, refl, sym, subst, ap, ◌∙◌, arith}
+use Rattle.std.proofs.Common.{◌≡◌, ℕ, Bool, false, List, [], length, Some, Ok, refl, sym, subst, ap, ◌∙◌, arith}
 use Rattle.std.specs.Prelude.{codes, map}
 use Rattle.std.proofs.lemmas.List.{length-map}
 use Rattle.json.proofs.Printed.Utf8.{IsUtf8-are_ascii}

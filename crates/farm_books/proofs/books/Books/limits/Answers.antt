@@ -1,4 +1,4 @@
-use Rattle.std.proofs.Common.{◌≡◌, ◌<◌, ◌∙◌, length, ap, subst, sym}
+use Rattle.std.proofs.Common.{◌<◌, ◌∙◌, length, ap, subst, sym}
 use Rattle.farm_types.specs.Sums.{running_in}
 use Rattle.farm_books.specs.Books.{FarmBooks}
 use Rattle.farm_books.proofs.books.Books.limits.Goals as goal
