@@ -4,6 +4,7 @@ use cue_json::object_of;
 use farm_types::{FrameState, Items, JobNo, ShowNo, Slot, Version};
 use job_book::Jobs;
 use job_spec::read_spec;
+use json::Scratch;
 use std::alloc::Global;
 use std::test::Fail;
 
@@ -13,7 +14,8 @@ const SPEC: &str =
 // A book with the job of the spec, where it is taken.
 fn book_with(alloc: Global, spec: &str) -> Result<Jobs, Fail> {
     let mut book = Jobs::make(alloc)?;
-    let object = object_of(alloc, spec.as_bytes())?;
+    let mut scratch = Scratch::new(alloc);
+    let object = object_of(alloc, spec.as_bytes(), &mut scratch)?;
     let spec = read_spec(alloc, &object)?;
     let placing = book.check(alloc, &spec, ShowNo(0), Items::new(alloc))?;
     let reserved = book.reserve(alloc, &spec)?;

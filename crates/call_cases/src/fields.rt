@@ -5,6 +5,7 @@ use cue_json::{
     FieldFault, LineFault as ObjectFault, Map, flag, has, list, no_others, object, object_item,
     object_of, signed, text, text_item, whole,
 };
+use json::Scratch;
 use std::alloc::{AllocError, Global};
 
 // The field that the values of rows are.
@@ -61,7 +62,9 @@ fn whole_number(alloc: Global, given: &str) -> Result<String, LineFault> {
     let (Ok(least), Ok(most)) = (least.parse::<u64>(), most.parse::<u64>()) else {
         return Err(LineFault::Malformed);
     };
-    let holder = holder_of(alloc, value)?;
+    let line = line_with(alloc, value)?;
+    let mut scratch = Scratch::new(alloc);
+    let holder = object_in(alloc, line.as_str(), &mut scratch)?;
     match whole(alloc, &holder, FIELD, least, most) {
         Ok(number) => Ok(format!(in alloc; "{number}")?),
         Err(fault) => told(alloc, &fault),
@@ -76,7 +79,9 @@ fn signed_number(alloc: Global, given: &str) -> Result<String, LineFault> {
     let (Ok(least), Ok(most)) = (least.parse::<i64>(), most.parse::<i64>()) else {
         return Err(LineFault::Malformed);
     };
-    let holder = holder_of(alloc, value)?;
+    let line = line_with(alloc, value)?;
+    let mut scratch = Scratch::new(alloc);
+    let holder = object_in(alloc, line.as_str(), &mut scratch)?;
     match signed(alloc, &holder, FIELD, least, most) {
         Ok(number) => Ok(format!(in alloc; "{number}")?),
         Err(fault) => told(alloc, &fault),
@@ -90,18 +95,21 @@ fn within(given: &str) -> Option<(&str, &str, &str)> {
     Some((value, least, most))
 }
 
-// An object whose one field is the value, or no field where the value is `absent`.
-fn holder_of(alloc: Global, value: &str) -> Result<Map, LineFault> {
+// The line of an object whose one field is the value, or of one without fields where the value is `absent`.
+fn line_with(alloc: Global, value: &str) -> Result<String, AllocError> {
     if value == "absent" {
-        return object_in(alloc, "{}");
+        return String::from_str(alloc, "{}");
     }
-    let line = format!(in alloc; "{{\"{FIELD}\":{value}}}")?;
-    object_in(alloc, line.as_str())
+    format!(in alloc; "{{\"{FIELD}\":{value}}}")
 }
 
 // The object that a line is.
-fn object_in(alloc: Global, line: &str) -> Result<Map, LineFault> {
-    match object_of(alloc, line.as_bytes()) {
+fn object_in<'a>(
+    alloc: Global,
+    line: &'a str,
+    scratch: &'a mut Scratch,
+) -> Result<Map<'a>, LineFault> {
+    match object_of(alloc, line.as_bytes(), scratch) {
         Ok(object) => Ok(object),
         Err(ObjectFault::NotAnObject) => Err(LineFault::Malformed),
         Err(ObjectFault::NoMemory) => Err(LineFault::NoMemory),
@@ -110,7 +118,9 @@ fn object_in(alloc: Global, line: &str) -> Result<Map, LineFault> {
 
 // Which of the calls for texts, flags, lists and objects takes the value.
 fn kind(alloc: Global, given: &str) -> Result<String, LineFault> {
-    let holder = holder_of(alloc, given)?;
+    let line = line_with(alloc, given)?;
+    let mut scratch = Scratch::new(alloc);
+    let holder = object_in(alloc, line.as_str(), &mut scratch)?;
     if !has(&holder, FIELD) {
         return missing(alloc, &holder);
     }
@@ -150,11 +160,12 @@ fn missing(alloc: Global, holder: &Map) -> Result<String, LineFault> {
 // Which of the calls for texts and objects takes the item of a list.
 fn item_kind(alloc: Global, given: &str) -> Result<String, LineFault> {
     let line = format!(in alloc; "{{\"{FIELD}\":[{given}]}}")?;
-    let holder = object_in(alloc, line.as_str())?;
+    let mut scratch = Scratch::new(alloc);
+    let holder = object_in(alloc, line.as_str(), &mut scratch)?;
     let Ok(items) = list(alloc, &holder, FIELD) else {
         return Err(LineFault::Malformed);
     };
-    let [item] = items else {
+    let [item] = items.as_slice() else {
         return Err(LineFault::Malformed);
     };
     let mut kinds = String::new(alloc);
@@ -172,7 +183,8 @@ fn other_key(alloc: Global, given: &str) -> Result<String, LineFault> {
     let Some((line, names)) = given.rsplit_once(" beside") else {
         return Err(LineFault::Malformed);
     };
-    let holder = object_in(alloc, line)?;
+    let mut scratch = Scratch::new(alloc);
+    let holder = object_in(alloc, line, &mut scratch)?;
     let mut fields = Vec::new(alloc);
     for name in names.split_whitespace() {
         fields.push(name)?;

@@ -126,7 +126,7 @@ fn committed(alloc: Global, keeper: &mut MemoryKeeper, call: &str) -> Result<Str
         return Err(LineFault::Malformed);
     };
     let batch = batch_of(alloc, words)?;
-    match keeper.commit(alloc, &batch) {
+    match keeper.commit(alloc, batch) {
         Ok(()) => Ok(String::from_str(alloc, "ok")?),
         Err(fault) => told(alloc, fault),
     }

@@ -2,6 +2,7 @@
 
 use case_text::{LineFault, text_bytes, unquoted};
 use farm_rows::{FarmRow, ROW_FORMAT};
+use json::Scratch;
 use row_codec::{RowFault, decode, encode};
 use std::alloc::Global;
 
@@ -11,7 +12,8 @@ pub fn row_bytes(alloc: Global, given: &str) -> Result<String, LineFault> {
         return Err(LineFault::Malformed);
     };
     let bytes = text_bytes(alloc, unquoted(text))?;
-    match decode(alloc, ROW_FORMAT, kind, id, bytes.as_slice()) {
+    let mut scratch = Scratch::new(alloc);
+    match decode(alloc, ROW_FORMAT, kind, id, bytes.as_slice(), &mut scratch) {
         Ok(row) => same_row(alloc, kind, id, &row, bytes.as_slice()),
         Err(fault) => told(alloc, fault),
     }
@@ -23,7 +25,8 @@ pub fn old_row_bytes(alloc: Global, given: &str) -> Result<String, LineFault> {
         return Err(LineFault::Malformed);
     };
     let bytes = text_bytes(alloc, unquoted(text))?;
-    match decode(alloc, 1, kind, id, bytes.as_slice()) {
+    let mut scratch = Scratch::new(alloc);
+    match decode(alloc, 1, kind, id, bytes.as_slice(), &mut scratch) {
         Ok(row) => row_if(alloc, is_named(&row, kind, id)),
         Err(fault) => told(alloc, fault),
     }
@@ -46,7 +49,7 @@ fn same_row(
     row: &FarmRow,
     bytes: &[u8],
 ) -> Result<String, LineFault> {
-    let again = encode(alloc, row)?;
+    let again = encode(alloc, row, &mut Vec::new(alloc))?;
     row_if(alloc, is_named(row, kind, id) && again.as_slice() == bytes)
 }
 

@@ -72,7 +72,7 @@ fn filled(alloc: Global, rows: &[Row], failing: &[u64]) -> Result<MemoryKeeper, 
     ensures { IfOk result (λ keeper. keeper.refused ≡ []) }
 {
     let mut keeper = MemoryKeeper::make(alloc, failing)?;
-    put(alloc, &mut keeper, &puts_of(alloc, rows)?)?;
+    put(alloc, &mut keeper, puts_of(alloc, rows)?)?;
     Ok(keeper)
 }
 
@@ -100,8 +100,8 @@ fn one_later(alloc: Global, calls: &[u64]) -> Result<Vec<u64>, AllocError> {
 /// The rows with a batch, by kind and then by id.
 pub fn rows_with(alloc: Global, rows: &[Row], batch: &Batch) -> Result<Items<Row>, AllocError> {
     let mut keeper = MemoryKeeper::make(alloc, &[])?;
-    put(alloc, &mut keeper, &puts_of(alloc, rows)?)?;
-    put(alloc, &mut keeper, batch)?;
+    put(alloc, &mut keeper, puts_of(alloc, rows)?)?;
+    put(alloc, &mut keeper, batch.copy(alloc)?)?;
     rows_in(alloc, &mut keeper, 0)
 }
 
@@ -118,7 +118,7 @@ fn puts_of(alloc: Global, rows: &[Row]) -> Result<Batch, AllocError> {
 }
 
 // Commits a batch that isn't to fail.
-fn put(alloc: Global, keeper: &mut MemoryKeeper, batch: &Batch) -> Result<(), AllocError>
+fn put(alloc: Global, keeper: &mut MemoryKeeper, batch: Batch) -> Result<(), AllocError>
     ensures { OnOk result (keeper.new.refused ≡ []) }
 {
     match keeper.commit(alloc, batch) {

@@ -1,2 +1,6 @@
 pub mod Lines
-pub mod Keys
+pub mod Order
+pub mod Unexpected
+pub mod Members
+pub mod DataRead
+pub mod NumberRead

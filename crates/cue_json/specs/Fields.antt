@@ -1,6 +1,8 @@
 -- What an object's field reads as, with the fault that stands in its place.
 use Rattle.std.specs.Prelude.{◌≡◌, ℕ, ℤ, Bool, List, [], ◌∷◌, ⊤, Option, Some, None, option_and_then, is_some, Result, Ok, Err, nat_le, int_le, bytes_eq, ◌&&◌, if◌then◌else◌}
 use Rattle.std.specs.List.{list_any}
+use Rattle.std.specs.Ordering.{match_ordering, nat_cmp}
+use Rattle.std.specs.Cmp.Lexicographic.{slice_cmp}
 use Rattle.serde_json.specs.Data.{Data, Items, Members, no_members, member}
 use Rattle.serde_json.specs.Find.{get_member, as_str, as_number, as_u64, as_i64, as_bool, as_array, as_object}
 use Rattle.cue_json.specs.declared.fault.FieldFault.{FieldFault}
@@ -120,3 +122,8 @@ no_other (Some key) = Err (Unknown key)
 
 abbrev pub others_at : List (List ℕ) → Members → Result ⊤ Fault
 others_at fields ms = no_other (first_other fields ms)
+
+-- the key, or one before it in byte order
+abbrev pub lesser : List ℕ → Option (List ℕ) → List ℕ
+lesser key None = key
+lesser key (Some other) = match_ordering (slice_cmp nat_cmp key other) key other other

@@ -2,14 +2,14 @@
 
 ghost use Rattle.std.specs.Prelude.{Result};
 ghost use Rattle.serde_json.specs.Data.{Members};
-ghost use Rattle.serde_json.specs.View.{items_view, members_view, view};
+ghost use Rattle.cue_json.specs.View.{items_view, members_view, view};
 ghost use Rattle.cue_json.specs.Fields.{Fault, Gives};
 ghost use Rattle.cue_json.specs.Items.{item_at, items_at, list_of};
 
 use crate::fault::FieldFault;
-use crate::fields::{Map, list};
+use crate::fields::list;
 use crate::items::object_item;
-use serde_json::Value;
+use crate::values::{Map, Value};
 use std::alloc::{AllocError, Global};
 
 /// What reads an item of a list from its object.
@@ -21,7 +21,7 @@ pub trait ItemReader {
 
     /// The item that the object is, or its first field at fault.
     fn read(&self, alloc: Global, object: &Map) -> Result<Self::Item, FieldFault>
-        ensures { Gives (λ item. item) result (reads self.now (members_view object.now.entries)) };
+        ensures { Gives (λ item. item) result (reads self.now (members_view object.now.items)) };
 }
 
 /// The items of the field's list, in order, each read by the reader: `Missing` where the key is absent, `WrongKind` with the list's
@@ -32,10 +32,10 @@ pub fn read_list<R: ItemReader>(
     field: &str,
     reader: &R,
 ) -> Result<Vec<R::Item>, FieldFault>
-    ensures { Gives (λ found. found.items) result (list_of field.now (R.reads reader.now) (members_view object.now.entries)) }
+    ensures { Gives (λ found. found.items) result (list_of field.now (R.reads reader.now) (members_view object.now.items)) }
 {
     let values = list(alloc, object, field)?;
-    read_items(alloc, field, values, reader)
+    read_items(alloc, field, values.as_slice(), reader)
 }
 
 /// The same of the items of the list of that field.

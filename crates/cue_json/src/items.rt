@@ -2,31 +2,34 @@
 
 ghost use Rattle.std.specs.Prelude.{OnErr, IsErr};
 ghost use Rattle.serde_json.specs.Find.{as_str, as_object};
-ghost use Rattle.serde_json.specs.View.{view, members_view};
+ghost use Rattle.cue_json.specs.View.{view, members_view};
 ghost use Rattle.cue_json.specs.Fields.{Gives, of_kind};
 
 use crate::fault::FieldFault;
-use crate::fields::Map;
-use serde_json::Value;
+use crate::values::{Map, Value, as_object, as_text};
 use std::alloc::Global;
 
 /// The object that the item is, else `WrongKind` with the list's `field`.
-pub fn object_item<'a>(alloc: Global, item: &'a Value, field: &str) -> Result<&'a Map, FieldFault>
-    ensures gives { Gives (λ m. members_view m.now.entries) result (of_kind field.now (as_object (view item.now))) }
+pub fn object_item<'v, 'a>(
+    alloc: Global,
+    item: &'v Value<'a>,
+    field: &str,
+) -> Result<&'v Map<'a>, FieldFault>
+    ensures gives { Gives (λ m. members_view m.now.items) result (of_kind field.now (as_object (view item.now))) }
     ensures only { OnErr result (IsErr (of_kind field.now (as_object (view item.now)))) }
 {
-    match item.as_object() {
+    match as_object(item) {
         Some(inner) => Ok(inner),
         None => Err(FieldFault::wrong_kind(alloc, field)),
     }
 }
 
 /// The item's text, else `WrongKind` with the list's `field`.
-pub fn text_item<'a>(alloc: Global, item: &'a Value, field: &str) -> Result<&'a str, FieldFault>
+pub fn text_item<'v>(alloc: Global, item: &'v Value, field: &str) -> Result<&'v str, FieldFault>
     ensures gives { Gives (λ t. t.now) result (of_kind field.now (as_str (view item.now))) }
     ensures only { OnErr result (IsErr (of_kind field.now (as_str (view item.now)))) }
 {
-    match item.as_str() {
+    match as_text(item) {
         Some(text) => Ok(text),
         None => Err(FieldFault::wrong_kind(alloc, field)),
     }

@@ -6,11 +6,14 @@ mod fields;
 mod item_list;
 mod items;
 mod line;
+mod numbers;
 mod others;
+mod values;
 
 pub use fault::{FieldFault, FieldName};
-pub use fields::{Map, flag, has, list, object, signed, text, whole};
+pub use fields::{flag, has, list, object, signed, text, whole};
 pub use item_list::{ItemReader, read_items, read_list};
 pub use items::{object_item, text_item};
 pub use line::{LineFault, object_of};
 pub use others::no_others;
+pub use values::{Map, Value, as_object};

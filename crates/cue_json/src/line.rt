@@ -1,15 +1,19 @@
 //! A line's bytes as an object.
 
-ghost use Rattle.std.specs.Prelude.{◌≡◌, ◌↔◌, option_map};
+ghost use Rattle.std.specs.Prelude.{◌≡◌, option_map};
+ghost use Rattle.json.specs.Value.{value_view};
 ghost use Rattle.serde_json.specs.Find.{as_object};
-ghost use Rattle.serde_json.specs.View.{view, members_view};
-ghost use Rattle.serde_json.specs.Errors.{IsMemory};
-ghost use Rattle.cue_json.specs.Lines.{IsObjectIn, object_in};
+ghost use Rattle.serde_json.specs.Read.{read};
+ghost use Rattle.cue_json.specs.Lines.{IsObjectIn, IsValueIn, object_in, whole};
+ghost use Rattle.cue_json.specs.View.{members_view, view};
 
-use crate::fields::Map;
-use serde_json::{Error, Value};
-use std::alloc::Global;
+use crate::values::{Map, Value, fits};
+use json::{Error, Reader, Scratch};
+use std::alloc::{AllocError, Global};
 use std::fmt;
+
+// How deep arrays and objects may nest.
+const MOST_NESTED: usize = 127;
 
 /// Why a line gave no object.
 #[derive(Clone, Copy, Debug, PartialEq, Eq, Drop)]
@@ -18,6 +22,17 @@ pub enum LineFault {
     NotAnObject,
     /// The value could not be held.
     NoMemory,
+}
+
+impl From<AllocError> for LineFault {
+    ghost use Rattle.std.specs.Prelude.{◌≡◌};
+    ghost use Rattle.cue_json.specs.declared.line.LineFault.TheVariants.{NoMemory};
+
+    ghost from_gives = { λ _ e. e ≡ NoMemory };
+
+    fn from(_e: AllocError) -> LineFault {
+        LineFault::NoMemory
+    }
 }
 
 impl fmt::Display for LineFault {
@@ -29,37 +44,62 @@ impl fmt::Display for LineFault {
     }
 }
 
-/// The object that the line is, nested at most 127 deep. Of a key that comes twice the last value counts.
-pub fn object_of(alloc: Global, line: &[u8]) -> Result<Map, LineFault>
-    ensures { IsObjectIn (λ m. members_view m.entries) result (object_in line.now) }
+/// The object that the line is, nested at most 127 deep. Of a key that comes twice the last value counts. What is read borrows from the line, and texts
+/// with escapes from the scratch, which is kept from line to line.
+pub fn object_of<'a>(
+    alloc: Global,
+    line: &'a [u8],
+    scratch: &'a mut Scratch,
+) -> Result<Map<'a>, LineFault>
+    ensures { IsObjectIn (λ m. members_view m.items) result (object_in line.now) }
 {
-    match Value::from_slice(alloc, line) {
+    let Ok(text) = str::from_utf8(line) else {
+        return Err(LineFault::NotAnObject);
+    };
+    match value_of(alloc, text, scratch) {
         Ok(value) => object_within(value).ok_or(LineFault::NotAnObject),
-        Err(e) => Err(fault_of(&e)),
+        Err(fault) => Err(fault),
     }
 }
 
+// The value that the text is.
+fn value_of<'a>(
+    alloc: Global,
+    text: &'a str,
+    scratch: &'a mut Scratch,
+) -> Result<Value<'a>, LineFault>
+    ensures { IsValueIn view result (read text.now) }
+{
+    let mut reader = Reader::new(text, scratch)?;
+    match Value::read(alloc, &mut reader, MOST_NESTED) {
+        Ok(value) => whole_of(&mut reader, value),
+        Err(Error::OutOfMemory) => Err(LineFault::NoMemory),
+        Err(Error::Invalid) => Err(LineFault::NotAnObject),
+        Err(Error::TooLong) => unreachable!(),
+        Err(Error::DuplicateKey) => unreachable!(),
+    }
+}
+
+// The value where nothing comes after it, and each number of it is within the range of floats.
+fn whole_of<'a>(reader: &mut Reader<'a>, value: Value<'a>) -> Result<Value<'a>, LineFault>
+    ensures { IsValueIn view result (whole (value_view value.entry) reader.old) }
+{
+    if reader.next().is_some() || !fits(&value) {
+        return Err(LineFault::NotAnObject);
+    }
+    Ok(value)
+}
+
 /// The members of a value that is an object.
-fn object_within(value: Value) -> Option<Map>
-    ensures { option_map (λ m. members_view m.entries) result ≡ as_object (view value) }
+fn object_within<'a>(value: Value<'a>) -> Option<Map<'a>>
+    ensures { option_map (λ m. members_view m.items) result ≡ as_object (view value.entry) }
 {
     match value {
-        Value::Object(map) => Some(map),
+        Value::Object(members) => Some(members),
         Value::Null => None,
         Value::Bool(_b) => None,
         Value::Number(_n) => None,
         Value::String(_s) => None,
         Value::Array(_v) => None,
-    }
-}
-
-/// What the reader's error says of the line.
-fn fault_of(error: &Error) -> LineFault
-    ensures { (result ≡ LineFault.NoMemory) ↔ IsMemory error.now }
-{
-    if error.is_memory() {
-        LineFault::NoMemory
-    } else {
-        LineFault::NotAnObject
     }
 }

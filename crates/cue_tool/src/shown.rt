@@ -9,6 +9,7 @@ use client_codec::{ReplyFault, read_reply};
 use command_line::Status;
 use farm_lines::Reply;
 use farm_types::{Items, Text};
+use json::Scratch;
 use std::alloc::{AllocError, Global};
 
 /// A status, and the bytes that are printed with it.
@@ -26,7 +27,8 @@ pub(crate) fn read_shown(
 ) -> Result<Option<Shown>, AllocError>
     ensures { IfOk result (λ shown. shown ≡ read_shown words.now line.now (reply_of line.now)) }
 {
-    match read_reply(alloc, line) {
+    let mut scratch = Scratch::new(alloc);
+    match read_reply(alloc, line, &mut scratch) {
         Ok(reply) => shown_of(alloc, words, line, &reply),
         Err(ReplyFault::NotAReply) => Ok(None),
         Err(ReplyFault::NoMemory) => Err(AllocError),

@@ -6,7 +6,7 @@ ghost use Rattle.serde_json.specs.View.{members_view};
 ghost use Rattle.serde_json.specs.Written.{has_float};
 
 use crate::asked::{ToolWords, WordsFault};
-use cue_json::Map;
+use crate::spec_object::Map;
 use farm_types::Text;
 use serde_json::Value;
 use std::alloc::{AllocError, Global};

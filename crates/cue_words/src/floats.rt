@@ -4,7 +4,7 @@ ghost use Rattle.std.specs.Prelude.{◌≡◌};
 ghost use Rattle.serde_json.specs.View.{items_view, members_view, view};
 ghost use Rattle.serde_json.specs.Written.{has_float, items_have_float, members_have_float};
 
-use cue_json::Map;
+use crate::spec_object::Map;
 use serde_json::Value;
 
 /// Whether the value, or one inside it, is a float.

@@ -11,6 +11,7 @@ mod help;
 mod number;
 mod part;
 mod reader;
+mod spec_object;
 mod submit;
 
 pub use asked::{ToolWords, WordsFault};

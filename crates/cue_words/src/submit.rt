@@ -8,7 +8,8 @@ ghost use Rattle.serde_json.specs.View.{members_view};
 use crate::asked::{ToolWords, WordsFault};
 use crate::fields::Fields;
 use crate::floats::members_have_float;
-use cue_json::{LineFault, Map};
+use crate::spec_object::{Map, read_object};
+use cue_json::LineFault;
 use farm_types::Text;
 use serde_json::Value;
 use std::alloc::Global;
@@ -31,7 +32,7 @@ fn submit_spec(alloc: Global, spec: Option<&str>) -> Result<ToolWords, WordsFaul
     let Some(text) = spec else {
         return Err(WordsFault::BadSpec);
     };
-    match cue_json::object_of(alloc, text.as_bytes()) {
+    match read_object(alloc, text.as_bytes()) {
         Ok(map) => submit_object(alloc, map),
         Err(LineFault::NotAnObject) => Err(WordsFault::BadSpec),
         Err(LineFault::NoMemory) => Err(WordsFault::NoMemory),

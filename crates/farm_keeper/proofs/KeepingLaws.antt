@@ -1,8 +1,8 @@
 -- How any keeper goes on from call to call, and what a stop leaves of it.
-use Rattle.std.proofs.Common.{◌≡◌, ◌∙◌, ℕ, Bool, false, List, [], ◌∷◌, ◌++◌, inl, inr, refl, ap, subst}
+use Rattle.std.proofs.Common.{◌≡◌, ◌∙◌, ℕ, Bool, false, List, [], ◌∷◌, ◌++◌, inl, inr, refl, sym, ap, subst}
 use Rattle.std.specs.Prelude.{◌⊎◌}
 use Rattle.std.specs.List.{Any}
-use Rattle.std.proofs.lemmas.List.Elements.{Contains-append_left}
+use Rattle.std.proofs.lemmas.List.Elements.{Contains-append_left, Contains-push_cases}
 use Rattle.std.proofs.lemmas.List.Quantifiers.{Any-push}
 use Rattle.farm_keeper.specs.declared.row.Batch.{Batch}
 use Rattle.farm_keeper.specs.Rows.{Rows, after}
@@ -52,6 +52,21 @@ remains_new : (batch : Batch) (rows : Rows) (refused : List Batch) (other : Rows
     → MayRemain rows (refused ++ batch ∷ []) other
 remains_new batch rows refused other (inl before) = remains_more batch rows refused other before
 remains_new batch rows refused other (inr is) = inr (Any-push (λ b. other ≡ after b rows) refused batch is)
+
+any_pushed : (P : Batch → Type 0) (xs : List Batch) (y : Batch) → Any P (xs ++ y ∷ []) → Any P xs ⊎ P y
+any_pushed P xs y (k, x, within, is, holds) = elim (Contains-push_cases xs y x (k, within, is)) [
+  | inl there ↦ inl (there.0, x, there.1, there.2, holds)
+  | inr same ↦ inr (subst P (sym same) holds)
+]
+
+-- what is left where one batch more was refused
+pub remains_or : (batch : Batch) (rows : Rows) (refused : List Batch) (other : Rows) → MayRemain rows (refused ++ batch ∷ []) other
+    → MayRemain rows refused other ⊎ (other ≡ after batch rows)
+remains_or batch rows refused other (inl is) = inl (inl is)
+remains_or batch rows refused other (inr one) = elim (any_pushed (λ b. other ≡ after b rows) refused batch one) [
+  | inl before ↦ inl (inr before)
+  | inr is ↦ inr is
+]
 
 either : {A B C : Type 0} → (A → B) → A ⊎ C → B ⊎ C
 either f (inl a) = inl (f a)

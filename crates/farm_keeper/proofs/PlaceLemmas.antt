@@ -1,5 +1,5 @@
 -- Places, and the rows that stand in them, read at one kind and id.
-use Rattle.std.proofs.Common.{◌≡◌, refl, sym, ap, subst, ◌∙◌, List, [], ◌∷◌, ℕ, Bool, true, false, cond, Option, None, Some, IsSome, is_some, T, ◌&&◌, Less, Equal, Greater, Ordering, Result, Ok, Err}
+use Rattle.std.proofs.Common.{◌≡◌, refl, sym, ap, subst, ◌∙◌, List, [], ◌∷◌, ℕ, Bool, true, false, cond, Option, None, Some, IsSome, T, ◌&&◌, Less, Equal, Greater, Ordering, Result, Ok, Err}
 use Rattle.std.specs.Prelude.{OnOk, is_err}
 use Rattle.std.specs.Ordering.{eq_by_cmp, is_eq, is_lt}
 use Rattle.std.proofs.lemmas.Bool.{false≢true}
@@ -88,12 +88,7 @@ pub place-stays : (m n : Places) (key : Key) (value : Option (List ℕ)) → Set
 place-stays m n key value sets other some =
     subst IsSome (sym (sets other)) (stays (eq_by_cmp key_cmp key other) value (place_at other m) some)
 
--- where there is no place there is no row
-pub no_place : (place : Option (Option (List ℕ))) → is_some place ≡ false → option_flatten place ≡ None
-no_place None is = refl
-no_place (Some place) is = absurd (false≢true (sym is))
-
--- nor where the place is blank
+-- where a place is blank there is no row
 pub blank_place : (place : Option (Option (List ℕ))) → is_blank_place place ≡ true → option_flatten place ≡ None
 blank_place None is = refl
 blank_place (Some None) is = refl

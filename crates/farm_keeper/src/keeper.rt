@@ -34,15 +34,16 @@ pub trait Keeper {
         ensures kept { Keeps (holds self.old) (holds self.new) }
         ensures left { Keeps (left self.new) (left self.old) };
 
-    /// Makes all puts and deletes of the batch, or none. After an Ok a stop leaves the rows with the batch and nothing
-    /// else; after an Err it leaves what could be left before, or the rows with the batch.
-    fn commit(&mut self, alloc: Global, batch: &Batch) -> Result<(), KeeperFault>
+    /// Makes all puts and deletes of the batch, or none. The batch is moved, so that a keeper in memory copies no row.
+    /// After an Ok a stop leaves the rows with the batch and nothing else; after an Err it leaves what could be left
+    /// before, or the rows with the batch.
+    fn commit(&mut self, alloc: Global, batch: Batch) -> Result<(), KeeperFault>
         ensures keeper { Continues tells faults self.old self.new (is_failed result) }
-        ensures taken { OnOk result (HoldsWith batch.now (holds self.old) (holds self.new)) }
+        ensures taken { OnOk result (HoldsWith batch (holds self.old) (holds self.new)) }
         ensures kept { OnErr result (Keeps (holds self.old) (holds self.new)) }
-        ensures left_ok { OnOk result (LeavesTaken batch.now (holds self.old) (left self.new)) }
-        ensures left_err { OnErr result (MayLeave batch.now (holds self.old) (left self.old) (left self.new)) }
-        ensures told { commits batch.now result self.old self.new };
+        ensures left_ok { OnOk result (LeavesTaken batch (holds self.old) (left self.new)) }
+        ensures left_err { OnErr result (MayLeave batch (holds self.old) (left self.old) (left self.new)) }
+        ensures told { commits batch result self.old self.new };
 
     // A stop leaves some rows, also after a call that failed.
     ghost leaves: { (k : Self) → tells k → LeavesSome (left k) };

@@ -8,7 +8,7 @@ ghost use Rattle.farm_keeper.specs.Memory.{Commits, Kept, Loads, committed, new_
 use crate::fault::KeeperFault;
 use crate::keeper::Keeper;
 use crate::places::{Places, delete_rows, list_rows, put_rows, take_places};
-use crate::row::{Batch, Row, copies_of};
+use crate::row::{Batch, Row};
 use farm_types::Items;
 use fault_counts::FaultPlan;
 use std::alloc::{AllocError, Global};
@@ -16,8 +16,8 @@ use std::collections::BTreeMap;
 use std::marker::Model;
 
 /// A keeper that has its rows in memory, and fails at the listed calls. Beside its rows it keeps the batches that it
-/// refused by such a failure since the last Ok of a commit: a stop may leave the rows with one of them. What a commit
-/// takes and costs goes by its batch, and not by the number of rows.
+/// refused by such a failure since the last Ok of a commit: a stop may leave the rows with one of them. A batch is
+/// moved, its bytes with it. What a commit takes and costs goes by its batch, and not by the number of rows.
 #[derive(Drop)]
 pub struct MemoryKeeper {
     places: Places,
@@ -71,24 +71,24 @@ impl MemoryKeeper {
     }
 
     // Counts a fault, and keeps the batch that it refuses.
-    fn refuse(&mut self, alloc: Global, batch: &Batch) -> Result<(), AllocError>
-        ensures ok { OnOk result (self.new ≡ refused_with batch.now self.old) }
+    fn refuse(&mut self, batch: Batch) -> Result<(), AllocError>
+        ensures ok { OnOk result (self.new ≡ refused_with batch self.old) }
         ensures err { OnErr result (self.new ≡ self.old) }
     {
-        self.refused.push(batch.copy(alloc)?)?;
+        self.refused.push(batch)?;
         self.plan.fault();
         Ok(())
     }
 
-    // Takes all memory first, then makes the puts and the deletes.
-    fn take(&mut self, alloc: Global, batch: &Batch) -> Result<(), AllocError>
-        ensures ok { OnOk result (self.new ≡ committed batch.now self.old) }
+    // Takes all memory first, then moves the rows that are put to their places, and makes the deletes.
+    fn take(&mut self, batch: Batch) -> Result<(), AllocError>
+        ensures ok { OnOk result (self.new ≡ committed batch self.old) }
         ensures err { OnErr result (self.new ≡ self.old) }
     {
-        let rows = copies_of(alloc, batch.puts.as_slice())?;
-        take_places(&mut self.places, batch.puts.as_slice())?;
-        put_rows(&mut self.places, rows);
-        delete_rows(&mut self.places, batch.deletes.as_slice());
+        let Batch { puts, deletes } = batch;
+        take_places(&mut self.places, puts.as_slice())?;
+        put_rows(&mut self.places, puts.into_vec());
+        delete_rows(&mut self.places, deletes.as_slice());
         self.refused.clear();
         Ok(())
     }
@@ -127,22 +127,22 @@ impl Keeper for MemoryKeeper {
         Ok(list_rows(alloc, &self.places)?)
     }
 
-    fn commit(&mut self, alloc: Global, batch: &Batch) -> Result<(), KeeperFault>
+    fn commit(&mut self, _: Global, batch: Batch) -> Result<(), KeeperFault>
         ensures keeper { Continues (λ (_ : Kept). ⊤) (λ (k : Kept). k.plan.faults) self.old self.new (is_failed result) }
-        ensures taken { OnOk result (HoldsWith batch.now (λ rows. rows ≡ self.old.rows) (λ rows. rows ≡ self.new.rows)) }
+        ensures taken { OnOk result (HoldsWith batch (λ rows. rows ≡ self.old.rows) (λ rows. rows ≡ self.new.rows)) }
         ensures kept { OnErr result (Keeps (λ rows. rows ≡ self.old.rows) (λ rows. rows ≡ self.new.rows)) }
-        ensures left_ok { OnOk result (LeavesTaken batch.now (λ rows. rows ≡ self.old.rows) (MayRemain self.new.rows self.new.refused)) }
-        ensures left_err { OnErr result (MayLeave batch.now (λ rows. rows ≡ self.old.rows)
+        ensures left_ok { OnOk result (LeavesTaken batch (λ rows. rows ≡ self.old.rows) (MayRemain self.new.rows self.new.refused)) }
+        ensures left_err { OnErr result (MayLeave batch (λ rows. rows ≡ self.old.rows)
             (MayRemain self.old.rows self.old.refused) (MayRemain self.new.rows self.new.refused)) }
 
         // exactly what a call answers and leaves
-        ensures told { Commits batch.now result self.old self.new }
+        ensures told { Commits batch result self.old self.new }
     {
         if self.plan.count_call() {
-            self.refuse(alloc, batch)?;
+            self.refuse(batch)?;
             return Err(KeeperFault::Failed);
         }
-        self.take(alloc, batch)?;
+        self.take(batch)?;
         Ok(())
     }
 }

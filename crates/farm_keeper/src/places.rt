@@ -8,6 +8,7 @@ use crate::row::Row;
 use farm_types::Items;
 use std::alloc::{AllocError, Global};
 use std::collections::BTreeMap;
+use std::collections::btree_map::Entry;
 
 /// A place for each row, which is blank until the row is put there: by kind, and then by id.
 pub(crate) type Places = BTreeMap<(u8, u64), Option<Items<u8>>>;
@@ -26,14 +27,17 @@ pub(crate) fn take_places(places: &mut Places, rows: &[Row]) -> Result<(), Alloc
     Ok(())
 }
 
-/// Takes a place where there is none yet.
+/// Takes a place where there is none yet, by one search of the tree.
 fn take_place(places: &mut Places, key: (u8, u64)) -> Result<(), AllocError>
     ensures same { rows_in places.new.entries ≡ rows_in places.old.entries }
     ensures ok { OnOk result (IsSome (place_at key places.new.entries)) }
     ensures stay { (other : Key) → IsSome (place_at other places.old.entries) → IsSome (place_at other places.new.entries) }
 {
-    if !places.contains_key(&key) {
-        places.insert(key, None)?;
+    match places.entry(key)? {
+        Entry::Vacant(place) => {
+            place.insert(None);
+        }
+        Entry::Occupied(_) => {}
     }
     Ok(())
 }

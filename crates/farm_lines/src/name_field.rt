@@ -1,7 +1,7 @@
 //! Fields that hold a name.
 
 ghost use Rattle.std.specs.Prelude.{◌≡◌, Ok, Err, if◌then◌else◌};
-ghost use Rattle.serde_json.specs.View.{members_view};
+ghost use Rattle.cue_json.specs.View.{members_view};
 ghost use Rattle.cue_json.specs.Fields.{Gives, WrongKind};
 ghost use Rattle.farm_types.specs.Forms.{is_name_or_empty};
 ghost use Rattle.farm_lines.specs.Fields.{name_at};
@@ -13,7 +13,7 @@ use std::alloc::Global;
 
 /// The name in a field: `Missing` where the key is absent, `WrongKind` where the value is no text or no name.
 pub fn read_name(alloc: Global, object: &Map, field: &str) -> Result<Text, FieldFault>
-    ensures { Gives (λ name. name) result (name_at field.now (members_view object.now.entries)) }
+    ensures { Gives (λ name. name) result (name_at field.now (members_view object.now.items)) }
 {
     let text = cue_json::text(alloc, object, field)?;
     kept(alloc, text, field, is_name(text))
@@ -21,7 +21,7 @@ pub fn read_name(alloc: Global, object: &Map, field: &str) -> Result<Text, Field
 
 /// The same of a name that may be empty.
 pub fn read_name_or_empty(alloc: Global, object: &Map, field: &str) -> Result<Text, FieldFault>
-    ensures { Gives (λ name. name) result (text_of is_name_or_empty field.now (members_view object.now.entries)) }
+    ensures { Gives (λ name. name) result (text_of is_name_or_empty field.now (members_view object.now.items)) }
 {
     let text = cue_json::text(alloc, object, field)?;
     kept(alloc, text, field, text.is_empty() || is_name(text))

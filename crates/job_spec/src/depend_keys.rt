@@ -1,6 +1,6 @@
 //! The keys of each kind of depend.
 
-ghost use Rattle.serde_json.specs.View.{members_view};
+ghost use Rattle.cue_json.specs.View.{members_view};
 ghost use Rattle.cue_json.specs.Fields.{Gives, others_at};
 ghost use Rattle.farm_lines.specs.DependLines.{depend_keys, own_keys};
 
@@ -10,7 +10,7 @@ use std::alloc::Global;
 
 /// Nothing where the object of a request has no other keys than those of a depend of that kind.
 pub fn no_others(alloc: Global, object: &Map, kind: DependKind) -> Result<(), FieldFault>
-    ensures { Gives (λ none. none) result (others_at (depend_keys kind) (members_view object.now.entries)) }
+    ensures { Gives (λ none. none) result (others_at (depend_keys kind) (members_view object.now.items)) }
 {
     match kind {
         DependKind::JobOnJob => {
@@ -69,7 +69,7 @@ pub fn no_others(alloc: Global, object: &Map, kind: DependKind) -> Result<(), Fi
 
 /// The same of a depend in a spec, where the job that waits is no field.
 pub fn no_others_in_spec(alloc: Global, object: &Map, kind: DependKind) -> Result<(), FieldFault>
-    ensures { Gives (λ none. none) result (others_at (own_keys kind) (members_view object.now.entries)) }
+    ensures { Gives (λ none. none) result (others_at (own_keys kind) (members_view object.now.items)) }
 {
     match kind {
         DependKind::JobOnJob => cue_json::no_others(alloc, object, &["any", "kind", "on_job"]),

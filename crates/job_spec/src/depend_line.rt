@@ -1,7 +1,7 @@
 //! Reading depends: the request for one, and those of a spec.
 
 ghost use Rattle.std.specs.Prelude.{[]};
-ghost use Rattle.serde_json.specs.View.{members_view};
+ghost use Rattle.cue_json.specs.View.{members_view};
 ghost use Rattle.cue_json.specs.Fields.{Gives};
 ghost use Rattle.farm_lines.specs.DependLines.{depend_at, frame_if, layer_if, own_depend_at, own_depends, target_at, waiter_at};
 ghost use Rattle.farm_lines.specs.Fields.{or_default};
@@ -18,7 +18,7 @@ use std::alloc::Global;
 /// waits and the one that it waits for, each with the layer and the frame that the kind names, and no other keys but `op`.
 #[tactic(auto, unfolding(farm_lines::specs::DependLines::depend_at))]
 pub fn read_depend(alloc: Global, object: &Map) -> Result<DependSpec, FieldFault>
-    ensures { Gives (λ depend. depend) result (depend_at (members_view object.now.entries)) }
+    ensures { Gives (λ depend. depend) result (depend_at (members_view object.now.items)) }
 {
     let kind = read_word(alloc, object, "kind")?;
     let any = defaults::flag(alloc, object, "any")?;
@@ -43,7 +43,7 @@ pub fn read_depends(
     field: &str,
     own: &Text,
 ) -> Result<Items<DependSpec>, FieldFault>
-    ensures { Gives (λ depends. depends) result (or_default [] (own_depends own.now) field.now (members_view object.now.entries)) }
+    ensures { Gives (λ depends. depends) result (or_default [] (own_depends own.now) field.now (members_view object.now.items)) }
 {
     if cue_json::has(object, field) {
         read_list(alloc, object, field, &OwnReader { own })
@@ -88,7 +88,7 @@ fn read_waiter(
     job: Text,
     kind: DependKind,
 ) -> Result<Place, FieldFault>
-    ensures { Gives (λ place. place) result (waiter_at job kind (members_view object.now.entries)) }
+    ensures { Gives (λ place. place) result (waiter_at job kind (members_view object.now.items)) }
 {
     let layer = read_layer(alloc, object, "layer", names_layer(kind))?;
     let frame = read_frame(alloc, object, "frame", names_frame(kind))?;
@@ -103,7 +103,7 @@ fn read_target(
     job: Text,
     kind: DependKind,
 ) -> Result<Place, FieldFault>
-    ensures { Gives (λ place. place) result (target_at job kind (members_view object.now.entries)) }
+    ensures { Gives (λ place. place) result (target_at job kind (members_view object.now.items)) }
 {
     let layer = read_layer(alloc, object, "on_layer", names_target_layer(kind))?;
     let frame = read_frame(alloc, object, "on_frame", names_target_frame(kind))?;
@@ -117,7 +117,7 @@ fn read_layer(
     field: &str,
     is_named: bool,
 ) -> Result<Option<Text>, FieldFault>
-    ensures { Gives (λ layer. layer) result (layer_if is_named field.now (members_view object.now.entries)) }
+    ensures { Gives (λ layer. layer) result (layer_if is_named field.now (members_view object.now.items)) }
 {
     if is_named {
         Ok(Some(read_name(alloc, object, field)?))
@@ -133,7 +133,7 @@ fn read_frame(
     field: &str,
     is_named: bool,
 ) -> Result<Option<i32>, FieldFault>
-    ensures { Gives (λ frame. frame) result (frame_if is_named field.now (members_view object.now.entries)) }
+    ensures { Gives (λ frame. frame) result (frame_if is_named field.now (members_view object.now.items)) }
 {
     if is_named {
         let number = cue_json::signed(alloc, object, field, LEAST_FRAME, MOST_FRAME)?;

@@ -1,6 +1,6 @@
 //! Reading the fields of a job.
 
-ghost use Rattle.serde_json.specs.View.{members_view};
+ghost use Rattle.cue_json.specs.View.{members_view};
 ghost use Rattle.cue_json.specs.Fields.{Gives};
 ghost use Rattle.farm_lines.specs.Spec.{job_form_at};
 
@@ -14,7 +14,7 @@ use std::alloc::Global;
 /// A job's fields in order, and no others. In each depend the job itself waits.
 #[tactic(auto, unfolding(farm_lines::specs::Spec::job_form_at))]
 pub fn read_job(alloc: Global, object: &Map) -> Result<JobForm, FieldFault>
-    ensures { Gives (λ job. job) result (job_form_at (members_view object.now.entries)) }
+    ensures { Gives (λ job. job) result (job_form_at (members_view object.now.items)) }
 {
     let name = read_name(alloc, object, "name")?;
     let show = read_name(alloc, object, "show")?;

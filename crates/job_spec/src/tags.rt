@@ -1,23 +1,22 @@
 //! Lists of tags.
 
 ghost use Rattle.std.specs.Prelude.{◌≡◌, ◌∷◌, [], codes, IfOk};
-ghost use Rattle.serde_json.specs.View.{items_view, members_view, view};
+ghost use Rattle.cue_json.specs.View.{items_view, members_view, view};
 ghost use Rattle.cue_json.specs.Fields.{Gives};
 ghost use Rattle.farm_lines.specs.Spec.{tag_item, tags_at, tags_in};
 
 use crate::words::kept;
-use cue_json::{FieldFault, Map};
+use cue_json::{FieldFault, Map, Value};
 use farm_types::{Items, Text, is_tag};
-use serde_json::Value;
 use std::alloc::{AllocError, Global};
 
 /// The tags in the field's list, in order and of any number: `Missing` where the key is absent, `WrongKind` with the
 /// list's `field` where it is no list, or where an item of it is no text or no tag.
 pub fn read_tags(alloc: Global, object: &Map, field: &str) -> Result<Items<Text>, FieldFault>
-    ensures { Gives (λ tags. tags) result (tags_at field.now (members_view object.now.entries)) }
+    ensures { Gives (λ tags. tags) result (tags_at field.now (members_view object.now.items)) }
 {
     let values = cue_json::list(alloc, object, field)?;
-    read_values(alloc, field, values)
+    read_values(alloc, field, values.as_slice())
 }
 
 // The tags of the list of that field.

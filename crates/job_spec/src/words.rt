@@ -2,7 +2,7 @@
 
 ghost use Rattle.std.specs.Prelude.{◌≡◌, Ok, Err, if◌then◌else◌};
 ghost use Rattle.std.specs.List.{list_all};
-ghost use Rattle.serde_json.specs.View.{members_view};
+ghost use Rattle.cue_json.specs.View.{members_view};
 ghost use Rattle.cue_json.specs.Fields.{Gives, WrongKind};
 ghost use Rattle.farm_types.specs.Forms.{is_command_byte, is_command_text, is_tag_text};
 ghost use Rattle.farm_lines.specs.Spec.{text_of};
@@ -13,7 +13,7 @@ use std::alloc::Global;
 
 /// The field's facility, which has the form of a tag.
 pub fn facility(alloc: Global, object: &Map, field: &str) -> Result<Text, FieldFault>
-    ensures { Gives (λ facility. facility) result (text_of is_tag_text field.now (members_view object.now.entries)) }
+    ensures { Gives (λ facility. facility) result (text_of is_tag_text field.now (members_view object.now.items)) }
 {
     let text = cue_json::text(alloc, object, field)?;
     kept(alloc, field, text, is_tag(text))
@@ -21,7 +21,7 @@ pub fn facility(alloc: Global, object: &Map, field: &str) -> Result<Text, FieldF
 
 /// The field's command, of any length, without control bytes.
 pub fn command(alloc: Global, object: &Map, field: &str) -> Result<Text, FieldFault>
-    ensures { Gives (λ command. command) result (text_of is_command_text field.now (members_view object.now.entries)) }
+    ensures { Gives (λ command. command) result (text_of is_command_text field.now (members_view object.now.items)) }
 {
     let text = cue_json::text(alloc, object, field)?;
     kept(alloc, field, text, is_command(text))

@@ -100,8 +100,8 @@ impl<S: Alter> Keeper for SqliteKeeper<S> {
         }
     }
 
-    fn commit(&mut self, _: Global, batch: &Batch) -> Result<(), KeeperFault> {
-        match write(&mut self.conn, batch) {
+    fn commit(&mut self, _: Global, batch: Batch) -> Result<(), KeeperFault> {
+        match write(&mut self.conn, &batch) {
             Ok(()) => Ok(()),
             Err(error) => Err(blame(error, &mut self.faults)),
         }

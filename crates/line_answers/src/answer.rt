@@ -22,16 +22,18 @@ use farm_core::Farm;
 use farm_keeper::Keeper;
 use farm_lines::{Asked, Query, Reply, Request, RequestFault};
 use farm_types::{Act, Entry, FarmFault};
+use json::Scratch;
 use recorder::PlainRecorder;
 use report_codec::read_request;
 use std::alloc::Global;
 
 /// Answers a line at a moment (seconds): records what it asks, in the farm and in its keeper, and gives the line of its reply. A line that
-/// changes no row isn't told to the keeper.
+/// changes no row isn't told to the keeper. Texts with escapes are read into the scratch, which is kept from line to line.
 pub fn answer_line<K: Keeper>(
     alloc: Global,
     recorder: &mut PlainRecorder<K>,
     line: &[u8],
+    scratch: &mut Scratch,
     moment: u64,
 ) -> ReplyLine
     requires { length line.now ≤ LINE_LIMIT }
@@ -39,7 +41,7 @@ pub fn answer_line<K: Keeper>(
         (GoesOn K.commits K.tells K.faults recorder.old.farm recorder.old.keeper recorder.new.keeper) }
     ensures same { ChangesNone recorder.old.farm (answer_to recorder.old.farm line.now moment Plain).entries → recorder.new.keeper ≡ recorder.old.keeper }
 {
-    match read_request(alloc, line) {
+    match read_request(alloc, line, scratch) {
         Ok(asked) => answer_request(alloc, recorder, asked, moment),
         Err(fault) => fault_line(alloc, fault),
     }

@@ -14,7 +14,7 @@ use crate::reply_line::{ReplyLine, refusal_line, write_line};
 use farm_core::Change;
 use farm_keeper::Keeper;
 use farm_lines::Reply;
-use farm_types::{Act, Answer, Entry, FarmFault, Text};
+use farm_types::{Act, Answer, Entry, FarmFault, Items, Text};
 use recorder::{PlainRecorder, RecordFault};
 use std::alloc::{AllocError, Global};
 
@@ -63,7 +63,7 @@ fn record<K: Keeper>(
     recorder: &mut PlainRecorder<K>,
     entry: &Entry,
     change: Change,
-    line: Text,
+    line: Items<u8>,
 ) -> ReplyLine
     requires { IsOfEntry recorder.old.farm entry.now change }
     ensures recorded { IsRecorded recorder.old.farm (after_change recorder.old.farm change) line recorder.new.farm result }
@@ -96,7 +96,7 @@ fn fault_line(alloc: Global, fault: FarmFault) -> ReplyLine
 }
 
 // The line of the reply to a request but a report, by what the farm answers to its entry.
-fn write_ok(alloc: Global, act: &Act, answer: Answer) -> Result<Text, AllocError>
+fn write_ok(alloc: Global, act: &Act, answer: Answer) -> Result<Items<u8>, AllocError>
     ensures { IfOk result (λ line. line ≡ reply_text (ok_reply act.now answer) ++ 10 ∷ []) }
 {
     let reply = ok_reply(alloc, act, answer)?;

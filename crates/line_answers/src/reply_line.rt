@@ -6,7 +6,7 @@ ghost use Rattle.farm_lines.specs.Reply.{reply_text};
 ghost use Rattle.line_answers.specs.Lines.{IsLineOf, shown};
 
 use farm_lines::Reply;
-use farm_types::{Refusal, Text};
+use farm_types::{Items, Refusal};
 use report_codec::write_reply;
 use std::alloc::{AllocError, Global};
 
@@ -19,7 +19,7 @@ const NO_MEMORY: &str = "{\"code\":16,\"ok\":false,\"why\":\"memory\"}\n";
 /// The line of a reply: one that was written for it, or one of the three that take no memory.
 #[derive(Drop)]
 pub enum ReplyLine {
-    Written(Text),
+    Written(Items<u8>),
     TooLong,
     Store,
     NoMemory,
@@ -32,7 +32,7 @@ impl ReplyLine {
         ensures { result.now ≡ shown self.now }
     {
         match self {
-            ReplyLine::Written(line) => line.as_str().as_bytes(),
+            ReplyLine::Written(line) => line.as_slice(),
             ReplyLine::TooLong => TOO_LONG.as_bytes(),
             ReplyLine::Store => STORE.as_bytes(),
             ReplyLine::NoMemory => NO_MEMORY.as_bytes(),
@@ -57,11 +57,11 @@ pub fn refusal_line(alloc: Global, why: Refusal) -> ReplyLine
     line_of(alloc, &Reply::Refused(why))
 }
 
-/// The reply's text with a newline, which is added to the text itself.
-pub fn write_line(alloc: Global, reply: &Reply) -> Result<Text, AllocError>
+/// The reply's bytes with a newline, which is added to the bytes themselves.
+pub fn write_line(alloc: Global, reply: &Reply) -> Result<Items<u8>, AllocError>
     ensures { IfOk result (λ line. line ≡ reply_text reply.now ++ 10 ∷ []) }
 {
-    let mut line = write_reply(alloc, reply)?.into_string();
-    line.push_str("\n")?;
-    Ok(Text::from_string(line))
+    let mut line = write_reply(alloc, reply)?;
+    line.push(b'\n')?;
+    Ok(line)
 }

@@ -38,10 +38,26 @@ impl ObjectWriter {
     pub fn new(alloc: Global) -> Result<ObjectWriter, AllocError>
         ensures { IfOk result (λ writer. writer ≡ []) }
     {
-        let room = Vec::with_capacity(alloc, FIRST_ROOM)?;
-        Ok(ObjectWriter {
+        Ok(ObjectWriter::over(Vec::with_capacity(alloc, FIRST_ROOM)?))
+    }
+
+    /// Nothing yet, to be written into memory that is there. What it holds goes.
+    pub fn over(room: Vec<u8>) -> ObjectWriter
+        ensures { result ≡ [] }
+    {
+        let mut room = room;
+        room.clear();
+        ObjectWriter {
             out: Writer::new(room),
-        })
+        }
+    }
+
+    /// The text's bytes in the memory that they were written into.
+    pub fn into_vec(self) -> Vec<u8>
+        ensures { result.items ≡ print self }
+    {
+        let ObjectWriter { out } = self;
+        out.into_inner()
     }
 
     /// The text of what was written, with no copy.
@@ -59,8 +75,7 @@ impl ObjectWriter {
     pub fn into_bytes(self) -> Items<u8>
         ensures { result ≡ print self }
     {
-        let ObjectWriter { out } = self;
-        Items::from_vec(out.into_inner())
+        Items::from_vec(self.into_vec())
     }
 
     /// The beginning of an object: of the whole, or of an item of a list.

@@ -10,38 +10,47 @@ use farm_types::Items;
 use row_codec::encode;
 use std::alloc::{AllocError, Global};
 
+// Most rows need no more.
+const ROW_ROOM: usize = 512;
+
 /// The changes as a batch of a keeper.
 pub(crate) fn batch_of(alloc: Global, changes: &[RowChange]) -> Result<Batch, AllocError>
     ensures { IfOk result (λ batch. batch ≡ batch_of changes.now) }
 {
     let mut batch = Batch {
-        puts: Items::new(alloc),
+        puts: Items::from_vec(Vec::with_capacity(alloc, changes.len())?),
         deletes: Items::new(alloc),
     };
+    let mut room = Vec::with_capacity(alloc, ROW_ROOM)?;
     for change in changes {
-        add(alloc, &mut batch, change)?;
+        add(alloc, &mut batch, change, &mut room)?;
     }
     Ok(batch)
 }
 
 // Adds a change at the batch's end.
-fn add(alloc: Global, batch: &mut Batch, change: &RowChange) -> Result<(), AllocError>
+fn add(
+    alloc: Global,
+    batch: &mut Batch,
+    change: &RowChange,
+    room: &mut Vec<u8>,
+) -> Result<(), AllocError>
     ensures { OnOk result (batch.new ≡ added batch.old change.now) }
 {
     match change {
-        RowChange::Put(row) => batch.puts.push(stored_row(alloc, row)?),
+        RowChange::Put(row) => batch.puts.push(stored_row(alloc, row, room)?),
         RowChange::Delete { key } => batch.deletes.push(key_pair(*key)),
     }
 }
 
 // The row's bytes under its kind and its id.
-fn stored_row(alloc: Global, row: &FarmRow) -> Result<Row, AllocError>
+fn stored_row(alloc: Global, row: &FarmRow, room: &mut Vec<u8>) -> Result<Row, AllocError>
     ensures { IfOk result (λ stored. stored ≡ stored_row row.now) }
 {
     Ok(Row {
         kind: row.kind(),
         id: row.id(),
-        bytes: encode(alloc, row)?,
+        bytes: encode(alloc, row, room)?,
     })
 }
 

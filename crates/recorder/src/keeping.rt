@@ -155,6 +155,6 @@ fn commit<K: Keeper>(
     ensures told { TellsBatch K.commits (stored_batch changes.now) result keeper.old keeper.new }
 {
     let batch = batch_of(alloc, changes)?;
-    keeper.commit(alloc, &batch)?;
+    keeper.commit(alloc, batch)?;
     Ok(())
 }

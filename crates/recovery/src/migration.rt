@@ -27,7 +27,7 @@ pub fn migrate<K: Keeper>(alloc: Global, keeper: &mut K, farm: &Farm) -> Result<
     migrations_make_the_rows();
     farm.kept();
     let batch = batch_for(alloc, farm)?;
-    keeper.commit(alloc, &batch)
+    keeper.commit(alloc, batch)
 }
 
 // The rows that differ between the formats, as they are written.
@@ -47,11 +47,12 @@ fn migrated_rows(alloc: Global, rows: &[FarmRow]) -> Result<Items<Row>, AllocErr
     ensures { IfOk result (λ puts. puts ≡ map stored_row (filter is_migrated rows.now)) }
 {
     let mut puts = Items::new(alloc);
+    let mut room = Vec::new(alloc);
     for row in rows {
         if !is_migrated(row) {
             continue;
         }
-        puts.push(stored_row(alloc, row)?)?;
+        puts.push(stored_row(alloc, row, &mut room)?)?;
     }
     Ok(puts)
 }
@@ -68,12 +69,12 @@ fn is_migrated(row: &FarmRow) -> bool
 }
 
 // The row's bytes under its kind and its id.
-fn stored_row(alloc: Global, row: &FarmRow) -> Result<Row, AllocError>
+fn stored_row(alloc: Global, row: &FarmRow, room: &mut Vec<u8>) -> Result<Row, AllocError>
     ensures { IfOk result (λ stored. stored ≡ stored_row row.now) }
 {
     Ok(Row {
         kind: row.kind(),
         id: row.id(),
-        bytes: encode(alloc, row)?,
+        bytes: encode(alloc, row, room)?,
     })
 }

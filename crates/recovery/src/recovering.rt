@@ -9,6 +9,7 @@ use crate::fault::{DraftFault, RecoverFault};
 use farm_core::Farm;
 use farm_keeper::Row;
 use farm_rows::FarmRow;
+use json::Scratch;
 use row_codec::{RowFault, decode};
 use std::alloc::Global;
 
@@ -27,8 +28,9 @@ pub fn recover(alloc: Global, rows: &[Row]) -> Result<Recovered, RecoverFault>
     ensures { IsRecovered (recovered rows.now) result }
 {
     let mut draft = FarmDraft::make(alloc)?;
+    let mut scratch = Scratch::new(alloc);
     for row in rows {
-        if let Err(fault) = take(alloc, &mut draft, row) {
+        if let Err(fault) = take(alloc, &mut draft, row, &mut scratch) {
             return Err(fault);
         }
     }
@@ -36,23 +38,33 @@ pub fn recover(alloc: Global, rows: &[Row]) -> Result<Recovered, RecoverFault>
 }
 
 // Takes the next row.
-fn take(alloc: Global, draft: &mut FarmDraft, row: &Row) -> Result<(), RecoverFault>
+fn take(
+    alloc: Global,
+    draft: &mut FarmDraft,
+    row: &Row,
+    scratch: &mut Scratch,
+) -> Result<(), RecoverFault>
     ensures { IsAccepted draft.old row.now draft.new result }
 {
     let kind = row.kind;
     let id = row.id;
     if may_follow(draft.last(), (kind, id)) {
-        return take_next(alloc, draft, row);
+        return take_next(alloc, draft, row, scratch);
     }
     Err(RecoverFault::BreaksFarm { kind, id })
 }
 
 // Takes a row that is in order.
-fn take_next(alloc: Global, draft: &mut FarmDraft, row: &Row) -> Result<(), RecoverFault>
+fn take_next(
+    alloc: Global,
+    draft: &mut FarmDraft,
+    row: &Row,
+    scratch: &mut Scratch,
+) -> Result<(), RecoverFault>
     requires { may_follow draft.old.last (given_key row.now) ≡ true }
     ensures { IsAccepted draft.old row.now draft.new result }
 {
-    match read(alloc, draft.format(), row) {
+    match read(alloc, draft.format(), row, scratch) {
         Ok(found) => take_found(alloc, draft, row, found),
         Err(fault) => Err(fault),
     }
@@ -89,13 +101,25 @@ fn may_follow(last: Option<(u8, u64)>, key: (u8, u64)) -> bool
 }
 
 // The row that the bytes are in the format.
-fn read(alloc: Global, format: u64, row: &Row) -> Result<FarmRow, RecoverFault>
+fn read(
+    alloc: Global,
+    format: u64,
+    row: &Row,
+    scratch: &mut Scratch,
+) -> Result<FarmRow, RecoverFault>
     requires { IsFormat format }
     ensures { IsRead format row.now result }
 {
     let kind = row.kind;
     let id = row.id;
-    match decode(alloc, format, kind, read_id(kind, id), row.bytes.as_slice()) {
+    match decode(
+        alloc,
+        format,
+        kind,
+        read_id(kind, id),
+        row.bytes.as_slice(),
+        scratch,
+    ) {
         Ok(row) => Ok(row),
         Err(RowFault::BadBytes { .. }) => Err(RecoverFault::BadBytes { kind, id }),
         Err(RowFault::NoMemory) => Err(RecoverFault::NoMemory),

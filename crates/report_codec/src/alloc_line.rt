@@ -1,7 +1,7 @@
 //! The line that adds an allocation.
 
 ghost use Rattle.std.specs.Prelude.{◌≡◌, IfOk};
-ghost use Rattle.serde_json.specs.View.{members_view};
+ghost use Rattle.cue_json.specs.View.{members_view};
 ghost use Rattle.cue_json.specs.Fields.{Gives, of_kind};
 ghost use Rattle.farm_lines.specs.Request.{alloc_at, alloc_name_at, alloc_of_name, alloc_parts, asked, asks_alloc};
 ghost use Rattle.report_codec.specs.Reads.{IsRequest};
@@ -13,7 +13,7 @@ use std::alloc::{AllocError, Global};
 
 /// The allocation that the object adds, or its first fault.
 pub fn read_alloc(alloc: Global, object: &Map) -> Result<Request, RequestFault>
-    ensures { IsRequest result (asked asks_alloc (alloc_at (members_view object.now.entries))) }
+    ensures { IsRequest result (asked asks_alloc (alloc_at (members_view object.now.items))) }
 {
     let AllocRow { facility, tag } = allocation(alloc, object)?;
     Ok(Request::Alloc { facility, tag })
@@ -22,7 +22,7 @@ pub fn read_alloc(alloc: Global, object: &Map) -> Result<Request, RequestFault>
 // The allocation's name, and no other field.
 #[tactic(auto, unfolding(farm_lines::specs::Request::alloc_at))]
 fn allocation(alloc: Global, object: &Map) -> Result<AllocRow, FieldFault>
-    ensures { Gives (λ row. row) result (alloc_at (members_view object.now.entries)) }
+    ensures { Gives (λ row. row) result (alloc_at (members_view object.now.items)) }
 {
     let row = read_alloc_name(alloc, object, "name")?;
     cue_json::no_others(alloc, object, &["name", "op"])?;
@@ -31,7 +31,7 @@ fn allocation(alloc: Global, object: &Map) -> Result<AllocRow, FieldFault>
 
 // The allocation that the field's text names.
 fn read_alloc_name(alloc: Global, object: &Map, field: &str) -> Result<AllocRow, FieldFault>
-    ensures { Gives (λ row. row) result (alloc_name_at field.now (members_view object.now.entries)) }
+    ensures { Gives (λ row. row) result (alloc_name_at field.now (members_view object.now.items)) }
 {
     let name = cue_json::text(alloc, object, field)?;
     named(alloc, field, name)

@@ -1,7 +1,7 @@
 //! A host's boot, and its reply.
 
 ghost use Rattle.std.specs.Prelude.{◌≡◌, OnOk};
-ghost use Rattle.serde_json.specs.View.{members_view};
+ghost use Rattle.cue_json.specs.View.{members_view};
 ghost use Rattle.cue_json.specs.Fields.{Gives};
 ghost use Rattle.farm_lines.specs.declared.request.Request.TheVariants as request;
 ghost use Rattle.farm_lines.specs.Reply.{boot_data};
@@ -22,7 +22,7 @@ use std::alloc::{AllocError, Global};
 
 /// The boot that the object tells, or its first fault. All forms come before the amounts.
 pub fn read_boot(alloc: Global, object: &Map) -> Result<Request, RequestFault>
-    ensures { IsRequest result (judged request.Boot (boot_line_at (members_view object.now.entries))) }
+    ensures { IsRequest result (judged request.Boot (boot_line_at (members_view object.now.items))) }
 {
     let form = read_form(alloc, object)?;
     let line = judge(alloc, form)?;
@@ -32,7 +32,7 @@ pub fn read_boot(alloc: Global, object: &Map) -> Result<Request, RequestFault>
 // A boot's fields in order, and no others.
 #[tactic(auto, unfolding(farm_lines::specs::Request::boot_form_at))]
 fn read_form(alloc: Global, object: &Map) -> Result<BootForm, FieldFault>
-    ensures { Gives (λ form. form) result (boot_form_at (members_view object.now.entries)) }
+    ensures { Gives (λ form. form) result (boot_form_at (members_view object.now.items)) }
 {
     let host = read_name(alloc, object, "host")?;
     let nonce = read_number(alloc, object, "nonce")?;

@@ -1,7 +1,7 @@
 //! The line that adds a depend, and its reply.
 
 ghost use Rattle.std.specs.Prelude.{◌≡◌, OnOk};
-ghost use Rattle.serde_json.specs.View.{members_view};
+ghost use Rattle.cue_json.specs.View.{members_view};
 ghost use Rattle.farm_lines.specs.declared.request.Request.TheVariants as request;
 ghost use Rattle.farm_lines.specs.DependLines.{depend_at};
 ghost use Rattle.farm_lines.specs.Reply.{depend_data};
@@ -17,7 +17,7 @@ use std::alloc::{AllocError, Global};
 
 /// The depend that the object adds, or its first fault.
 pub fn read_depend(alloc: Global, object: &Map) -> Result<Request, RequestFault>
-    ensures { IsRequest result (asked request.Depend (depend_at (members_view object.now.entries))) }
+    ensures { IsRequest result (asked request.Depend (depend_at (members_view object.now.items))) }
 {
     let depend = job_spec::read_depend(alloc, object)?;
     Ok(Request::Depend(depend))

@@ -1,6 +1,6 @@
 //! Completions in a report's list.
 
-ghost use Rattle.serde_json.specs.View.{members_view};
+ghost use Rattle.cue_json.specs.View.{members_view};
 ghost use Rattle.cue_json.specs.Fields.{Gives};
 ghost use Rattle.farm_lines.specs.Fields.{optional_whole_at};
 ghost use Rattle.farm_lines.specs.Request.{done_at};
@@ -51,7 +51,7 @@ fn optional_cores(
     field: &str,
     most: u32,
 ) -> Result<Option<Cores>, FieldFault>
-    ensures { Gives (λ cores. cores) result (optional_whole_at field.now 0 most (members_view object.now.entries)) }
+    ensures { Gives (λ cores. cores) result (optional_whole_at field.now 0 most (members_view object.now.items)) }
 {
     if cue_json::has(object, field) {
         let cores = read_whole(alloc, object, field, 0, most)?;

@@ -1,7 +1,7 @@
 //! The line that drops a depend, and its reply.
 
 ghost use Rattle.std.specs.Prelude.{◌≡◌, OnOk};
-ghost use Rattle.serde_json.specs.View.{members_view};
+ghost use Rattle.cue_json.specs.View.{members_view};
 ghost use Rattle.cue_json.specs.Fields.{Gives};
 ghost use Rattle.farm_lines.specs.declared.request.Request.TheVariants as request;
 ghost use Rattle.farm_lines.specs.Reply.{dropped_data};
@@ -17,7 +17,7 @@ use std::alloc::{AllocError, Global};
 
 /// The depend that the object drops, or its first fault.
 pub fn read_drop(alloc: Global, object: &Map) -> Result<Request, RequestFault>
-    ensures { IsRequest result (asked request.Drop (drop_at (members_view object.now.entries))) }
+    ensures { IsRequest result (asked request.Drop (drop_at (members_view object.now.items))) }
 {
     let depend = depend_no(alloc, object)?;
     Ok(Request::Drop { depend })
@@ -26,7 +26,7 @@ pub fn read_drop(alloc: Global, object: &Map) -> Result<Request, RequestFault>
 // The depend's number, and no other field.
 #[tactic(auto, unfolding(farm_lines::specs::Request::drop_at))]
 fn depend_no(alloc: Global, object: &Map) -> Result<DependNo, FieldFault>
-    ensures { Gives (λ depend. depend) result (drop_at (members_view object.now.entries)) }
+    ensures { Gives (λ depend. depend) result (drop_at (members_view object.now.items)) }
 {
     let number = cue_json::whole(alloc, object, "depend", 1, u64::from(LAST_DEPEND))?;
     cue_json::no_others(alloc, object, &["depend", "op"])?;

@@ -5,7 +5,7 @@ ghost use Rattle.farm_lines.specs.Reply.{bad_amount, bad_line, bad_range, bad_st
 ghost use Rattle.object_writer.specs.Tokens.{added, tokens_of};
 ghost use Rattle.serde_json.specs.Written.{compact_text};
 
-use farm_types::{Cores, Kb, Text};
+use farm_types::{Cores, Items, Kb};
 use frame_range::RangeFault;
 use object_writer::ObjectWriter;
 use std::alloc::{AllocError, Global};
@@ -97,23 +97,23 @@ pub fn write_entries_full(out: &mut ObjectWriter) -> Result<(), AllocError>
     out.end_object()
 }
 
-/// The line that tells a row of the store at fault, with its newline.
-pub fn write_bad_store(alloc: Global, kind: u8, id: u64) -> Result<Text, AllocError>
+/// The bytes of the line that tells a row of the store at fault, with its newline.
+pub fn write_bad_store(alloc: Global, kind: u8, id: u64) -> Result<Items<u8>, AllocError>
     ensures { IfOk result (λ line. line ≡ bad_store_line kind id) }
 {
-    let mut line = bad_store_text(alloc, kind, id)?.into_string();
-    line.push_str("\n")?;
-    Ok(Text::from_string(line))
+    let mut line = bad_store_bytes(alloc, kind, id)?;
+    line.push(b'\n')?;
+    Ok(line)
 }
 
 // A row of the store at fault, as compact JSON.
 #[tactic(auto, using(object_writer::proofs::Printed::data_printed))]
-fn bad_store_text(alloc: Global, kind: u8, id: u64) -> Result<Text, AllocError>
-    ensures { IfOk result (λ text. text ≡ compact_text (bad_store kind id)) }
+fn bad_store_bytes(alloc: Global, kind: u8, id: u64) -> Result<Items<u8>, AllocError>
+    ensures { IfOk result (λ bytes. bytes ≡ compact_text (bad_store kind id)) }
 {
     let mut out = ObjectWriter::new(alloc)?;
     write_bad_row(&mut out, u64::from(kind), id)?;
-    Ok(out.into_text())
+    Ok(out.into_bytes())
 }
 
 // A row of the store at fault.

@@ -1,7 +1,7 @@
 //! The line that sets a limit, and its reply.
 
 ghost use Rattle.std.specs.Prelude.{◌≡◌, OnOk};
-ghost use Rattle.serde_json.specs.View.{members_view};
+ghost use Rattle.cue_json.specs.View.{members_view};
 ghost use Rattle.cue_json.specs.Fields.{Gives};
 ghost use Rattle.farm_lines.specs.Reply.{limit_data};
 ghost use Rattle.farm_lines.specs.Request.{asks_limit, judged, limit_form_at, limit_line_at, limit_line_of};
@@ -19,7 +19,7 @@ use std::alloc::{AllocError, Global};
 
 /// The limit that the object sets, or its first fault. All forms come before the amount.
 pub fn read_limit(alloc: Global, object: &Map) -> Result<Request, RequestFault>
-    ensures { IsRequest result (judged asks_limit (limit_line_at (members_view object.now.entries))) }
+    ensures { IsRequest result (judged asks_limit (limit_line_at (members_view object.now.items))) }
 {
     let form = read_form(alloc, object)?;
     let LimitLine { name, most } = judge(alloc, form)?;
@@ -29,7 +29,7 @@ pub fn read_limit(alloc: Global, object: &Map) -> Result<Request, RequestFault>
 // A limit's fields in order, and no others.
 #[tactic(auto, unfolding(farm_lines::specs::Request::limit_form_at))]
 fn read_form(alloc: Global, object: &Map) -> Result<LimitForm, FieldFault>
-    ensures { Gives (λ form. form) result (limit_form_at (members_view object.now.entries)) }
+    ensures { Gives (λ form. form) result (limit_form_at (members_view object.now.items)) }
 {
     let name = read_name(alloc, object, "name")?;
     let most = read_number(alloc, object, "most")?;

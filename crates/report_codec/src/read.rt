@@ -1,7 +1,7 @@
 //! Reading a line as a request.
 
 ghost use Rattle.std.specs.Prelude.{Err, IfOk, None};
-ghost use Rattle.serde_json.specs.View.{members_view};
+ghost use Rattle.cue_json.specs.View.{members_view};
 ghost use Rattle.farm_lines.specs.Request.{by_op, request_at, request_in, request_of};
 ghost use Rattle.report_codec.specs.Reads.{AsksWithin, IsRequest};
 
@@ -21,15 +21,21 @@ use crate::tick_line::read_tick;
 use cue_json::{FieldFault, LineFault, Map};
 use farm_lines::{Request, RequestFault};
 use farm_types::Text;
+use json::Scratch;
 use std::alloc::Global;
 
-/// What the line asks, or its first fault. What is asked is within the forms and limits of its act.
+/// What the line asks, or its first fault. What is asked is within the forms and limits of its act. Texts with escapes are read into the scratch, which is
+/// kept from line to line.
 #[tactic(auto, unfolding(farm_lines::specs::Request::request_of))]
-pub fn read_request(alloc: Global, line: &[u8]) -> Result<Request, RequestFault>
+pub fn read_request(
+    alloc: Global,
+    line: &[u8],
+    scratch: &mut Scratch,
+) -> Result<Request, RequestFault>
     ensures gives { IsRequest result (request_of line.now) }
     ensures limits { IfOk result AsksWithin }
 {
-    match cue_json::object_of(alloc, line) {
+    match cue_json::object_of(alloc, line, scratch) {
         Ok(object) => request(alloc, &object),
         Err(LineFault::NotAnObject) => Err(no_object(alloc)),
         Err(LineFault::NoMemory) => Err(RequestFault::NoMemory),
@@ -48,7 +54,7 @@ fn no_object(alloc: Global) -> RequestFault
 
 // The request that the object is.
 fn request(alloc: Global, object: &Map) -> Result<Request, RequestFault>
-    ensures { IsRequest result (request_at (members_view object.now.entries)) }
+    ensures { IsRequest result (request_at (members_view object.now.items)) }
 {
     let op = cue_json::text(alloc, object, "op")?;
     request_by_op(alloc, object, op)
@@ -56,7 +62,7 @@ fn request(alloc: Global, object: &Map) -> Result<Request, RequestFault>
 
 // The request that `op` names.
 fn request_by_op(alloc: Global, object: &Map, op: &str) -> Result<Request, RequestFault>
-    ensures { IsRequest result (by_op (members_view object.now.entries) op.now) }
+    ensures { IsRequest result (by_op (members_view object.now.items) op.now) }
 {
     match op {
         "boot" => read_boot(alloc, object),

@@ -2,7 +2,7 @@
 
 ghost use Rattle.std.specs.Prelude.{◌≡◌, ◌∷◌, OnOk};
 ghost use Rattle.json.specs.Token.{key};
-ghost use Rattle.serde_json.specs.View.{members_view};
+ghost use Rattle.cue_json.specs.View.{members_view};
 ghost use Rattle.cue_json.specs.Fields.{Gives};
 ghost use Rattle.state_names.specs.Words.{cut_word};
 ghost use Rattle.farm_lines.specs.declared.request.Request.TheVariants as request;
@@ -24,7 +24,7 @@ use std::alloc::{AllocError, Global};
 
 /// The report that the object is, or its first fault.
 pub fn read_report(alloc: Global, object: &Map) -> Result<Request, RequestFault>
-    ensures { IsRequest result (asked request.Report (report_at (members_view object.now.entries))) }
+    ensures { IsRequest result (asked request.Report (report_at (members_view object.now.items))) }
 {
     let report = report(alloc, object)?;
     Ok(Request::Report(report))
@@ -33,7 +33,7 @@ pub fn read_report(alloc: Global, object: &Map) -> Result<Request, RequestFault>
 // A report's fields in order, and no others.
 #[tactic(auto, unfolding(farm_lines::specs::Request::report_at))]
 fn report(alloc: Global, object: &Map) -> Result<Report, FieldFault>
-    ensures { Gives (λ report. report) result (report_at (members_view object.now.entries)) }
+    ensures { Gives (λ report. report) result (report_at (members_view object.now.items)) }
 {
     let host = read_name(alloc, object, "host")?;
     let boot = cue_json::whole(alloc, object, "boot", 1, u64::from(LAST_BOOT))?;

@@ -1,6 +1,6 @@
 //! The line that adds a show.
 
-ghost use Rattle.serde_json.specs.View.{members_view};
+ghost use Rattle.cue_json.specs.View.{members_view};
 ghost use Rattle.cue_json.specs.Fields.{Gives};
 ghost use Rattle.farm_lines.specs.declared.request.Request.TheVariants as request;
 ghost use Rattle.farm_lines.specs.Request.{asked, show_at};
@@ -13,7 +13,7 @@ use std::alloc::Global;
 
 /// The show that the object adds, or its first fault.
 pub fn read_show(alloc: Global, object: &Map) -> Result<Request, RequestFault>
-    ensures { IsRequest result (asked request.Show (show_at (members_view object.now.entries))) }
+    ensures { IsRequest result (asked request.Show (show_at (members_view object.now.items))) }
 {
     let name = show(alloc, object)?;
     Ok(Request::Show { name })
@@ -22,7 +22,7 @@ pub fn read_show(alloc: Global, object: &Map) -> Result<Request, RequestFault>
 // The show's name, and no other field.
 #[tactic(auto, unfolding(farm_lines::specs::Request::show_at))]
 fn show(alloc: Global, object: &Map) -> Result<Text, FieldFault>
-    ensures { Gives (λ name. name) result (show_at (members_view object.now.entries)) }
+    ensures { Gives (λ name. name) result (show_at (members_view object.now.items)) }
 {
     let name = read_name(alloc, object, "name")?;
     cue_json::no_others(alloc, object, &["name", "op"])?;

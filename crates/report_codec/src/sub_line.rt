@@ -1,7 +1,7 @@
 //! The line that sets a subscription, and its reply.
 
 ghost use Rattle.std.specs.Prelude.{◌≡◌, OnOk};
-ghost use Rattle.serde_json.specs.View.{members_view};
+ghost use Rattle.cue_json.specs.View.{members_view};
 ghost use Rattle.cue_json.specs.Fields.{Gives};
 ghost use Rattle.farm_lines.specs.declared.request.Request.TheVariants as request;
 ghost use Rattle.farm_lines.specs.Reply.{sub_data};
@@ -20,7 +20,7 @@ use std::alloc::{AllocError, Global};
 
 /// The subscription that the object sets, or its first fault. All forms come before the amounts.
 pub fn read_sub(alloc: Global, object: &Map) -> Result<Request, RequestFault>
-    ensures { IsRequest result (judged request.Sub (sub_line_at (members_view object.now.entries))) }
+    ensures { IsRequest result (judged request.Sub (sub_line_at (members_view object.now.items))) }
 {
     let form = read_form(alloc, object)?;
     let line = judge(alloc, form)?;
@@ -30,7 +30,7 @@ pub fn read_sub(alloc: Global, object: &Map) -> Result<Request, RequestFault>
 // A subscription's fields in order, and no others.
 #[tactic(auto, unfolding(farm_lines::specs::Request::sub_form_at))]
 fn read_form(alloc: Global, object: &Map) -> Result<SubForm, FieldFault>
-    ensures { Gives (λ form. form) result (sub_form_at (members_view object.now.entries)) }
+    ensures { Gives (λ form. form) result (sub_form_at (members_view object.now.items)) }
 {
     let show = read_name(alloc, object, "show")?;
     let allocation = read_text(alloc, object, "alloc")?;

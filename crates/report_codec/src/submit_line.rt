@@ -1,7 +1,7 @@
 //! The submit of a job, and its reply.
 
 ghost use Rattle.std.specs.Prelude.{◌≡◌, OnOk};
-ghost use Rattle.serde_json.specs.View.{members_view};
+ghost use Rattle.cue_json.specs.View.{members_view};
 ghost use Rattle.farm_lines.specs.declared.request.Request.TheVariants as request;
 ghost use Rattle.farm_lines.specs.Reply.{submit_data};
 ghost use Rattle.farm_lines.specs.Request.{judged, submit_at};
@@ -18,7 +18,7 @@ use std::alloc::{AllocError, Global};
 /// the job's amounts.
 #[tactic(auto, unfolding(farm_lines::specs::Request::submit_at))]
 pub fn read_submit(alloc: Global, object: &Map) -> Result<Request, RequestFault>
-    ensures { IsRequest result (judged request.Submit (submit_at (members_view object.now.entries))) }
+    ensures { IsRequest result (judged request.Submit (submit_at (members_view object.now.items))) }
 {
     let job = cue_json::object(alloc, object, "job")?;
     // Where memory ran out, whether the form has a fault isn't known, so that is told at once, as a fault of the form is.

@@ -1,7 +1,7 @@
 //! A tick, and its reply.
 
 ghost use Rattle.std.specs.Prelude.{◌≡◌, OnOk};
-ghost use Rattle.serde_json.specs.View.{members_view};
+ghost use Rattle.cue_json.specs.View.{members_view};
 ghost use Rattle.cue_json.specs.Fields.{others_at};
 ghost use Rattle.farm_lines.specs.Reply.{tick_data};
 ghost use Rattle.farm_lines.specs.Request.{asked, asks_tick, tick_keys};
@@ -15,7 +15,7 @@ use std::alloc::{AllocError, Global};
 
 /// A tick, which has no field but `op`, or its first fault.
 pub fn read_tick(alloc: Global, object: &Map) -> Result<Request, RequestFault>
-    ensures { IsRequest result (asked asks_tick (others_at tick_keys (members_view object.now.entries))) }
+    ensures { IsRequest result (asked asks_tick (others_at tick_keys (members_view object.now.items))) }
 {
     cue_json::no_others(alloc, object, &["op"])?;
     Ok(Request::Tick)

@@ -20,18 +20,18 @@ use crate::sub_line::write_sub;
 use crate::submit_line::write_submitted;
 use crate::tick_line::write_tick;
 use farm_lines::Reply;
-use farm_types::Text;
+use farm_types::Items;
 use object_writer::ObjectWriter;
 use std::alloc::{AllocError, Global};
 
-/// The reply as compact JSON, its keys in byte order, without a newline.
+/// The bytes of the reply as compact JSON, its keys in byte order, without a newline.
 #[tactic(auto, using(object_writer::proofs::Printed::data_printed))]
-pub fn write_reply(alloc: Global, reply: &Reply) -> Result<Text, AllocError>
-    ensures { IfOk result (λ text. text ≡ reply_text reply.now) }
+pub fn write_reply(alloc: Global, reply: &Reply) -> Result<Items<u8>, AllocError>
+    ensures { IfOk result (λ bytes. bytes ≡ reply_text reply.now) }
 {
     let mut out = ObjectWriter::new(alloc)?;
     write_object(&mut out, reply)?;
-    Ok(out.into_text())
+    Ok(out.into_bytes())
 }
 
 // The reply as an object, its keys in byte order. Amounts of cores are in hundredths of a core.

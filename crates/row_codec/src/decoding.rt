@@ -1,7 +1,7 @@
 //! The row that bytes are.
 
 ghost use Rattle.std.specs.Prelude.{◌≡◌, Option, ◌/◌, ◌%◌, ◌^◌, Some, None, nat_lt, if◌then◌else◌, IfOk};
-ghost use Rattle.serde_json.specs.View.{members_view};
+ghost use Rattle.cue_json.specs.View.{members_view};
 ghost use Rattle.farm_rows.specs.declared.farm_row.FarmRow.{FarmRow};
 ghost use Rattle.farm_rows.specs.declared.farm_row.FarmRow.TheVariants as row;
 ghost use Rattle.farm_rows.specs.Recovery.{IsFormat};
@@ -19,22 +19,25 @@ use crate::layer_fields::{read_layer, read_limit_row};
 use cue_json::Map;
 use farm_rows::{FarmRow, GROUP_IDS, LAYER_IDS};
 use farm_types::{AllocNo, DependNo, HostNo, JobNo, LimitNo, MetRow, ShowNo, Slot, SubNo};
+use json::Scratch;
 use std::alloc::{AllocError, Global};
 
-/// The row of that kind and id whose bytes are these in the format, which is 1 or 2, or `BadBytes` where no row has them.
+/// The row of that kind and id whose bytes are these in the format, which is 1 or 2, or `BadBytes` where no row has them. Texts with escapes are read into the
+/// scratch.
 pub fn decode(
     alloc: Global,
     format: u64,
     kind: u8,
     id: u64,
     bytes: &[u8],
+    scratch: &mut Scratch,
 ) -> Result<FarmRow, RowFault>
     requires { IsFormat format }
     ensures gives { IsDecoded kind id result (row_from format kind id bytes.now) }
     // So the row has these bytes, and no row has them where none is read.
     ensures exact { IsExact format kind id bytes.now result }
 {
-    named(kind, id, read_row(alloc, format, kind, id, bytes))
+    named(kind, id, read_row(alloc, format, kind, id, bytes, scratch))
 }
 
 // What was read, with the kind and the id in its fault.
@@ -56,10 +59,11 @@ fn read_row(
     kind: u8,
     id: u64,
     bytes: &[u8],
+    scratch: &mut Scratch,
 ) -> Result<FarmRow, ReadFault>
     ensures { Reads result (row_from format kind id bytes.now) }
 {
-    let object = cue_json::object_of(alloc, bytes)?;
+    let object = cue_json::object_of(alloc, bytes, scratch)?;
     let row = read_fields(alloc, format, kind, id, &object)?;
     checked(alloc, format, kind, id, row, bytes)
 }
@@ -105,7 +109,7 @@ fn read_fields(
     id: u64,
     object: &Map,
 ) -> Result<FarmRow, ReadFault>
-    ensures { Reads result (row_in format kind id (members_view object.now.entries)) }
+    ensures { Reads result (row_in format kind id (members_view object.now.items)) }
 {
     match kind {
         1 => head(alloc, object),
@@ -124,13 +128,13 @@ fn read_fields(
 }
 
 fn head(alloc: Global, object: &Map) -> Result<FarmRow, ReadFault>
-    ensures { Reads result (read_as row.Head (head_at (members_view object.now.entries))) }
+    ensures { Reads result (read_as row.Head (head_at (members_view object.now.items))) }
 {
     Ok(FarmRow::Head(read_head(alloc, object)?))
 }
 
 fn show(alloc: Global, id: u64, object: &Map) -> Result<FarmRow, ReadFault>
-    ensures { Reads result (below (2 ^ 16) id (read_as (row.Show id) (show_at (members_view object.now.entries)))) }
+    ensures { Reads result (below (2 ^ 16) id (read_as (row.Show id) (show_at (members_view object.now.items)))) }
 {
     let show = ShowNo(small(id)?);
     let row = read_show(alloc, object)?;
@@ -138,7 +142,7 @@ fn show(alloc: Global, id: u64, object: &Map) -> Result<FarmRow, ReadFault>
 }
 
 fn allocation(alloc: Global, id: u64, object: &Map) -> Result<FarmRow, ReadFault>
-    ensures { Reads result (below (2 ^ 16) id (read_as (row.Alloc id) (alloc_at (members_view object.now.entries)))) }
+    ensures { Reads result (below (2 ^ 16) id (read_as (row.Alloc id) (alloc_at (members_view object.now.items)))) }
 {
     let number = AllocNo(small(id)?);
     let row = read_alloc(alloc, object)?;
@@ -146,14 +150,14 @@ fn allocation(alloc: Global, id: u64, object: &Map) -> Result<FarmRow, ReadFault
 }
 
 fn sub(alloc: Global, id: u64, object: &Map) -> Result<FarmRow, ReadFault>
-    ensures { Reads result (below (2 ^ 16) id (read_as row.Sub (sub_at id (members_view object.now.entries)))) }
+    ensures { Reads result (below (2 ^ 16) id (read_as row.Sub (sub_at id (members_view object.now.items)))) }
 {
     let sub = SubNo(small(id)?);
     Ok(FarmRow::Sub(read_sub(alloc, sub, object)?))
 }
 
 fn host(alloc: Global, id: u64, object: &Map) -> Result<FarmRow, ReadFault>
-    ensures { Reads result (below (2 ^ 16) id (read_as (row.Host id) (host_at (members_view object.now.entries)))) }
+    ensures { Reads result (below (2 ^ 16) id (read_as (row.Host id) (host_at (members_view object.now.items)))) }
 {
     let host = HostNo(small(id)?);
     let row = read_host(alloc, object)?;
@@ -161,7 +165,7 @@ fn host(alloc: Global, id: u64, object: &Map) -> Result<FarmRow, ReadFault>
 }
 
 fn job(alloc: Global, id: u64, object: &Map) -> Result<FarmRow, ReadFault>
-    ensures { Reads result (below (2 ^ 32) id (read_as row.Job (job_at id (members_view object.now.entries)))) }
+    ensures { Reads result (below (2 ^ 32) id (read_as row.Job (job_at id (members_view object.now.items)))) }
 {
     let job = JobNo(medium(id)?);
     Ok(FarmRow::Job(read_job(alloc, job, object)?))
@@ -169,7 +173,7 @@ fn job(alloc: Global, id: u64, object: &Map) -> Result<FarmRow, ReadFault>
 
 fn layer(alloc: Global, format: u64, id: u64, object: &Map) -> Result<FarmRow, ReadFault>
     ensures { Reads result (below (2 ^ 32) (id / LAYER_IDS) (read_as row.Layer
-        (layer_at format (id / LAYER_IDS) (id % LAYER_IDS) (members_view object.now.entries)))) }
+        (layer_at format (id / LAYER_IDS) (id % LAYER_IDS) (members_view object.now.items)))) }
 {
     let job = JobNo(medium(id / LAYER_IDS)?);
     let place = (id % LAYER_IDS) as u32;
@@ -177,14 +181,14 @@ fn layer(alloc: Global, format: u64, id: u64, object: &Map) -> Result<FarmRow, R
 }
 
 fn frame(alloc: Global, id: u64, object: &Map) -> Result<FarmRow, ReadFault>
-    ensures { Reads result (below (2 ^ 32) id (read_as row.Frame (frame_at id (members_view object.now.entries)))) }
+    ensures { Reads result (below (2 ^ 32) id (read_as row.Frame (frame_at id (members_view object.now.items)))) }
 {
     let slot = Slot(medium(id)?);
     Ok(FarmRow::Frame(read_frame(alloc, slot, object)?))
 }
 
 fn depend(alloc: Global, id: u64, object: &Map) -> Result<FarmRow, ReadFault>
-    ensures { Reads result (below (2 ^ 32) id (read_as row.Depend (depend_at id (members_view object.now.entries)))) }
+    ensures { Reads result (below (2 ^ 32) id (read_as row.Depend (depend_at id (members_view object.now.items)))) }
 {
     let depend = DependNo(medium(id)?);
     Ok(FarmRow::Depend(read_depend(alloc, depend, object)?))
@@ -199,7 +203,7 @@ fn met(id: u64) -> Result<FarmRow, ReadFault>
 }
 
 fn limit(alloc: Global, id: u64, object: &Map) -> Result<FarmRow, ReadFault>
-    ensures { Reads result (below (2 ^ 8) id (read_as (row.Limit id) (limit_row_at (members_view object.now.entries)))) }
+    ensures { Reads result (below (2 ^ 8) id (read_as (row.Limit id) (limit_row_at (members_view object.now.items)))) }
 {
     let limit = LimitNo(tiny(id)?);
     let row = read_limit_row(alloc, object)?;

@@ -1,7 +1,7 @@
 //! The fields of depends, and of groups that are met.
 
 ghost use Rattle.std.specs.Prelude.{◌≡◌, OnOk};
-ghost use Rattle.serde_json.specs.View.{members_view};
+ghost use Rattle.cue_json.specs.View.{members_view};
 ghost use Rattle.cue_json.specs.Fields.{Gives};
 ghost use Rattle.row_codec.specs.RowFields.{depend_fields, met_fields};
 ghost use Rattle.row_codec.specs.RowReading.{depend_at, frame_if, layer_if, target_at, waiter_at};
@@ -47,7 +47,7 @@ pub fn write_met(out: &mut ObjectWriter) -> Result<(), AllocError>
 /// The depend of that number that the object's fields say: those that its kind has.
 #[tactic(auto, unfolding(crate::specs::RowReading::depend_at))]
 pub fn read_depend(alloc: Global, depend: DependNo, object: &Map) -> Result<DependRow, FieldFault>
-    ensures { Gives (λ row. row) result (depend_at depend (members_view object.now.entries)) }
+    ensures { Gives (λ row. row) result (depend_at depend (members_view object.now.items)) }
 {
     let any = cue_json::flag(alloc, object, "any")?;
     let kind = read_word(alloc, object, "kind")?;
@@ -67,7 +67,7 @@ pub fn read_depend(alloc: Global, depend: DependNo, object: &Map) -> Result<Depe
 // The end that waits.
 #[tactic(auto, unfolding(crate::specs::RowReading::waiter_at))]
 fn read_waiter(alloc: Global, object: &Map, kind: DependKind) -> Result<DependEnd, FieldFault>
-    ensures { Gives (λ end. end) result (waiter_at kind (members_view object.now.entries)) }
+    ensures { Gives (λ end. end) result (waiter_at kind (members_view object.now.items)) }
 {
     let job = read_u32(alloc, object, "job")?;
     let layer = read_layer(alloc, object, "layer", names_layer(kind))?;
@@ -82,7 +82,7 @@ fn read_waiter(alloc: Global, object: &Map, kind: DependKind) -> Result<DependEn
 // The end that is waited for.
 #[tactic(auto, unfolding(crate::specs::RowReading::target_at))]
 fn read_target(alloc: Global, object: &Map, kind: DependKind) -> Result<DependEnd, FieldFault>
-    ensures { Gives (λ end. end) result (target_at kind (members_view object.now.entries)) }
+    ensures { Gives (λ end. end) result (target_at kind (members_view object.now.items)) }
 {
     let job = read_u32(alloc, object, "on_job")?;
     let layer = read_layer(alloc, object, "on_layer", names_target_layer(kind))?;
@@ -101,7 +101,7 @@ fn read_layer(
     field: &str,
     is_named: bool,
 ) -> Result<Option<Text>, FieldFault>
-    ensures { Gives (λ layer. layer) result (layer_if is_named field.now (members_view object.now.entries)) }
+    ensures { Gives (λ layer. layer) result (layer_if is_named field.now (members_view object.now.items)) }
 {
     if is_named {
         Ok(Some(read_text(alloc, object, field)?))
@@ -117,7 +117,7 @@ fn read_frame(
     field: &str,
     is_named: bool,
 ) -> Result<Option<i32>, FieldFault>
-    ensures { Gives (λ frame. frame) result (frame_if is_named field.now (members_view object.now.entries)) }
+    ensures { Gives (λ frame. frame) result (frame_if is_named field.now (members_view object.now.items)) }
 {
     if is_named {
         Ok(Some(read_i32(alloc, object, field)?))

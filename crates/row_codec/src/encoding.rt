@@ -14,12 +14,27 @@ use farm_rows::{FarmRow, ROW_FORMAT};
 use farm_types::Items;
 use object_writer::ObjectWriter;
 use std::alloc::{AllocError, Global};
+use std::mem;
 
-/// The row as compact JSON, its keys in byte order, in the format in which rows are written.
-pub fn encode(alloc: Global, row: &FarmRow) -> Result<Items<u8>, AllocError>
+/// The row as compact JSON, its keys in byte order, in the format in which rows are written. It is put together in the room, whose memory is kept from
+/// row to row, and what it holds goes.
+pub fn encode(alloc: Global, row: &FarmRow, room: &mut Vec<u8>) -> Result<Items<u8>, AllocError>
     ensures { IfOk result (λ bytes. bytes ≡ row_text row.now) }
 {
-    encode_in(alloc, ROW_FORMAT, row)
+    let text = write_over(mem::replace(room, Vec::new(alloc)), row)?;
+    let bytes = Vec::from_slice(alloc, text.as_slice())?;
+    *room = text;
+    Ok(Items::from_vec(bytes))
+}
+
+// The row's text in the memory of the room.
+#[tactic(auto, using(crate::proofs::Printed::row_printed))]
+fn write_over(room: Vec<u8>, row: &FarmRow) -> Result<Vec<u8>, AllocError>
+    ensures { IfOk result (λ text. text.items ≡ row_text row.now) }
+{
+    let mut out = ObjectWriter::over(room);
+    write_row(&mut out, ROW_FORMAT, row)?;
+    Ok(out.into_vec())
 }
 
 /// The row as compact JSON, in that format.

@@ -1,7 +1,7 @@
 //! The fields of the farm's own row, and of shows, allocations and subscriptions.
 
 ghost use Rattle.std.specs.Prelude.{◌≡◌, OnOk};
-ghost use Rattle.serde_json.specs.View.{members_view};
+ghost use Rattle.cue_json.specs.View.{members_view};
 ghost use Rattle.cue_json.specs.Fields.{Gives};
 ghost use Rattle.row_codec.specs.RowFields.{alloc_fields, head_fields, show_fields, sub_fields};
 ghost use Rattle.row_codec.specs.RowReading.{alloc_at, head_at, show_at, sub_at};
@@ -31,7 +31,7 @@ pub fn write_head(out: &mut ObjectWriter, row: &HeadRow) -> Result<(), AllocErro
 /// The farm's own row, as the object's fields say.
 #[tactic(auto, unfolding(crate::specs::RowReading::head_at))]
 pub fn read_head(alloc: Global, object: &Map) -> Result<HeadRow, FieldFault>
-    ensures { Gives (λ row. row) result (head_at (members_view object.now.entries)) }
+    ensures { Gives (λ row. row) result (head_at (members_view object.now.items)) }
 {
     let depends = read_u64(alloc, object, "depends")?;
     let finishes = read_u64(alloc, object, "finishes")?;
@@ -60,7 +60,7 @@ pub fn write_show(out: &mut ObjectWriter, row: &ShowRow) -> Result<(), AllocErro
 /// The show that the object's fields say.
 #[tactic(auto, unfolding(crate::specs::RowReading::show_at))]
 pub fn read_show(alloc: Global, object: &Map) -> Result<ShowRow, FieldFault>
-    ensures { Gives (λ row. row) result (show_at (members_view object.now.entries)) }
+    ensures { Gives (λ row. row) result (show_at (members_view object.now.items)) }
 {
     let name = read_text(alloc, object, "name")?;
     Ok(ShowRow { name })
@@ -80,7 +80,7 @@ pub fn write_alloc(out: &mut ObjectWriter, row: &AllocRow) -> Result<(), AllocEr
 /// The allocation that the object's fields say.
 #[tactic(auto, unfolding(crate::specs::RowReading::alloc_at))]
 pub fn read_alloc(alloc: Global, object: &Map) -> Result<AllocRow, FieldFault>
-    ensures { Gives (λ row. row) result (alloc_at (members_view object.now.entries)) }
+    ensures { Gives (λ row. row) result (alloc_at (members_view object.now.items)) }
 {
     let facility = read_text(alloc, object, "facility")?;
     let tag = read_text(alloc, object, "tag")?;
@@ -101,7 +101,7 @@ pub fn write_sub(out: &mut ObjectWriter, row: &SubRow) -> Result<(), AllocError>
 /// The subscription of that number that the object's fields say.
 #[tactic(auto, unfolding(crate::specs::RowReading::sub_at))]
 pub fn read_sub(alloc: Global, sub: SubNo, object: &Map) -> Result<SubRow, FieldFault>
-    ensures { Gives (λ row. row) result (sub_at sub (members_view object.now.entries)) }
+    ensures { Gives (λ row. row) result (sub_at sub (members_view object.now.items)) }
 {
     let burst = read_u32(alloc, object, "burst")?;
     let size = read_u32(alloc, object, "size")?;

@@ -1,7 +1,7 @@
 //! The fields of frame slots.
 
 ghost use Rattle.std.specs.Prelude.{◌≡◌, OnOk};
-ghost use Rattle.serde_json.specs.View.{members_view};
+ghost use Rattle.cue_json.specs.View.{members_view};
 ghost use Rattle.cue_json.specs.Fields.{Gives};
 ghost use Rattle.row_codec.specs.RowFields.{fields_in_state, frame_fields, free_fields, resting_fields, running_fields};
 ghost use Rattle.row_codec.specs.RowReading.{frame_at, resting_of, running_at, state_at, stored_at, stored_if, without_attempt};
@@ -100,7 +100,7 @@ fn write_running(
 /// The slot of that number that the object's fields say.
 #[tactic(auto, unfolding(crate::specs::RowReading::frame_at))]
 pub fn read_frame(alloc: Global, slot: Slot, object: &Map) -> Result<FrameRow, FieldFault>
-    ensures { Gives (λ row. row) result (frame_at slot (members_view object.now.entries)) }
+    ensures { Gives (λ row. row) result (frame_at slot (members_view object.now.items)) }
 {
     let version = read_u32(alloc, object, "version")?;
     let word = cue_json::text(alloc, object, "state")?;
@@ -119,7 +119,7 @@ fn read_stored_if(
     object: &Map,
     word: &str,
 ) -> Result<Option<StoredFrame>, FieldFault>
-    ensures { Gives (λ frame. frame) result (stored_if word.now (members_view object.now.entries)) }
+    ensures { Gives (λ frame. frame) result (stored_if word.now (members_view object.now.items)) }
 {
     if word == "FREE" {
         return Ok(None);
@@ -130,7 +130,7 @@ fn read_stored_if(
 
 #[tactic(auto, unfolding(crate::specs::RowReading::stored_at))]
 fn read_stored(alloc: Global, object: &Map, word: &str) -> Result<StoredFrame, FieldFault>
-    ensures { Gives (λ frame. frame) result (stored_at word.now (members_view object.now.entries)) }
+    ensures { Gives (λ frame. frame) result (stored_at word.now (members_view object.now.items)) }
 {
     let job = read_u32(alloc, object, "job")?;
     let layer = read_u32(alloc, object, "layer")?;
@@ -148,7 +148,7 @@ fn read_stored(alloc: Global, object: &Map, word: &str) -> Result<StoredFrame, F
 
 // The state that the word names, with the attempt of a running frame.
 fn read_state(alloc: Global, object: &Map, word: &str) -> Result<StoredState, FieldFault>
-    ensures { Gives (λ state. state) result (state_at word.now (members_view object.now.entries)) }
+    ensures { Gives (λ state. state) result (state_at word.now (members_view object.now.items)) }
 {
     if word == "RUNNING" {
         read_running(alloc, object)
@@ -159,7 +159,7 @@ fn read_state(alloc: Global, object: &Map, word: &str) -> Result<StoredState, Fi
 
 #[tactic(auto, unfolding(crate::specs::RowReading::running_at))]
 fn read_running(alloc: Global, object: &Map) -> Result<StoredState, FieldFault>
-    ensures { Gives (λ state. state) result (running_at (members_view object.now.entries)) }
+    ensures { Gives (λ state. state) result (running_at (members_view object.now.items)) }
 {
     let boot = read_u32(alloc, object, "boot")?;
     let host = read_u16(alloc, object, "host")?;

@@ -1,7 +1,7 @@
 //! The fields of hosts.
 
 ghost use Rattle.std.specs.Prelude.{◌≡◌, OnOk};
-ghost use Rattle.serde_json.specs.View.{members_view};
+ghost use Rattle.cue_json.specs.View.{members_view};
 ghost use Rattle.cue_json.specs.Fields.{Gives};
 ghost use Rattle.row_codec.specs.RowFields.{host_fields};
 ghost use Rattle.row_codec.specs.RowReading.{host_at};
@@ -38,7 +38,7 @@ pub fn write_host(out: &mut ObjectWriter, row: &HostRow) -> Result<(), AllocErro
 /// The host that the object's fields say.
 #[tactic(auto, unfolding(crate::specs::RowReading::host_at))]
 pub fn read_host(alloc: Global, object: &Map) -> Result<HostRow, FieldFault>
-    ensures { Gives (λ row. row) result (host_at (members_view object.now.entries)) }
+    ensures { Gives (λ row. row) result (host_at (members_view object.now.items)) }
 {
     let allocation = read_u16(alloc, object, "alloc")?;
     let boot = read_u32(alloc, object, "boot")?;

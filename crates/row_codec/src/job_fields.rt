@@ -1,7 +1,7 @@
 //! The fields of jobs.
 
 ghost use Rattle.std.specs.Prelude.{◌≡◌, OnOk};
-ghost use Rattle.serde_json.specs.View.{members_view};
+ghost use Rattle.cue_json.specs.View.{members_view};
 ghost use Rattle.cue_json.specs.Fields.{Gives};
 ghost use Rattle.row_codec.specs.RowFields.{job_fields};
 ghost use Rattle.row_codec.specs.RowReading.{job_at};
@@ -40,7 +40,7 @@ pub fn write_job(out: &mut ObjectWriter, row: &JobRow) -> Result<(), AllocError>
 /// The job of that number that the object's fields say.
 #[tactic(auto, unfolding(crate::specs::RowReading::job_at))]
 pub fn read_job(alloc: Global, job: JobNo, object: &Map) -> Result<JobRow, FieldFault>
-    ensures { Gives (λ row. row) result (job_at job (members_view object.now.entries)) }
+    ensures { Gives (λ row. row) result (job_at job (members_view object.now.items)) }
 {
     let auto_eat = cue_json::flag(alloc, object, "auto_eat")?;
     let eaten = read_u32(alloc, object, "eaten")?;

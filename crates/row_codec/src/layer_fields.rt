@@ -2,7 +2,7 @@
 
 ghost use Rattle.std.specs.Prelude.{◌≡◌, ◌≤◌, codes, OnOk};
 ghost use Rattle.serde_json.specs.Data.{Members};
-ghost use Rattle.serde_json.specs.View.{members_view};
+ghost use Rattle.cue_json.specs.View.{members_view};
 ghost use Rattle.cue_json.specs.Fields.{Gives};
 ghost use Rattle.row_codec.specs.RowFields.{field_if, layer_fields, limit_fields, limit_mark, limit_value};
 ghost use Rattle.row_codec.specs.RowReading.{layer_at, limit_at, limit_marked, limit_row_at};
@@ -41,7 +41,7 @@ pub fn read_layer(
     place: u32,
     object: &Map,
 ) -> Result<LayerRow, FieldFault>
-    ensures { Gives (λ row. row) result (layer_at format job place (members_view object.now.entries)) }
+    ensures { Gives (λ row. row) result (layer_at format job place (members_view object.now.items)) }
 {
     let command = read_text(alloc, object, "command")?;
     let cores = read_u32(alloc, object, "cores")?;
@@ -90,7 +90,7 @@ fn mark_of(limit: Option<LimitNo>) -> u64
 
 // The limit that a layer's row has, none in format 1.
 fn read_limit(alloc: Global, format: u64, object: &Map) -> Result<Option<LimitNo>, FieldFault>
-    ensures { Gives (λ limit. limit) result (limit_at format (members_view object.now.entries)) }
+    ensures { Gives (λ limit. limit) result (limit_at format (members_view object.now.items)) }
 {
     if format != ROW_FORMAT {
         return Ok(None);
@@ -124,7 +124,7 @@ pub fn write_limit_row(out: &mut ObjectWriter, row: &LimitRow) -> Result<(), All
 /// The limit that the object's fields say.
 #[tactic(auto, unfolding(crate::specs::RowReading::limit_row_at))]
 pub fn read_limit_row(alloc: Global, object: &Map) -> Result<LimitRow, FieldFault>
-    ensures { Gives (λ row. row) result (limit_row_at (members_view object.now.entries)) }
+    ensures { Gives (λ row. row) result (limit_row_at (members_view object.now.items)) }
 {
     let most = read_u32(alloc, object, "most")?;
     let name = read_text(alloc, object, "name")?;

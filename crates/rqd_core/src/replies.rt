@@ -12,6 +12,7 @@ use crate::sent_line::SentLine;
 use client_codec::{ReplyFault, read_reply};
 use farm_lines::{Reply, ReportReply};
 use farm_types::{Items, Refusal};
+use json::Scratch;
 use std::alloc::{AllocError, Global};
 
 impl Rqd {
@@ -19,7 +20,8 @@ impl Rqd {
     pub(crate) fn take_line(&mut self, alloc: Global, line: &[u8]) -> Result<Orders, RqdFault>
         ensures { ComesTo self.old (take_line self.old line.now) result self.new }
     {
-        match read_reply(alloc, line) {
+        let mut scratch = Scratch::new(alloc);
+        match read_reply(alloc, line, &mut scratch) {
             Ok(reply) => self.take(alloc, reply),
             Err(ReplyFault::NotAReply) => Err(RqdFault::NotAReply),
             Err(ReplyFault::NoMemory) => Err(RqdFault::NoMemory),

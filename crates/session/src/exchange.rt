@@ -13,6 +13,7 @@ ghost use Rattle.farm_lines.specs.declared.limits.TheConstants.{LINE_LIMIT};
 use crate::exchanged::Exchanged;
 use cue_io::{Clock, Line, LineFault, LineReader, Sink, Source, write_all};
 use farm_keeper::Keeper;
+use json::Scratch;
 use line_answers::{ReplyLine, answer_line, lines_are_answered_by_what_they_ask};
 use recorder::PlainRecorder;
 use std::alloc::Global;
@@ -22,6 +23,7 @@ pub fn exchange<S: Source, W: Sink, K: Keeper, C: Clock>(
     alloc: Global,
     recorder: &mut PlainRecorder<K>,
     reader: &mut LineReader,
+    scratch: &mut Scratch,
     source: &mut S,
     sink: &mut W,
     clock: &mut C,
@@ -41,7 +43,7 @@ pub fn exchange<S: Source, W: Sink, K: Keeper, C: Clock>(
     match reader.next(source) {
         Ok(Line::Bytes(line)) => {
             let moment = clock.now();
-            let reply = answer_line(alloc, recorder, line, moment);
+            let reply = answer_line(alloc, recorder, line, scratch, moment);
             recorder.recorded();
             send(sink, &reply)
         }

@@ -23,6 +23,7 @@ use farm_keeper::Keeper;
 use farm_law::legal_runs_are_safe;
 use farm_lines::LINE_LIMIT;
 use farm_types::Text;
+use json::Scratch;
 use line_answers::sessions_are_legal;
 use recorder::PlainRecorder;
 use recovery::RecoverFault;
@@ -143,7 +144,16 @@ fn answer_all<S: Source, W: Sink, K: Keeper, C: Clock>(
     recorder.read().kept();
     sessions_are_legal();
     legal_runs_are_safe();
-    let ended = serve(alloc, &mut recorder, reader, source, sink, clock);
+    let mut scratch = Scratch::new(alloc);
+    let ended = serve(
+        alloc,
+        &mut recorder,
+        reader,
+        &mut scratch,
+        source,
+        sink,
+        clock,
+    );
     (status(ended), recorder.close())
 }
 
@@ -180,7 +190,7 @@ fn tell_row<W: Sink>(alloc: Global, sink: &mut W, kind: u8, id: u64) -> Status
     let Ok(line) = write_bad_store(alloc, kind, id) else {
         return Status::NoMemory;
     };
-    match write_all(sink, line.as_str().as_bytes()) {
+    match write_all(sink, line.as_slice()) {
         Ok(()) => Status::BadStore,
         Err(_) => Status::WriteFailed,
     }

@@ -10,6 +10,7 @@ use crate::exchange::exchange;
 use crate::exchanged::Exchanged;
 use cue_io::{Clock, LineReader, Sink, Source};
 use farm_keeper::Keeper;
+use json::Scratch;
 use recorder::PlainRecorder;
 use std::alloc::Global;
 
@@ -18,6 +19,7 @@ pub fn serve<S: Source, W: Sink, K: Keeper, C: Clock>(
     alloc: Global,
     recorder: &mut PlainRecorder<K>,
     reader: &mut LineReader,
+    scratch: &mut Scratch,
     source: &mut S,
     sink: &mut W,
     clock: &mut C,
@@ -32,7 +34,7 @@ pub fn serve<S: Source, W: Sink, K: Keeper, C: Clock>(
     ensures write { result ≡ Exchanged.Write → HasRisen (W.faults sink.old) (W.faults sink.new) }
 {
     'exchanges: loop {
-        match exchange(alloc, recorder, reader, source, sink, clock) {
+        match exchange(alloc, recorder, reader, scratch, source, sink, clock) {
             Exchanged::Went => {}
             ended => return ended,
         }

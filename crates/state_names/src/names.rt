@@ -1,7 +1,7 @@
 //! What words name.
 
 ghost use Rattle.std.specs.Prelude.{◌≡◌, ℕ, List, Option};
-ghost use Rattle.serde_json.specs.View.{members_view};
+ghost use Rattle.cue_json.specs.View.{members_view};
 ghost use Rattle.cue_json.specs.Fields.{Gives, of_kind};
 ghost use Rattle.state_names.specs.Words.{counted_of, cut_of, host_state_of, job_state_of, kind_of, lock_of, state_of, word_at};
 
@@ -22,7 +22,7 @@ pub trait Word: Drop {
 
 /// What the word of the field names, else its first fault.
 pub fn read_word<W: Word>(alloc: Global, object: &Map, field: &str) -> Result<W, FieldFault>
-    ensures { Gives (λ what. what) result (word_at W.names field.now (members_view object.now.entries)) }
+    ensures { Gives (λ what. what) result (word_at W.names field.now (members_view object.now.items)) }
 {
     let word = cue_json::text(alloc, object, field)?;
     named(alloc, field, W::of_word(word))

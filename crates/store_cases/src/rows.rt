@@ -10,16 +10,18 @@ use store_work::Work;
 // The kind of the rows that are put.
 const KIND: u8 = 2;
 
-// Rows that are put, and whether they were taken.
+// Rows that are to be put, until they are handed over, and whether they were taken.
 #[derive(Drop)]
 struct Putting {
-    batch: Batch,
+    batch: Option<Batch>,
     is_taken: bool,
 }
 
 impl Work for Putting {
     fn work<K: Keeper>(&mut self, alloc: Global, mut keeper: K) -> K {
-        self.is_taken = keeper.commit(alloc, &self.batch).is_ok();
+        if let Some(batch) = self.batch.take() {
+            self.is_taken = keeper.commit(alloc, batch).is_ok();
+        }
         keeper
     }
 }
@@ -27,7 +29,7 @@ impl Work for Putting {
 /// Puts rows with these ids into a file, in one batch, and tells whether it was taken.
 pub fn put(place: Place<'_>, ids: &[u64], came: &mut Vec<u8>) -> io::Result<()> {
     let mut putting = Putting {
-        batch: puts_of(place.alloc(), ids)?,
+        batch: Some(puts_of(place.alloc(), ids)?),
         is_taken: false,
     };
     if place.work(&mut putting, came)? {

@@ -28,7 +28,7 @@ pub fn keeper_of(alloc: Global, rows: &[Row], failing: &[u64]) -> Result<MemoryK
         later.push(call.saturating_add(1))?;
     }
     let mut keeper = MemoryKeeper::make(alloc, &later)?;
-    put(alloc, &mut keeper, &puts_of(alloc, rows)?)?;
+    put(alloc, &mut keeper, puts_of(alloc, rows)?)?;
     Ok(keeper)
 }
 
@@ -45,7 +45,7 @@ fn puts_of(alloc: Global, rows: &[Row]) -> Result<Batch, AllocError> {
 }
 
 // Commits a batch that isn't to fail.
-fn put(alloc: Global, keeper: &mut MemoryKeeper, batch: &Batch) -> Result<(), AllocError> {
+fn put(alloc: Global, keeper: &mut MemoryKeeper, batch: Batch) -> Result<(), AllocError> {
     match keeper.commit(alloc, batch) {
         Ok(()) => Ok(()),
         Err(_) => Err(AllocError),
@@ -61,7 +61,7 @@ pub fn rows_of(
     let Some(batch) = first_refused(alloc, &keeper)? else {
         return Ok((without, None));
     };
-    put(alloc, &mut keeper, &batch)?;
+    put(alloc, &mut keeper, batch)?;
     Ok((without, Some(loaded(alloc, &mut keeper)?)))
 }
 

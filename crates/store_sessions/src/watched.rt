@@ -94,7 +94,7 @@ impl<K: Keeper> Keeper for Watched<K> {
         }
     }
 
-    fn commit(&mut self, alloc: Global, batch: &Batch) -> Result<(), KeeperFault> {
+    fn commit(&mut self, alloc: Global, batch: Batch) -> Result<(), KeeperFault> {
         if self.calls.is_failing() {
             return Err(self.calls.note(KeeperFault::Failed));
         }

@@ -1,7 +1,7 @@
 //! What the farm refuses.
 
 ghost use Rattle.std.specs.Prelude.{◌≡◌, codes};
-ghost use Rattle.serde_json.specs.View.{members_view};
+ghost use Rattle.cue_json.specs.View.{members_view};
 ghost use Rattle.cue_json.specs.Fields.{Gives, whole_at};
 ghost use Rattle.farm_types.specs.declared.limits.TheConstants.{LAST_BOOT, SLOT_LIMIT};
 ghost use Rattle.farm_types.specs.declared.refusal.Refusal.TheVariants.{WrongBoot, Stale, FarmFull};
@@ -19,7 +19,7 @@ use std::alloc::Global;
 /// The host's boot number is another.
 pub fn read_wrong_boot(alloc: Global, object: &Map) -> Result<Reply, FieldFault>
     ensures { Gives (λ reply. reply) result (keyed_refusal 5 boot_refusal_keys (whole_at (codes "boot") 1 LAST_BOOT)
-        (λ boot. reply.Refused (WrongBoot boot)) (members_view object.now.entries)) }
+        (λ boot. reply.Refused (WrongBoot boot)) (members_view object.now.items)) }
 {
     read_code(alloc, object, 5)?;
     let boot = read_whole(alloc, object, "boot", 1, LAST_BOOT)?;
@@ -29,7 +29,7 @@ pub fn read_wrong_boot(alloc: Global, object: &Map) -> Result<Reply, FieldFault>
 
 /// The report's number isn't above the last one.
 pub fn read_stale(alloc: Global, object: &Map) -> Result<Reply, FieldFault>
-    ensures { Gives (λ reply. reply) result (keyed_refusal 6 last_keys seq_at (λ last. reply.Refused (Stale last)) (members_view object.now.entries)) }
+    ensures { Gives (λ reply. reply) result (keyed_refusal 6 last_keys seq_at (λ last. reply.Refused (Stale last)) (members_view object.now.items)) }
 {
     read_code(alloc, object, 6)?;
     let last = cue_json::whole(alloc, object, "last", 1, u64::MAX)?;
@@ -40,7 +40,7 @@ pub fn read_stale(alloc: Global, object: &Map) -> Result<Reply, FieldFault>
 /// The job has more frames than there are free slots.
 pub fn read_farm_full(alloc: Global, object: &Map) -> Result<Reply, FieldFault>
     ensures { Gives (λ reply. reply) result (keyed_refusal 9 free_keys (whole_at (codes "free") 0 SLOT_LIMIT)
-        (λ free. reply.Refused (FarmFull free)) (members_view object.now.entries)) }
+        (λ free. reply.Refused (FarmFull free)) (members_view object.now.items)) }
 {
     read_code(alloc, object, 9)?;
     let free = read_whole(alloc, object, "free", 0, SLOT_LIMIT)?;
@@ -51,7 +51,7 @@ pub fn read_farm_full(alloc: Global, object: &Map) -> Result<Reply, FieldFault>
 /// The state of the frame, or of the depend, doesn't allow what is asked.
 pub fn read_wrong_state(alloc: Global, object: &Map) -> Result<Reply, FieldFault>
     ensures { Gives (λ reply. reply) result (keyed_refusal 11 state_keys (word_at wrong_state_of (codes "state"))
-        (λ refused. refused) (members_view object.now.entries)) }
+        (λ refused. refused) (members_view object.now.items)) }
 {
     read_code(alloc, object, 11)?;
     let refused = read_state_named(alloc, object, "state")?;
@@ -62,7 +62,7 @@ pub fn read_wrong_state(alloc: Global, object: &Map) -> Result<Reply, FieldFault
 /// A host with so much of its old cores and memory free boots with others.
 #[tactic(auto, unfolding(farm_lines::specs::ReplyLines::still_held_at))]
 pub fn read_still_held(alloc: Global, object: &Map) -> Result<Reply, FieldFault>
-    ensures { Gives (λ reply. reply) result (still_held_at (members_view object.now.entries)) }
+    ensures { Gives (λ reply. reply) result (still_held_at (members_view object.now.items)) }
 {
     read_code(alloc, object, 13)?;
     let cores = read_whole(alloc, object, "cores", 0, MOST_CORES)?;
@@ -76,7 +76,7 @@ pub fn read_still_held(alloc: Global, object: &Map) -> Result<Reply, FieldFault>
 
 // The refusal for the state that the word of the field names.
 fn read_state_named(alloc: Global, object: &Map, field: &str) -> Result<Reply, FieldFault>
-    ensures { Gives (λ refused. refused) result (word_at wrong_state_of field.now (members_view object.now.entries)) }
+    ensures { Gives (λ refused. refused) result (word_at wrong_state_of field.now (members_view object.now.items)) }
 {
     let word = cue_json::text(alloc, object, field)?;
     named(alloc, field, wrong_state_of(word))

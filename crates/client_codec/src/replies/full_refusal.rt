@@ -1,7 +1,7 @@
 //! Counts that are at their limit.
 
 ghost use Rattle.std.specs.Prelude.{◌≡◌};
-ghost use Rattle.serde_json.specs.View.{members_view};
+ghost use Rattle.cue_json.specs.View.{members_view};
 ghost use Rattle.cue_json.specs.Fields.{Gives};
 ghost use Rattle.farm_lines.specs.ReplyLines.{entries_full_at, full_at, full_of, full_reply, limit_of};
 
@@ -18,7 +18,7 @@ use std::alloc::Global;
 /// A count that is at its limit: of things that are kept, or of entries.
 #[tactic(auto, unfolding(farm_lines::specs::ReplyLines::full_reply))]
 pub fn read_full(alloc: Global, object: &Map) -> Result<Reply, FieldFault>
-    ensures { Gives (λ reply. reply) result (full_reply (members_view object.now.entries)) }
+    ensures { Gives (λ reply. reply) result (full_reply (members_view object.now.items)) }
 {
     read_code(alloc, object, 18)?;
     let what = cue_json::text(alloc, object, "what")?;
@@ -27,7 +27,7 @@ pub fn read_full(alloc: Global, object: &Map) -> Result<Reply, FieldFault>
 
 // The count that the word names.
 fn read_full_of(alloc: Global, object: &Map, what: &str) -> Result<Reply, FieldFault>
-    ensures { Gives (λ reply. reply) result (full_of (members_view object.now.entries) what.now) }
+    ensures { Gives (λ reply. reply) result (full_of (members_view object.now.items) what.now) }
 {
     if what == "entries" {
         return read_entries_full(alloc, object);
@@ -38,7 +38,7 @@ fn read_full_of(alloc: Global, object: &Map, what: &str) -> Result<Reply, FieldF
 
 #[tactic(auto, unfolding(farm_lines::specs::ReplyLines::entries_full_at))]
 fn read_entries_full(alloc: Global, object: &Map) -> Result<Reply, FieldFault>
-    ensures { Gives (λ reply. reply) result (entries_full_at (members_view object.now.entries)) }
+    ensures { Gives (λ reply. reply) result (entries_full_at (members_view object.now.items)) }
 {
     cue_json::whole(alloc, object, "limit", u64::MAX, u64::MAX)?;
     cue_json::no_others(alloc, object, &["code", "limit", "ok", "what", "why"])?;
@@ -47,7 +47,7 @@ fn read_entries_full(alloc: Global, object: &Map) -> Result<Reply, FieldFault>
 
 #[tactic(auto, unfolding(farm_lines::specs::ReplyLines::full_at))]
 fn read_counted(alloc: Global, object: &Map, what: Counted) -> Result<Reply, FieldFault>
-    ensures { Gives (λ reply. reply) result (full_at (members_view object.now.entries) what) }
+    ensures { Gives (λ reply. reply) result (full_at (members_view object.now.items) what) }
 {
     let most = limit_of(what);
     let limit = cue_json::whole(alloc, object, "limit", most, most)?;

@@ -1,7 +1,7 @@
 //! What a line is refused for, and faults that are none of its own.
 
 ghost use Rattle.std.specs.Prelude.{◌≡◌};
-ghost use Rattle.serde_json.specs.View.{members_view};
+ghost use Rattle.cue_json.specs.View.{members_view};
 ghost use Rattle.cue_json.specs.Fields.{Gives};
 ghost use Rattle.state_names.specs.Words.{word_at};
 ghost use Rattle.farm_lines.specs.declared.reply.Reply.TheVariants as reply;
@@ -17,7 +17,7 @@ use std::alloc::Global;
 
 /// A line that is too long.
 pub fn read_too_long(alloc: Global, object: &Map) -> Result<Reply, FieldFault>
-    ensures { Gives (λ reply. reply) result (plain_refusal 2 reply.TooLong (members_view object.now.entries)) }
+    ensures { Gives (λ reply. reply) result (plain_refusal 2 reply.TooLong (members_view object.now.items)) }
 {
     read_code(alloc, object, 2)?;
     cue_json::no_others(alloc, object, &["code", "ok", "why"])?;
@@ -27,7 +27,7 @@ pub fn read_too_long(alloc: Global, object: &Map) -> Result<Reply, FieldFault>
 /// A layer's range with a fault.
 #[tactic(auto, unfolding(farm_lines::specs::ReplyLines::bad_range_at))]
 pub fn read_bad_range(alloc: Global, object: &Map) -> Result<Reply, FieldFault>
-    ensures { Gives (λ reply. reply) result (bad_range_at (members_view object.now.entries)) }
+    ensures { Gives (λ reply. reply) result (bad_range_at (members_view object.now.items)) }
 {
     read_code(alloc, object, 7)?;
     let layer = read_name(alloc, object, "layer")?;
@@ -48,7 +48,7 @@ fn read_fault(
     field: &str,
     section: usize,
 ) -> Result<RangeFault, FieldFault>
-    ensures { Gives (λ fault. fault) result (word_at (range_fault_of section) field.now (members_view object.now.entries)) }
+    ensures { Gives (λ fault. fault) result (word_at (range_fault_of section) field.now (members_view object.now.items)) }
 {
     let word = cue_json::text(alloc, object, field)?;
     named(alloc, field, range_fault_of(section, word))
@@ -70,7 +70,7 @@ fn range_fault_of(section: usize, word: &str) -> Option<RangeFault>
 
 /// A fault of the store.
 pub fn read_store(alloc: Global, object: &Map) -> Result<Reply, FieldFault>
-    ensures { Gives (λ reply. reply) result (plain_refusal 15 reply.Store (members_view object.now.entries)) }
+    ensures { Gives (λ reply. reply) result (plain_refusal 15 reply.Store (members_view object.now.items)) }
 {
     read_code(alloc, object, 15)?;
     cue_json::no_others(alloc, object, &["code", "ok", "why"])?;
@@ -79,7 +79,7 @@ pub fn read_store(alloc: Global, object: &Map) -> Result<Reply, FieldFault>
 
 /// That memory ran out.
 pub fn read_no_memory(alloc: Global, object: &Map) -> Result<Reply, FieldFault>
-    ensures { Gives (λ reply. reply) result (plain_refusal 16 reply.NoMemory (members_view object.now.entries)) }
+    ensures { Gives (λ reply. reply) result (plain_refusal 16 reply.NoMemory (members_view object.now.items)) }
 {
     read_code(alloc, object, 16)?;
     cue_json::no_others(alloc, object, &["code", "ok", "why"])?;

@@ -1,6 +1,6 @@
 //! Refusals: `why` tells which one, and `code` is its number.
 
-ghost use Rattle.serde_json.specs.View.{members_view};
+ghost use Rattle.cue_json.specs.View.{members_view};
 ghost use Rattle.cue_json.specs.Fields.{Gives, text_at};
 ghost use Rattle.client_codec.specs.Replies.{keyed_at};
 ghost use Rattle.farm_lines.specs.Fields.{name_at};
@@ -18,7 +18,7 @@ use std::alloc::Global;
 
 /// The refusal that the object is, or its first field at fault.
 pub fn read_refusal(alloc: Global, object: &Map) -> Result<Reply, FieldFault>
-    ensures { Gives (λ reply. reply) result (refusal_at (members_view object.now.entries)) }
+    ensures { Gives (λ reply. reply) result (refusal_at (members_view object.now.items)) }
 {
     let why = cue_json::text(alloc, object, "why")?;
     read_by_why(alloc, object, why)
@@ -26,7 +26,7 @@ pub fn read_refusal(alloc: Global, object: &Map) -> Result<Reply, FieldFault>
 
 // The refusal that the word names.
 fn read_by_why(alloc: Global, object: &Map, why: &str) -> Result<Reply, FieldFault>
-    ensures { Gives (λ reply. reply) result (by_why (members_view object.now.entries) why.now) }
+    ensures { Gives (λ reply. reply) result (by_why (members_view object.now.items) why.now) }
 {
     match why {
         "bad_line" => Ok(Reply::BadLine {
@@ -69,14 +69,14 @@ fn read_by_why(alloc: Global, object: &Map, why: &str) -> Result<Reply, FieldFau
 
 /// The code of the refusal, which has to be this one.
 pub fn read_code(alloc: Global, object: &Map, code: u64) -> Result<u64, FieldFault>
-    ensures { Gives (λ code. code) result (code_at code (members_view object.now.entries)) }
+    ensures { Gives (λ code. code) result (code_at code (members_view object.now.items)) }
 {
     cue_json::whole(alloc, object, "code", code, code)
 }
 
 // The text that a refusal with this code shows in the field.
 fn keyed_text(alloc: Global, object: &Map, code: u64, field: &str) -> Result<Text, FieldFault>
-    ensures { Gives (λ text. text) result (keyed_at code field.now text_at (members_view object.now.entries)) }
+    ensures { Gives (λ text. text) result (keyed_at code field.now text_at (members_view object.now.items)) }
 {
     read_code(alloc, object, code)?;
     let text = read_text(alloc, object, field)?;
@@ -86,7 +86,7 @@ fn keyed_text(alloc: Global, object: &Map, code: u64, field: &str) -> Result<Tex
 
 // The name that it shows.
 fn keyed_name(alloc: Global, object: &Map, code: u64, field: &str) -> Result<Text, FieldFault>
-    ensures { Gives (λ name. name) result (keyed_at code field.now name_at (members_view object.now.entries)) }
+    ensures { Gives (λ name. name) result (keyed_at code field.now name_at (members_view object.now.items)) }
 {
     read_code(alloc, object, code)?;
     let name = read_name(alloc, object, field)?;

@@ -1,6 +1,6 @@
 //! The reply to a report.
 
-ghost use Rattle.serde_json.specs.View.{members_view};
+ghost use Rattle.cue_json.specs.View.{members_view};
 ghost use Rattle.cue_json.specs.Fields.{Gives};
 ghost use Rattle.farm_lines.specs.ReplyLines.{report_reply_at};
 
@@ -15,7 +15,7 @@ use std::alloc::Global;
 /// What a report is replied, or the first field at fault.
 #[tactic(auto, unfolding(farm_lines::specs::ReplyLines::report_reply_at))]
 pub fn read_report(alloc: Global, object: &Map) -> Result<Reply, FieldFault>
-    ensures { Gives (λ reply. reply) result (report_reply_at (members_view object.now.entries)) }
+    ensures { Gives (λ reply. reply) result (report_reply_at (members_view object.now.items)) }
 {
     let acks = read_list(alloc, object, "acks", &AttemptReader)?;
     let boot = read_whole(alloc, object, "boot", 1, LAST_BOOT)?;

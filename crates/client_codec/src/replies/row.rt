@@ -1,6 +1,6 @@
 //! The rows of lists: their fields in order, and no others.
 
-ghost use Rattle.serde_json.specs.View.{members_view};
+ghost use Rattle.cue_json.specs.View.{members_view};
 ghost use Rattle.cue_json.specs.Fields.{Gives, others_at};
 ghost use Rattle.farm_lines.specs.ReplyRows.{count_at, depend_row_at, frame_row_at, host_row_at, job_row_at, layer_row_at, limit_row_at, name_row_at, proc_row_at, row_at, sub_row_at};
 ghost use Rattle.farm_lines.specs.RowKinds.{row_keys};
@@ -46,14 +46,14 @@ impl ItemReader for RowReader {
 
 // Nothing where the object has no keys but those of that kind.
 fn no_others(alloc: Global, object: &Map, kind: RowKind) -> Result<(), FieldFault>
-    ensures { Gives (λ none. none) result (others_at (row_keys kind) (members_view object.now.entries)) }
+    ensures { Gives (λ none. none) result (others_at (row_keys kind) (members_view object.now.items)) }
 {
     cue_json::no_others(alloc, object, kind.keys())
 }
 
 #[tactic(auto, unfolding(farm_lines::specs::ReplyRows::name_row_at))]
 fn read_name_row(alloc: Global, object: &Map) -> Result<ListRow, FieldFault>
-    ensures { Gives (λ row. row) result (name_row_at (members_view object.now.entries)) }
+    ensures { Gives (λ row. row) result (name_row_at (members_view object.now.items)) }
 {
     let name = read_name(alloc, object, "name")?;
     no_others(alloc, object, RowKind::Name)?;
@@ -62,7 +62,7 @@ fn read_name_row(alloc: Global, object: &Map) -> Result<ListRow, FieldFault>
 
 #[tactic(auto, unfolding(farm_lines::specs::ReplyRows::sub_row_at))]
 fn read_sub(alloc: Global, object: &Map) -> Result<ListRow, FieldFault>
-    ensures { Gives (λ row. row) result (sub_row_at (members_view object.now.entries)) }
+    ensures { Gives (λ row. row) result (sub_row_at (members_view object.now.items)) }
 {
     let allocation = read_name(alloc, object, "alloc")?;
     let booked = read_whole(alloc, object, "booked", 0, MOST_BOOKED)?;
@@ -81,7 +81,7 @@ fn read_sub(alloc: Global, object: &Map) -> Result<ListRow, FieldFault>
 
 #[tactic(auto, unfolding(farm_lines::specs::ReplyRows::limit_row_at))]
 fn read_limit(alloc: Global, object: &Map) -> Result<ListRow, FieldFault>
-    ensures { Gives (λ row. row) result (limit_row_at (members_view object.now.entries)) }
+    ensures { Gives (λ row. row) result (limit_row_at (members_view object.now.items)) }
 {
     let most = read_whole(alloc, object, "most", 0, MOST_RUNNING)?;
     let name = read_name(alloc, object, "name")?;
@@ -96,7 +96,7 @@ fn read_limit(alloc: Global, object: &Map) -> Result<ListRow, FieldFault>
 
 #[tactic(auto, unfolding(farm_lines::specs::ReplyRows::host_row_at))]
 fn read_host(alloc: Global, object: &Map) -> Result<ListRow, FieldFault>
-    ensures { Gives (λ row. row) result (host_row_at (members_view object.now.entries)) }
+    ensures { Gives (λ row. row) result (host_row_at (members_view object.now.items)) }
 {
     let allocation = read_name(alloc, object, "alloc")?;
     let boot = read_whole(alloc, object, "boot", 1, LAST_BOOT)?;
@@ -125,14 +125,14 @@ fn read_host(alloc: Global, object: &Map) -> Result<ListRow, FieldFault>
 
 // How many frames of a job or a layer are in a state.
 fn read_count(alloc: Global, object: &Map, field: &str) -> Result<u32, FieldFault>
-    ensures { Gives (λ count. count) result (count_at field.now (members_view object.now.entries)) }
+    ensures { Gives (λ count. count) result (count_at field.now (members_view object.now.items)) }
 {
     read_whole(alloc, object, field, 0, MOST_FRAMES)
 }
 
 #[tactic(auto, unfolding(farm_lines::specs::ReplyRows::job_row_at))]
 fn read_job(alloc: Global, object: &Map) -> Result<ListRow, FieldFault>
-    ensures { Gives (λ row. row) result (job_row_at (members_view object.now.entries)) }
+    ensures { Gives (λ row. row) result (job_row_at (members_view object.now.items)) }
 {
     let dead = read_count(alloc, object, "dead")?;
     let depend = read_count(alloc, object, "depend")?;
@@ -163,7 +163,7 @@ fn read_job(alloc: Global, object: &Map) -> Result<ListRow, FieldFault>
 
 #[tactic(auto, unfolding(farm_lines::specs::ReplyRows::layer_row_at))]
 fn read_layer(alloc: Global, object: &Map) -> Result<ListRow, FieldFault>
-    ensures { Gives (λ row. row) result (layer_row_at (members_view object.now.entries)) }
+    ensures { Gives (λ row. row) result (layer_row_at (members_view object.now.items)) }
 {
     let cores = read_whole(alloc, object, "cores", LEAST_CORES, MOST_CORES)?;
     let dead = read_count(alloc, object, "dead")?;
@@ -194,7 +194,7 @@ fn read_layer(alloc: Global, object: &Map) -> Result<ListRow, FieldFault>
 
 #[tactic(auto, unfolding(farm_lines::specs::ReplyRows::frame_row_at))]
 fn read_frame(alloc: Global, object: &Map) -> Result<ListRow, FieldFault>
-    ensures { Gives (λ row. row) result (frame_row_at (members_view object.now.entries)) }
+    ensures { Gives (λ row. row) result (frame_row_at (members_view object.now.items)) }
 {
     let frame = read_text(alloc, object, "frame")?;
     let retries = read_whole(alloc, object, "retries", 0, MOST_RETRIES)?;
@@ -211,7 +211,7 @@ fn read_frame(alloc: Global, object: &Map) -> Result<ListRow, FieldFault>
 
 #[tactic(auto, unfolding(farm_lines::specs::ReplyRows::depend_row_at))]
 fn read_depend(alloc: Global, object: &Map) -> Result<ListRow, FieldFault>
-    ensures { Gives (λ row. row) result (depend_row_at (members_view object.now.entries)) }
+    ensures { Gives (λ row. row) result (depend_row_at (members_view object.now.items)) }
 {
     let depend = read_whole(alloc, object, "depend", 1, LAST_DEPEND)?;
     let kind = read_word(alloc, object, "kind")?;
@@ -226,7 +226,7 @@ fn read_depend(alloc: Global, object: &Map) -> Result<ListRow, FieldFault>
 
 #[tactic(auto, unfolding(farm_lines::specs::ReplyRows::proc_row_at))]
 fn read_proc(alloc: Global, object: &Map) -> Result<ListRow, FieldFault>
-    ensures { Gives (λ row. row) result (proc_row_at (members_view object.now.entries)) }
+    ensures { Gives (λ row. row) result (proc_row_at (members_view object.now.items)) }
 {
     let cores = read_whole(alloc, object, "cores", LEAST_CORES, MOST_CORES)?;
     let frame = read_text(alloc, object, "frame")?;

@@ -1,6 +1,6 @@
 -- What was read so far and what is left to read give what all of the list reads as.
 use Rattle.std.proofs.Common.{◌≡◌, drop}
-use Rattle.serde_json.specs.View.{items_view}
+use Rattle.cue_json.specs.View.{items_view}
 use Rattle.cue_json.specs.Items.{items_at, prepend}
 use Rattle.cue_json.proofs.item_list.read_items.Given as goal
 

@@ -1,28 +1,25 @@
--- The object of the value that was read, or the fault that the error stands for.
-use Rattle.std.proofs.Common.{◌≡◌, List, ℕ, Err, BTreeMap, String, Global, ◌∙◌, ◌↔◌, IsUtf8, None}
-use Rattle.serde_json.specs.Data.{Members}
-use Rattle.serde_json.specs.Errors.{IsMemory}
+-- The object of the value that was read, or why there is none.
+use Rattle.std.proofs.Common.{ℕ, List, Global, refl, ap, sym, ◌∙◌}
+use Rattle.std.specs.Prelude.{option_and_then}
+use Rattle.std.specs.Borrow.{Bor}
+use Rattle.json.specs.declared.value.Value.{Value}
+use Rattle.serde_json.specs.Find.{as_object}
 use Rattle.serde_json.specs.Read.{read}
-use Rattle.serde_json.specs.View.{members_view}
-use Rattle.serde_json.specs.declared.error.Error.{Error}
-use Rattle.serde_json.specs.declared.value.Value.{Value}
-use Rattle.cue_json.specs.Lines.{object_in, IsObjectIn}
-use Rattle.cue_json.specs.declared.line.LineFault.{LineFault}
-use Rattle.cue_json.specs.declared.line.LineFault.TheVariants.{NotAnObject, NoMemory}
-use Rattle.cue_json.proofs.Lines.{object_in-read, object_in-refused, given_or_none}
+use Rattle.cue_json.specs.View.{members_view, view}
+use Rattle.cue_json.proofs.Lines.{given_or_none, object_in-refused, object_in-text, refused}
 use Rattle.cue_json.proofs.line.object_of.Goals as goal
 
-pub returns-in-Ok : goal.returns-in-Ok
-returns-in-Ok c =
-    let found = object_in-read c.args.line.now _ c.in-Ok.ensures.ok.0 c.in-Ok.ensures.ok.1 in
-    rw c.ok_or.ensures.value (given_or_none _ c.object_within.result _ (c.object_within.ensures ∙ found))
+pub returns-in_default : goal.returns-in_default
+returns-in_default c = object_in-refused c.args.line.now c.in_default.ensures.cases.0
 
-fault_told : {X : Type 0} (view : X → Members) (fault : LineFault) (e : Error) (line : List ℕ) → ((fault ≡ NoMemory) ↔ IsMemory e) → (¬ IsMemory e → IsUtf8 line → read line ≡ None)
-    → IsObjectIn view (Err fault) (object_in line)
-fault_told view NotAnObject e line told refused =
-    let other : ¬ IsMemory e = λ m. (let no : NotAnObject ≡ NoMemory → ⊥ = λ h. cc in no (told.1 m)) in
-    object_in-refused line (refused other)
-fault_told view NoMemory e line told refused = tt
+pub returns-in-Ok-value_of : goal.returns-in-Ok-value_of
+returns-in-Ok-value_of c =
+    let text = c.in-Ok.text.now in
+    let found = object_in-text c.args.line.now text (read text) c.in-Ok.ensures.cases.0 c.in-Ok.ensures.cases.1 refl in
+    rw c.ok_or.ensures.value (given_or_none _ c.object_within.result _ (c.object_within.ensures ∙ sym (found ∙ ap (option_and_then as_object) c.in-Ok-value_of.ensures)))
 
 pub returns-in-Err : goal.returns-in-Err
-returns-in-Err c = fault_told {X = BTreeMap (String Global) Value} (λ m. members_view m.entries) c.fault_of.result c.in-Err.e c.args.line.now c.fault_of.ensures c.in-Err.ensures.err
+returns-in-Err c =
+    let text = c.in-Ok.text.now in
+    let found = object_in-text c.args.line.now text (read text) c.in-Ok.ensures.cases.0 c.in-Ok.ensures.cases.1 refl in
+    refused {X = Value Global} (λ v. view v) (λ (m : List (Bor (List ℕ) × Value Global)). members_view m) c.in-Err.fault c.args.line.now (read text) found c.in-Err.ensures

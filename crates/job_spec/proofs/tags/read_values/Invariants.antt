@@ -1,6 +1,6 @@
 -- What was read so far and what is left to read give what all of the list reads as.
 use Rattle.std.proofs.Common.{◌≡◌, drop}
-use Rattle.serde_json.specs.View.{items_view}
+use Rattle.cue_json.specs.View.{items_view}
 use Rattle.farm_lines.specs.Spec.{tags_in}
 use Rattle.cue_json.specs.Items.{prepend}
 use Rattle.job_spec.proofs.tags.read_values.Given as goal
