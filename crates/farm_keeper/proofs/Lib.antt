@@ -1,3 +1,3 @@
 pub mod RowLaws
 pub mod KeepingLaws
-mod PlaceLemmas
+mod TableLemmas

@@ -3,5 +3,5 @@ pub mod Rows
 pub mod Keeping
 pub mod Memory
 pub mod Codes
-pub mod Places
+pub mod Table
 pub mod Remains

@@ -5,8 +5,8 @@ mod fault;
 mod keeper;
 mod laws;
 mod memory_keeper;
-mod places;
 mod row;
+mod row_table;
 
 pub use fault::KeeperFault;
 pub use keeper::Keeper;

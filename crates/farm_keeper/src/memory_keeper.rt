@@ -7,20 +7,20 @@ ghost use Rattle.farm_keeper.specs.Memory.{Commits, Kept, Loads, committed, new_
 
 use crate::fault::KeeperFault;
 use crate::keeper::Keeper;
-use crate::places::{Places, delete_rows, list_rows, put_rows, take_places};
 use crate::row::{Batch, Row};
+use crate::row_table::{RowTable, delete_rows, list_rows, put_rows};
 use farm_types::Items;
 use fault_counts::FaultPlan;
+use indexmap::IndexMap;
 use std::alloc::{AllocError, Global};
-use std::collections::BTreeMap;
 use std::marker::Model;
 
 /// A keeper that has its rows in memory, and fails at the listed calls. Beside its rows it keeps the batches that it
 /// refused by such a failure since the last Ok of a commit: a stop may leave the rows with one of them. A batch is
-/// moved, its bytes with it. What a commit takes and costs goes by its batch, and not by the number of rows.
+/// moved, its bytes with it. What a commit costs goes by its batch, and not by the number of rows; a load sorts them.
 #[derive(Drop)]
 pub struct MemoryKeeper {
-    places: Places,
+    rows: RowTable,
     refused: Vec<Batch>,
     plan: FaultPlan,
 }
@@ -28,13 +28,13 @@ pub struct MemoryKeeper {
 impl Model for MemoryKeeper {
     ghost use Rattle.farm_keeper.specs.Codes.{kept_code};
     ghost use Rattle.farm_keeper.specs.Memory.{Kept};
-    ghost use Rattle.farm_keeper.specs.Places.{rows_in};
+    ghost use Rattle.farm_keeper.specs.Table.{rows_in};
 
     ghost Value = { Kept };
 
     ghost coded = { kept_code };
 
-    ghost view = { λ k. record { rows = rows_in k.places.entries; refused = k.refused.items; plan = k.plan } };
+    ghost view = { λ k. record { rows = rows_in k.rows.entries; refused = k.refused.items; plan = k.plan } };
 }
 
 impl MemoryKeeper {
@@ -43,7 +43,7 @@ impl MemoryKeeper {
         ensures { IfOk result (λ keeper. keeper ≡ new_keeper fails.now) }
     {
         Ok(MemoryKeeper {
-            places: BTreeMap::new(alloc),
+            rows: IndexMap::new(alloc),
             refused: Vec::new(alloc),
             plan: FaultPlan::make(alloc, fails)?,
         })
@@ -80,15 +80,15 @@ impl MemoryKeeper {
         Ok(())
     }
 
-    // Takes all memory first, then moves the rows that are put to their places, and makes the deletes.
+    // Takes all memory first, then moves the rows that are put into the table, and makes the deletes.
     fn take(&mut self, batch: Batch) -> Result<(), AllocError>
         ensures ok { OnOk result (self.new ≡ committed batch self.old) }
         ensures err { OnErr result (self.new ≡ self.old) }
     {
         let Batch { puts, deletes } = batch;
-        take_places(&mut self.places, puts.as_slice())?;
-        put_rows(&mut self.places, puts.into_vec());
-        delete_rows(&mut self.places, deletes.as_slice());
+        self.rows.reserve(puts.len())?;
+        put_rows(&mut self.rows, puts.into_vec());
+        delete_rows(&mut self.rows, deletes.as_slice());
         self.refused.clear();
         Ok(())
     }
@@ -124,7 +124,7 @@ impl Keeper for MemoryKeeper {
             self.plan.fault();
             return Err(KeeperFault::Failed);
         }
-        Ok(list_rows(alloc, &self.places)?)
+        Ok(list_rows(alloc, &mut self.rows)?)
     }
 
     fn commit(&mut self, _: Global, batch: Batch) -> Result<(), KeeperFault>

@@ -1,8 +1,0 @@
--- What is left to delete leaves what deleting all leaves.
-use Rattle.std.proofs.Common.{◌≡◌, drop}
-use Rattle.farm_keeper.specs.Rows.{delete_all}
-use Rattle.farm_keeper.specs.Places.{rows_in}
-use Rattle.farm_keeper.proofs.places.delete_rows.Given as goal
-
-abbrev pub invariant-loop-key : goal.invariant-loop-key
-invariant-loop-key l = delete_all (drop l.key-index l.keys) (rows_in l.places.entries) ≡ delete_all l.keys (rows_in l.fn.places.entries)
