@@ -28,6 +28,7 @@ pub(crate) fn put_job(
     requires { Places (lists_of books.now.farm) placing.now spec.now }
     ensures { OnOk result (into.new.items ≡ into.old.items ++ job_put (lists_of books.now.farm) left placing.now.show placing.now.limits spec.now) }
 {
+    into.reserve(rows_about(placing, spec))?;
     put_left(left, into)?;
     let row = job_row(alloc, placing, spec)?;
     into.push(RowChange::Put(FarmRow::Job(row)))?;
@@ -40,6 +41,12 @@ pub(crate) fn put_job(
         spec.layers.as_slice(),
         into,
     )
+}
+
+// At least as many rows as there will be, with the farm's own and some that may follow.
+fn rows_about(placing: &Placing, spec: &JobSpec) -> usize {
+    let frames = placing.slots.len();
+    frames.saturating_add(spec.layers.len()).saturating_add(8)
 }
 
 // A finished job leaves.

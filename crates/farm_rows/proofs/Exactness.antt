@@ -1,5 +1,5 @@
 -- What was kept of changes from the last one on is exactly what differs.
-use Rattle.std.proofs.Common.{◌≡◌, ◌⊎◌, inl, inr, ℕ, ◌&&◌, ◌||◌, Bool, true, false, not, cond, eqb, List, [], ◌∷◌, ◌++◌, length, Option, None, Some, is_some, refl, sym, ap, subst, ◌∙◌}
+use Rattle.std.proofs.Common.{◌≡◌, ◌⊎◌, inl, inr, ℕ, zero, suc, ◌&&◌, ◌||◌, Bool, true, false, not, cond, eqb, List, [], ◌∷◌, ◌++◌, length, Option, None, Some, is_some, refl, sym, ap, subst, ◌∙◌}
 use Rattle.std.specs.List.{list_any, slice_get}
 use Rattle.std.proofs.lemmas.Bool.{eq-eqb, eqb-true, false_from_ne_true, false≢true, true_from_ne_false}
 use Rattle.std.proofs.lemmas.Option.{none-some}
@@ -14,6 +14,7 @@ use Rattle.farm_rows.specs.declared.row_change.RowChange.{RowChange}
 use Rattle.farm_rows.specs.declared.row_change.RowChange.TheVariants as change
 use Rattle.farm_rows.specs.Changes.{Differs, NamesExactly, change_key, is_key, is_named_by, row_after, row_at, row_by, row_key}
 use Rattle.farm_rows.proofs.MadeRows.{is_key-same, is_key-true, row_after-append}
+use Rattle.farm_rows.proofs.Turned.{Turned}
 use Rattle.farm_rows.specs.Keys.{ChangesNothing, has_parts, is_parts, key_parts, with_parts}
 
 -- ---- keys as numbers
@@ -243,6 +244,73 @@ module _ (f : Farm) (all left : List RowChange) (seen : List (ℕ × ℕ × ℕ)
 
   pub past : (keys : List (ℕ × ℕ × ℕ)) → keys ≡ with_parts seen (key_parts (change_key c)) → has_key seen (change_key c) ≡ true → IsExact f all before keys exact
   past keys is named = subst (λ (ks : List (ℕ × ℕ × ℕ)). IsExact f all before ks exact) (sym (is ∙ ap (λ (b : Bool). cond b seen (seen ++ key_parts (change_key c) ∷ [])) named)) (exact_past named)
+
+-- ---- kept changes in another order
+
+after_turn : ℕ → ℕ → ℕ
+after_turn last zero = last
+after_turn last (suc n) = n
+
+at_end : (xs : List RowChange) (c : RowChange) → slice_get (xs ++ c ∷ []) (length xs) ≡ Some c
+at_end [] c = refl
+at_end (x ∷ xs) c = at_end xs c
+
+at_front : (xs : List RowChange) (c : RowChange) (n : ℕ) (d : RowChange) → slice_get xs n ≡ Some d → slice_get (xs ++ c ∷ []) n ≡ Some d
+at_front [] c n d at = absurd (none-some d at)
+at_front (x ∷ xs) c zero d at = at
+at_front (x ∷ xs) c (suc n) d at = at_front xs c n d at
+
+at_turn : (xs : List RowChange) (c : RowChange) (n : ℕ) (d : RowChange) → slice_get (c ∷ xs) n ≡ Some d → slice_get (xs ++ c ∷ []) (after_turn (length xs) n) ≡ Some d
+unfolding after_turn
+at_turn xs c zero d at = at_end xs c ∙ at
+at_turn xs c (suc n) d at = at_front xs c n d at
+
+past_end : (xs : List RowChange) (d : RowChange) → slice_get xs (length xs) ≡ Some d → ⊥
+past_end [] d at = none-some d at
+past_end (x ∷ xs) d at = past_end xs d at
+
+one_place : (xs : List RowChange) (c : RowChange) (n m : ℕ) (d e : RowChange) → slice_get (c ∷ xs) n ≡ Some d → slice_get (c ∷ xs) m ≡ Some e → after_turn (length xs) n ≡ after_turn (length xs) m → n ≡ m
+unfolding after_turn
+one_place xs c zero zero d e at there same = refl
+one_place xs c zero (suc m) d e at there same = absurd (past_end xs e (ap (slice_get xs) same ∙ there))
+one_place xs c (suc n) zero d e at there same = absurd (past_end xs d (ap (slice_get xs) (sym same) ∙ at))
+one_place xs c (suc n) (suc m) d e at there same = ap suc same
+
+or_turn : (a b : Bool) → (a || b) ≡ false → (b || a) ≡ false
+or_turn true b h = absurd (false≢true (sym h))
+or_turn false true h = absurd (false≢true (sym h))
+or_turn false false h = refl
+
+rotated : (f : Farm) (all left : List RowChange) (seen : List (ℕ × ℕ × ℕ)) (xs : List RowChange) (c : RowChange) → IsExact f all left seen (xs ++ c ∷ []) → IsExact f all left seen (c ∷ xs)
+rotated f all left seen xs c is =
+    record {
+      waits = is.waits;
+      rest = λ k named unnamed. is.rest k named (list_any-push (is_named_by k) xs c ∙ or_turn (is_named_by k c) (list_any (is_named_by k) xs) unnamed);
+      each = λ n d at. is.each (after_turn (length xs) n) d (at_turn xs c n d at);
+      kept = λ n d at. is.kept (after_turn (length xs) n) d (at_turn xs c n d at);
+      once = λ n m d e at there same. one_place xs c n m d e at there (is.once (after_turn (length xs) n) (after_turn (length xs) m) d e (at_turn xs c n d at) (at_turn xs c m e there) same);
+    }
+
+-- where the last of the kept changes comes first
+pub exact_turned : (f : Farm) (all left : List RowChange) (seen : List (ℕ × ℕ × ℕ)) (xs ys : List RowChange) → Turned xs ys → IsExact f all left seen xs → IsExact f all left seen ys
+exact_turned f all left seen xs ys (inl none) is = subst (IsExact f all left seen) (none.0 ∙ sym none.1) is
+exact_turned f all left seen xs ys (inr (es, e, last, first)) is = subst (IsExact f all left seen) (sym first) (rotated f all left seen es e (subst (IsExact f all left seen) last is))
+
+-- one that is kept comes first
+pub exact_first : (f : Farm) (all left : List RowChange) (seen : List (ℕ × ℕ × ℕ)) (exact : List RowChange) (c : RowChange) (before : List RowChange) → left ≡ before ++ c ∷ [] → IsExact f all left seen exact
+    → has_key seen (change_key c) ≡ false → (keys : List (ℕ × ℕ × ℕ)) → keys ≡ with_parts seen (key_parts (change_key c)) → (ChangesNothing c (row_at f (change_key c)) → ⊥) → IsExact f all before keys (c ∷ exact)
+exact_first f all left seen exact c before popped so_far new keys is differs =
+    rotated f all before keys exact c (exact_push f all left seen exact c before popped so_far new keys (exact ++ c ∷ []) is refl differs)
+
+-- one that isn't kept goes
+pub exact_gone : (f : Farm) (all left : List RowChange) (seen : List (ℕ × ℕ × ℕ)) (exact : List RowChange) (c : RowChange) (before : List RowChange) → left ≡ before ++ c ∷ [] → IsExact f all left seen exact
+    → (keys : List (ℕ × ℕ × ℕ)) → keys ≡ with_parts seen (key_parts (change_key c)) → (has_key seen (change_key c) ≡ true) ⊎ ChangesNothing c (row_at f (change_key c)) → IsExact f all before keys exact
+exact_gone f all left seen exact c before popped so_far keys is (inl named) = past f all left seen exact c before popped so_far keys is named
+exact_gone f all left seen exact c before popped so_far keys is (inr idle) = by (has_key seen (change_key c)) refl
+  where
+    by : (b : Bool) → has_key seen (change_key c) ≡ b → IsExact f all before keys exact
+    by true named = past f all left seen exact c before popped so_far keys is named
+    by false new = exact_idle f all left seen exact c before popped so_far new keys is idle
 
 -- ---- once none is left
 

@@ -5,3 +5,4 @@ pub mod FrameFits
 pub mod OneSlotMore
 pub mod RowOrder
 mod Exactness
+mod Turned

@@ -5,3 +5,4 @@ pub mod Lists
 pub mod Recovery
 pub mod RecoveryExamples
 pub mod Rows
+pub mod Seen

@@ -1,23 +1,12 @@
 //! A key as numbers: its kind, and the numbers that it has.
 
-ghost use Rattle.std.specs.Prelude.{◌≡◌, not, IfOk, OnOk};
-ghost use Rattle.farm_rows.specs.Keys.{has_parts, key_parts, with_parts};
+ghost use Rattle.std.specs.Prelude.{◌≡◌};
+ghost use Rattle.farm_rows.specs.Keys.{key_parts};
 
 use crate::row_key::RowKey;
-use indexmap::IndexSet;
-use std::alloc::AllocError;
 
-/// Notes the key, and says whether it is a new one.
-pub(crate) fn note(seen: &mut IndexSet<(u8, u32, u32)>, key: &RowKey) -> Result<bool, AllocError>
-    ensures new { IfOk result (λ new. new ≡ not (has_parts seen.old.keys (key_parts key.now))) }
-    ensures keys { OnOk result (seen.new.keys ≡ with_parts seen.old.keys (key_parts key.now)) }
-{
-    let new = seen.insert(key_parts(key))?;
-    Ok(new)
-}
-
-// The number of the key's kind, and those that it has.
-fn key_parts(key: &RowKey) -> (u8, u32, u32)
+/// The number of the key's kind, and those that it has.
+pub(crate) fn key_parts(key: &RowKey) -> (u8, u32, u32)
     ensures { result ≡ key_parts key.now }
 {
     match key {

@@ -5,16 +5,16 @@ ghost use Rattle.farm_types.specs.Farm.{Farm};
 ghost use Rattle.farm_rows.specs.Changes.{NamesExactly, change_key, row_after, row_at};
 ghost use Rattle.farm_rows.specs.declared.row_key.RowKey.{RowKey};
 ghost use Rattle.farm_rows.specs.Keys.{ChangesNothing};
+ghost use Rattle.farm_rows.specs.Seen.{IsTold, seen_parts};
 
-use crate::key_parts::note;
 use crate::old_rows::OldRows;
 use crate::row_change::RowChange;
+use crate::seen_keys::SeenKeys;
 use farm_types::Items;
-use indexmap::IndexSet;
 use std::alloc::{AllocError, Global};
 
 /// Of changes one after the other, exactly those that make the rows other ones than those that stand there: the last of each key, where it differs
-/// from the row of its key. Each key is named once, the last ones first.
+/// from the row of its key. Each key is named once, in no order. Those that stay aren't moved where all do.
 pub fn exactly<R: OldRows>(
     alloc: Global,
     rows: &R,
@@ -24,16 +24,31 @@ pub fn exactly<R: OldRows>(
         → NamesExactly (R.farm rows.now) g exact) }
 {
     let mut changes = changes;
-    let mut seen = IndexSet::new(alloc);
-    let mut exact = Vec::new(alloc);
-    while let Some(change) = changes.pop() {
-        let new = note(&mut seen, &change.key())?;
-        if !new || changes_nothing(rows, &change) {
+    let mut seen = SeenKeys::make(alloc, changes.len())?;
+    let mut place = changes.len();
+    while place > 0 {
+        place -= 1;
+        let last = is_last_change(rows, &mut seen, &changes.as_slice()[place])?;
+        if last {
             continue;
         }
-        exact.push(change)?;
+        let_go(changes.swap_remove(place));
     }
-    Ok(Items::from_vec(exact))
+    Ok(Items::from_vec(changes))
+}
+
+fn let_go(_change: RowChange) {}
+
+// Whether no later change is of its key, and the row isn't as the change makes it. Its key is noted.
+fn is_last_change<R: OldRows>(
+    rows: &R,
+    seen: &mut SeenKeys,
+    change: &RowChange,
+) -> Result<bool, AllocError>
+    ensures { IfOk result (IsTold (R.farm rows.now) change.now (seen_parts seen.old) (seen_parts seen.new)) }
+{
+    let new = seen.note(&change.key())?;
+    Ok(new && !changes_nothing(rows, change))
 }
 
 // Whether the row of the key is as the change makes it.

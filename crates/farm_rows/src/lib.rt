@@ -14,6 +14,7 @@ mod recovering;
 mod row_change;
 mod row_key;
 mod same_rows;
+mod seen_keys;
 
 pub use book_lists::BookLists;
 pub use examples::{every_kind_has_its_rows, new_farms_have_one_row, unused_slots_have_no_row};

@@ -1,40 +1,59 @@
-use Rattle.std.proofs.Common.{◌≡◌, ◌∙◌, ◌++◌, ◌∷◌, [], not, true≢false, refl, sym, ap, rules}
-use Rattle.farm_rows.specs.Changes.{change_key}
-use Rattle.farm_rows.specs.declared.row_key.RowKey.{RowKey}
-use Rattle.farm_rows.specs.Keys.{has_parts, key_parts, with_parts}
-use Rattle.farm_rows.proofs.Exactness.{exact_idle, exact_push, has_key, is_new, past, was_seen}
+use Rattle.std.proofs.Common.{arith, rules, ◌≡◌, ◌-◌, ◌<◌, [], suc, drop, take, length, get_or, refl, sym, subst, List, swap_remove}
+use Rattle.farm_rows.specs.Changes.{NamesExactly}
+use Rattle.farm_rows.specs.Seen.{seen_parts}
+use Rattle.farm_rows.specs.declared.row_change.RowChange.{RowChange}
+use Rattle.farm_rows.proofs.Exactness.{IsExact, exact_all, exact_first, exact_gone, exact_turned}
+use Rattle.farm_rows.proofs.Turned.{item_before, item_behind, turned_behind}
 use Rattle.farm_rows.proofs.last_changes.exactly.Goals as goal
-use Rattle.farm_rows.proofs.last_changes.exactly.Goals.{then-not-new-via-then-not-new, then-not-new-via-else-not-new+then-changes_nothing}
 
-pub loop-change-preserved-then-not-new : goal.loop-change-preserved-then-not-new
-loop-change-preserved-then-not-new g c =
+pub loop-place-preserved-then-last : goal.loop-place-preserved-then-last
+loop-place-preserved-then-last g c =
     let f = g.R.OldRows.farm c.args.rows.now in
     let all = c.args.changes.items in
-    let left = c.loop-change.changes.items in
-    let seen = c.loop-change.seen.keys in
-    let exact = c.loop-change.exact.items in
-    let change = c.in-Some.change in
-    let before = c.pop.new.self.items in
-    let popped : left ≡ before ++ change ∷ [] = search rules in
-    let noted : c.in_ok-new.new ≡ not (has_key seen (change_key change)) = c.in_ok-new.ensures.new ∙ ap (λ (k : RowKey). not (has_parts seen (key_parts k))) c.key.ensures in
-    let keys : c.note.new.seen.keys ≡ with_parts seen (key_parts (change_key change)) = c.in_ok-new.ensures.keys ∙ ap (λ (k : RowKey). with_parts seen (key_parts k)) c.key.ensures in
-    elim c.then-not-new.branch [
-      | then-not-new-via-then-not-new w ↦ past f all left seen exact change before popped c.loop-change.invariant c.note.new.seen.keys keys (was_seen (has_key seen (change_key change)) c.in_ok-new.new noted w.if-not-new.true)
-      | then-not-new-via-else-not-new+then-changes_nothing w ↦ exact_idle f all left seen exact change before popped c.loop-change.invariant (is_new (has_key seen (change_key change)) c.in_ok-new.new noted w.if-not-new.false) c.note.new.seen.keys keys
-          (w.if-changes_nothing.ensures.0 refl)
-    ]
+    let list = c.loop-place.changes.items in
+    let p = c.loop-place.place - 1 in
+    let change = c.index-as_slice-place.result in
+    let next : suc p ≡ c.loop-place.place = omega (arith, c.loop-place-test.true) in
+    let lt : p < length list = omega (arith, c.loop-place-test.true, c.loop-place.invariant.within) in
+    let is : change ≡ get_or list p change = search (rules, c.index-as_slice-place.is) in
+    let told = c.in_ok-last.ensures in
+    let last = told.last c.if-last.true in
+    record {
+      within = omega (arith, lt);
+      exact = subst (IsExact f all (take p list) (seen_parts c.is_last_change.new.seen)) (sym (item_behind list p change lt is))
+          (exact_first f all (take (suc p) list) (seen_parts c.loop-place.seen) (drop (suc p) list) change (take p list) (item_before list p change lt is)
+          (subst (λ n. IsExact f all (take n list) (seen_parts c.loop-place.seen) (drop n list)) (sym next) c.loop-place.invariant.exact)
+          last.0 (seen_parts c.is_last_change.new.seen) told.keys last.1);
+    }
 
-pub loop-change-preserved : goal.loop-change-preserved
-loop-change-preserved g c =
+pub loop-place-preserved : goal.loop-place-preserved
+loop-place-preserved g c =
     let f = g.R.OldRows.farm c.args.rows.now in
     let all = c.args.changes.items in
-    let left = c.loop-change.changes.items in
-    let seen = c.loop-change.seen.keys in
-    let exact = c.loop-change.exact.items in
-    let change = c.in-Some.change in
-    let before = c.pop.new.self.items in
-    let popped : left ≡ before ++ change ∷ [] = search rules in
-    let noted : c.in_ok-new.new ≡ not (has_key seen (change_key change)) = c.in_ok-new.ensures.new ∙ ap (λ (k : RowKey). not (has_parts seen (key_parts k))) c.key.ensures in
-    let keys : c.note.new.seen.keys ≡ with_parts seen (key_parts (change_key change)) = c.in_ok-new.ensures.keys ∙ ap (λ (k : RowKey). with_parts seen (key_parts k)) c.key.ensures in
-    exact_push f all left seen exact change before popped c.loop-change.invariant (is_new (has_key seen (change_key change)) c.in_ok-new.new noted c.if-not-new.false) c.note.new.seen.keys c.push.new.self.items keys c.in_ok-push.ensures.items
-    (λ same. true≢false (sym (c.if-changes_nothing.ensures.1 same)))
+    let list = c.loop-place.changes.items in
+    let left = c.swap_remove.new.self.items in
+    let p = c.loop-place.place - 1 in
+    let change = c.index-as_slice-place.result in
+    let next : suc p ≡ c.loop-place.place = omega (arith, c.loop-place-test.true) in
+    let lt : p < length list = omega (arith, c.loop-place-test.true, c.loop-place.invariant.within) in
+    let is : change ≡ get_or list p change = search (rules, c.index-as_slice-place.is) in
+    let told = c.in_ok-last.ensures in
+    let turned = turned_behind list p c.swap_remove.result lt in
+    let kept : IsExact f all (take p list) (seen_parts c.is_last_change.new.seen) (drop (suc p) list) =
+    exact_gone f all (take (suc p) list) (seen_parts c.loop-place.seen) (drop (suc p) list) change (take p list) (item_before list p change lt is)
+    (subst (λ n. IsExact f all (take n list) (seen_parts c.loop-place.seen) (drop n list)) (sym next) c.loop-place.invariant.exact)
+    (seen_parts c.is_last_change.new.seen) told.keys (told.other c.if-last.false) in
+    record {
+      within = omega (arith, lt, c.swap_remove.ensures.len);
+      exact = subst (λ (cs : List RowChange). IsExact f all (take p cs) (seen_parts c.is_last_change.new.seen) (drop p cs)) (sym c.swap_remove.ensures.items)
+          (subst (λ (cs : List RowChange). IsExact f all cs (seen_parts c.is_last_change.new.seen) (drop p (swap_remove list p c.swap_remove.result))) (sym turned.0)
+          (exact_turned f all (take p list) (seen_parts c.is_last_change.new.seen) (drop (suc p) list) (drop p (swap_remove list p c.swap_remove.result)) turned.1 kept));
+    }
+
+pub returns : goal.returns
+returns g c = λ farm makes.
+    let f = g.R.OldRows.farm c.args.rows.now in
+    let none : c.loop-place.place ≡ 0 = omega (arith, c.loop-place-test.false) in
+    let exact : IsExact f c.args.changes.items [] (seen_parts c.loop-place.seen) c.loop-place.changes.items =
+    subst (λ n. IsExact f c.args.changes.items (take n c.loop-place.changes.items) (seen_parts c.loop-place.seen) (drop n c.loop-place.changes.items)) none c.loop-place.invariant.exact in
+    subst (NamesExactly f farm) (sym c.from_vec.ensures) (exact_all f farm c.args.changes.items [] (seen_parts c.loop-place.seen) c.loop-place.changes.items refl exact makes)

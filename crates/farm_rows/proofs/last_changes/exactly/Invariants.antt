@@ -1,9 +1,14 @@
-use Rattle.std.proofs.Common.{length}
+-- Of the changes those before the place are left, and those behind it are kept.
+use Rattle.std.proofs.Common.{◌≤◌, drop, length, take}
+use Rattle.farm_rows.specs.Seen.{seen_parts}
 use Rattle.farm_rows.proofs.Exactness.{IsExact}
 use Rattle.farm_rows.proofs.last_changes.exactly.Given as goal
 
-abbrev pub invariant-loop-change : goal.invariant-loop-change
-invariant-loop-change g l = IsExact (g.R.OldRows.farm l.rows) l.fn.changes.items l.changes.items l.seen.keys l.exact.items
+abbrev pub invariant-loop-place : goal.invariant-loop-place
+invariant-loop-place g l = record {
+  within : l.place ≤ length l.changes.items;
+  exact : IsExact (g.R.OldRows.farm l.rows) l.fn.changes.items (take l.place l.changes.items) (seen_parts l.seen) (drop l.place l.changes.items);
+}
 
-abbrev pub decreases-loop-change : goal.decreases-loop-change
-decreases-loop-change g l = length l.changes.items
+abbrev pub decreases-loop-place : goal.decreases-loop-place
+decreases-loop-place g l = l.place
