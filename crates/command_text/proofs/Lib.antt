@@ -1,4 +1,3 @@
-mod Digits
 pub mod ExpandedTexts
 mod Pieces
 mod Words

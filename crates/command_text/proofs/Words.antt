@@ -1,5 +1,5 @@
--- A text without the word at its front.
-use Rattle.std.proofs.Common.{◌≡◌, ℕ, List, ◌++◌, length, drop, take, ap, sym, ◌∙◌, true, false}
+-- A text without the word at its front, both of them behind a `#`.
+use Rattle.std.proofs.Common.{◌≡◌, ℕ, List, ◌∷◌, ◌++◌, length, drop, take, ap, sym, ◌∙◌}
 use Rattle.std.specs.Prelude.{Option, Some, None, MatchOption}
 use Rattle.std.specs.Str.Pattern.{FindsTextPrefix, StripsPrefix}
 use Rattle.std.proofs.lemmas.Bool.{false_from_ne_true}
@@ -7,11 +7,11 @@ use Rattle.std.proofs.lemmas.List.{take-append-drop}
 use Rattle.std.proofs.Math.Seq.{take-append_seam}
 use Rattle.std.proofs.lemmas.Slice.Eq.{bytes_eq-Decides}
 use denote.Ref.{Bor}
-use Rattle.farm_types.specs.Names.{starts_with}
+use Rattle.command_text.specs.Tokens.{mark, IsAbsent, IsAfter}
 
 pub word_stripped : (word text : List ℕ) (r : Option (Bor (List ℕ)))
     → MatchOption r (FindsTextPrefix word text None) (λ x. StripsPrefix (FindsTextPrefix word) text x.now)
-    → MatchOption r (starts_with word text ≡ false) (λ rest. (starts_with word text ≡ true) × (rest.now ≡ drop (length word) text))
+    → MatchOption r (IsAbsent (mark ∷ word) (mark ∷ text)) (λ rest. IsAfter (mark ∷ word) (mark ∷ text) rest.now)
 word_stripped word text None lacks = false_from_ne_true _
     (λ e. lacks (drop (length word) text)
     (sym (take-append-drop (length word) text)

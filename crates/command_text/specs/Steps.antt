@@ -1,6 +1,5 @@
--- One step of the expansion.
+-- What the expansion does at a `#`.
 use Rattle.std.specs.Prelude.{◌≡◌, ℕ, ◌<◌, List, ◌++◌, length}
-use Rattle.std.specs.Char.{encode_utf8}
 use Rattle.farm_types.specs.Names.{expanded_from}
 use Rattle.command_text.specs.declared.expansion.Names.{Names}
 
@@ -12,9 +11,3 @@ expanded_rest names rest = expanded_from 0 names.job.now names.layer.now names.n
 pub record IsStep (names : Names) (old text new rest : List ℕ) : Type 0 where
   pub shorter : length rest < length text
   pub same : new ++ expanded_rest names rest ≡ old ++ expanded_rest names text
-
--- the text's first character is written, and the rest of the text is left
-pub record IsCopied (old text new rest : List ℕ) : Type 0 where
-  pub first : ℕ
-  pub split : text ≡ encode_utf8 first ++ rest
-  pub written : new ≡ old ++ encode_utf8 first

@@ -6,6 +6,10 @@ use Rattle.command_text.specs.declared.token.Token.{Token}
 use Rattle.command_text.specs.declared.token.Token.TheVariants.{PlacedNumber, PlainNumber, Layer, Job, FrameName}
 use denote.Ref.{Bor}
 
+-- `#`, with which each token begins and ends
+abbrev pub mark : ℕ
+mark = 35
+
 -- how many bytes a token has
 abbrev pub size_of : Token → ℕ
 size_of PlacedNumber = 8

@@ -1,11 +1,11 @@
 //! Commands with their tokens replaced.
 
-ghost use Rattle.std.specs.Prelude.{◌≡◌, ◌<◌, length, IfOk, string_bytes};
+ghost use Rattle.std.specs.Prelude.{◌≡◌, ◌∷◌, ◌++◌, IfOk, OnOk, string_bytes};
 ghost use Rattle.farm_types.specs.Names.{expanded};
-ghost use Rattle.command_text.specs.Steps.{IsCopied, IsStep};
-ghost use Rattle.command_text.specs.Tokens.{meaning_of};
+ghost use Rattle.command_text.specs.Steps.{IsStep};
+ghost use Rattle.command_text.specs.Tokens.{mark, meaning_of};
 
-use crate::frame_names::{four_places, frame_name};
+use crate::frame_names::{write_frame_name, write_places};
 use crate::token::{Token, strip_token};
 use farm_types::Text;
 use std::alloc::{AllocError, Global};
@@ -23,11 +23,13 @@ pub fn expand(
     ensures { IfOk result (λ text. text ≡ expanded command.now job.now layer.now number) }
 {
     let names = Names { job, layer, number };
-    let mut expanded = String::new(alloc);
+    let mut expanded = String::with_capacity(alloc, command.len())?;
     let mut rest = command;
-    while !rest.is_empty() {
-        rest = names.expand_first(alloc, &mut expanded, rest)?;
+    while let Some((plain, after)) = rest.split_once('#') {
+        expanded.push_str(plain)?;
+        rest = names.replace_mark(&mut expanded, after)?;
     }
+    expanded.push_str(rest)?;
     Ok(Text::from_string(expanded))
 }
 
@@ -40,48 +42,33 @@ struct Names<'a> {
 }
 
 impl Names<'_> {
-    // Writes what the token at the front of the text becomes, or the first character where there is none, and gives what follows it.
-    fn expand_first<'t>(
-        &self,
-        alloc: Global,
-        expanded: &mut String,
-        text: &'t str,
-    ) -> Result<&'t str, AllocError>
-        requires { 0 < length text.now }
-        ensures { IfOk result (λ rest. IsStep self.now (string_bytes expanded.old) text.now (string_bytes expanded.new) rest.now) }
+    // Writes what stands for a `#` and its token, or the `#` itself where none begins there, and gives what follows.
+    fn replace_mark<'t>(&self, expanded: &mut String, after: &'t str) -> Result<&'t str, AllocError>
+        ensures { IfOk result (λ rest. IsStep self.now (string_bytes expanded.old) (mark ∷ after.now) (string_bytes expanded.new) rest.now) }
     {
-        match strip_token(text) {
+        match strip_token(after) {
             Some((token, rest)) => {
-                expanded.push_str(self.meaning(alloc, token)?.as_str())?;
+                self.write_meaning(expanded, token)?;
                 Ok(rest)
             }
-            None => copy_first(expanded, text),
+            None => {
+                expanded.push('#')?;
+                Ok(after)
+            }
         }
     }
 
-    // What stands in a token's place.
-    fn meaning(&self, alloc: Global, token: Token) -> Result<Text, AllocError>
-        ensures { IfOk result (λ text. text ≡ meaning_of self.now.job.now self.now.layer.now self.now.number token) }
+    // Writes what stands in a token's place.
+    fn write_meaning(&self, expanded: &mut String, token: Token) -> Result<(), AllocError>
+        ensures { OnOk result (string_bytes expanded.new
+            ≡ string_bytes expanded.old ++ meaning_of self.now.job.now self.now.layer.now self.now.number token) }
     {
         match token {
-            Token::PlacedNumber => four_places(alloc, self.number),
-            Token::PlainNumber => Ok(Text::from_string(self.number.to_string(alloc)?)),
-            Token::Layer => Text::from_str(alloc, self.layer),
-            Token::Job => Text::from_str(alloc, self.job),
-            Token::FrameName => frame_name(alloc, self.number, self.layer),
+            Token::PlacedNumber => write_places(expanded, self.number),
+            Token::PlainNumber => expanded.push_str(itoa::Buffer::new().format(self.number)),
+            Token::Layer => expanded.push_str(self.layer),
+            Token::Job => expanded.push_str(self.job),
+            Token::FrameName => write_frame_name(expanded, self.number, self.layer),
         }
     }
-}
-
-// Writes the first character of the text, and gives what follows it.
-fn copy_first<'t>(expanded: &mut String, text: &'t str) -> Result<&'t str, AllocError>
-    requires { 0 < length text.now }
-    ensures { IfOk result (λ rest. IsCopied (string_bytes expanded.old) text.now (string_bytes expanded.new) rest.now) }
-{
-    let mut chars = text.chars();
-    let Some(first) = chars.next() else {
-        unreachable!();
-    };
-    expanded.push(first)?;
-    Ok(chars.as_str())
 }

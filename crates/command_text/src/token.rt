@@ -1,7 +1,7 @@
 //! The five tokens of a command.
 
-ghost use Rattle.std.specs.Prelude.{MatchOption};
-ghost use Rattle.command_text.specs.Tokens.{IsAbsent, IsAfter, Strips};
+ghost use Rattle.std.specs.Prelude.{◌∷◌, MatchOption};
+ghost use Rattle.command_text.specs.Tokens.{mark, IsAbsent, IsAfter, Strips};
 
 /// A token of a command, by what stands in its place.
 #[derive(Clone, Copy)]
@@ -18,28 +18,28 @@ pub(crate) enum Token {
     FrameName,
 }
 
-/// The token at the front of the text, and what follows it.
+/// The token that a `#` right before the text begins, and what follows it.
 pub(crate) fn strip_token(text: &str) -> Option<(Token, &str)>
-    ensures { Strips text.now result }
+    ensures { Strips (mark ∷ text.now) result }
 {
-    if let Some(rest) = text_after(text, "#ZFRAME#") {
+    if let Some(rest) = text_after(text, "ZFRAME#") {
         Some((Token::PlacedNumber, rest))
-    } else if let Some(rest) = text_after(text, "#IFRAME#") {
+    } else if let Some(rest) = text_after(text, "IFRAME#") {
         Some((Token::PlainNumber, rest))
-    } else if let Some(rest) = text_after(text, "#LAYER#") {
+    } else if let Some(rest) = text_after(text, "LAYER#") {
         Some((Token::Layer, rest))
-    } else if let Some(rest) = text_after(text, "#JOB#") {
+    } else if let Some(rest) = text_after(text, "JOB#") {
         Some((Token::Job, rest))
-    } else if let Some(rest) = text_after(text, "#FRAME#") {
+    } else if let Some(rest) = text_after(text, "FRAME#") {
         Some((Token::FrameName, rest))
     } else {
         None
     }
 }
 
-// What follows the word in a text that begins with it.
+// What follows the word in a text that begins with it, both of them behind a `#`.
 fn text_after<'a>(text: &'a str, word: &str) -> Option<&'a str>
-    ensures { MatchOption result (IsAbsent word.now text.now) (λ rest. IsAfter word.now text.now rest.now) }
+    ensures { MatchOption result (IsAbsent (mark ∷ word.now) (mark ∷ text.now)) (λ rest. IsAfter (mark ∷ word.now) (mark ∷ text.now) rest.now) }
 {
     text.strip_prefix(word)
 }
