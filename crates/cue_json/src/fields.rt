@@ -9,6 +9,7 @@ ghost use Rattle.cue_json.specs.View.{items_view, members_view, view};
 ghost use Rattle.cue_json.specs.Fields.{Gives, text_at, whole_at, signed_at, flag_at, list_at, object_at, has_key};
 
 use crate::fault::FieldFault;
+use crate::keys::is_same;
 use crate::values::{Map, Value, as_flag, as_list, as_object, as_signed, as_text, as_whole};
 use std::alloc::Global;
 
@@ -26,7 +27,7 @@ fn last_of<'v, 'a>(members: &'v [(&'a str, Value<'a>)], field: &str) -> Option<&
     while left > 0 {
         left -= 1;
         let member = &members[left];
-        if member.0 == field {
+        if is_same(member.0, field) {
             return Some(&member.1);
         }
     }

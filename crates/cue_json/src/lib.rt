@@ -5,6 +5,7 @@ mod fault;
 mod fields;
 mod item_list;
 mod items;
+mod keys;
 mod line;
 mod numbers;
 mod others;

@@ -8,6 +8,7 @@ ghost use Rattle.std.specs.List.Sorted.{IsStrictlySortedBy};
 ghost use Rattle.cue_json.specs.Fields.{Gives, first_other, is_expected, keys_in, lesser, others_at};
 
 use crate::fault::FieldFault;
+use crate::keys::is_same;
 use crate::values::{Map, Value};
 use std::alloc::Global;
 use std::cmp::Ordering;
@@ -17,7 +18,7 @@ fn is_among(fields: &[&str], key: &str) -> bool
     ensures { result ≡ is_expected (map (λ f. f.now) fields.now) key.now }
 {
     for field in fields {
-        if *field == key {
+        if is_same(field, key) {
             return true;
         }
     }

@@ -1,9 +1,10 @@
 //! Attempts in lists, as they are written.
 
-ghost use Rattle.std.specs.Prelude.{◌≡◌, ◌∷◌, OnOk};
+ghost use Rattle.std.specs.Prelude.{◌≡◌, ◌∷◌, OnOk, true};
 ghost use Rattle.json.specs.Token.{key};
 ghost use Rattle.farm_lines.specs.Reply.{attempt_data, attempts_data};
 ghost use Rattle.object_writer.specs.Tokens.{added, tokens_of};
+ghost use Rattle.object_writer.specs.Written.{is_plain};
 
 use farm_types::Attempt;
 use object_writer::ObjectWriter;
@@ -15,6 +16,7 @@ pub fn write_attempts(
     name: &str,
     attempts: &[Attempt],
 ) -> Result<(), AllocError>
+    requires { is_plain name.now ≡ true }
     ensures { OnOk result (out.new ≡ added out.old (key name.now ∷ tokens_of (attempts_data attempts.now))) }
 {
     out.begin_list(name)?;

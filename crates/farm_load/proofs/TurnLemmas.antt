@@ -22,7 +22,8 @@ use Rattle.farm_lines.specs.declared.reply.Reply.TheVariants as reply
 use Rattle.farm_lines.specs.declared.report.Report.{Report}
 use Rattle.farm_lines.specs.Transcript.{Answered, Mark, Plain, Memory, Store, StoreAfter, accepted_answer, marked_answer, report_answer, unless_memory}
 use Rattle.line_answers.specs.LineAnswers.{Going, TakesReport, is_calm, reported, tells_memory}
-use Rattle.line_answers.specs.declared.taken.Taken.{Taken}
+use Rattle.line_answers.specs.declared.told.Taken.{Taken}
+use Rattle.line_answers.specs.Told.{Tells}
 use Rattle.farm_load.specs.declared.counts.Counts.{Counts}
 use Rattle.farm_load.specs.declared.load_host.LoadHost.{LoadHost}
 use Rattle.farm_load.specs.Loads.{failed_in, fails, launched_by, load_report, round_after}
@@ -104,19 +105,21 @@ few_told (reply.Report told) failing few = few
 few_told other failing few = omega arith
 
 -- What was taken is counted.
-module _ (n : ℕ) (f : Farm) (report : Report) (moment : ℕ) (new : Farm) (taken : Taken) (goes : Going) (failing : ℕ) (old counts : Counts)
-    (takes : TakesReport f report moment new taken goes) where
+module _ (n : ℕ) (f : Farm) (report : Report) (moment : ℕ) (new : Farm) (taken : Taken) (goes : Going) (failing told_failing : ℕ) (old counts : Counts)
+    (takes : TakesReport f report moment new taken goes) (told_is : (reply : Reply) → Tells taken.told reply → told_failing ≡ failures_told reply failing) where
   abbrev answered : Answered
   answered = reported f report moment takes.mark
 
-  goes_on : {E : Type 0} (result : Result (List Attempt) E) → failing ≡ failed_in n f (heard_entry report moment ∷ []) → failures_told taken.reply failing ≤ LAUNCHES_EACH
-      → taken.booked ≤ BOOKINGS_EACH → KeepsRows new → counts.attempts ≡ old.attempts + taken.booked → counts.failed ≡ old.failed + failures_told taken.reply failing
-      → IfOk result (λ launched. launched ≡ launched_by taken.reply) → IfOk result (λ _. tells_memory taken.reply ≡ false) → GoesOn n f old takes.mark answered result counts
+  goes_on : {E : Type 0} (result : Result (List Attempt) E) → failing ≡ failed_in n f (heard_entry report moment ∷ []) → failing ≤ LAUNCHES_EACH
+      → taken.booked ≤ BOOKINGS_EACH → KeepsRows new → counts.attempts ≡ old.attempts + taken.booked → counts.failed ≡ old.failed + told_failing
+      → IfOk result (λ launched. (reply : Reply) → Tells taken.told reply → launched ≡ launched_by reply)
+      → IfOk result (λ _. (reply : Reply) → Tells taken.told reply → tells_memory reply ≡ false) → GoesOn n f old takes.mark answered result counts
   goes_on (Ok launched) failing_is few booked_few keeps attempts failed launched_is tells_none =
-      let calm : is_calm takes.mark ≡ true = takes.calm tells_none in
-      let told : failures_told taken.reply failing ≡ failed_in n f answered.entries =
-      ap (λ reply. failures_told reply failing) takes.reply ∙ reported_failures n f failing report moment takes.mark calm failing_is in
-      let are : launched ≡ launched_by answered.reply = launched_is ∙ ap launched_by takes.reply in
+      let calm : is_calm takes.mark ≡ true = takes.calm (tells_none answered.reply takes.reply) in
+      let here : told_failing ≡ failures_told answered.reply failing = told_is answered.reply takes.reply in
+      let told : told_failing ≡ failed_in n f answered.entries = here ∙ reported_failures n f failing report moment takes.mark calm failing_is in
+      let few : told_failing ≤ LAUNCHES_EACH = omega (arith, here, few_told answered.reply failing few) in
+      let are : launched ≡ launched_by answered.reply = launched_is answered.reply takes.reply in
       let formed : AreLaunched launched = subst AreLaunched (sym are) (reported_launches f report moment takes.mark (subst KeepsRows takes.farm keeps)) in
       record {
         calm = calm;
@@ -135,9 +138,9 @@ module _ (n : ℕ) (f : Farm) (report : Report) (moment : ℕ) (new : Farm) (tak
 
   pub has_reported : {E : Type 0} (since : Bool → Type 0) → ((all done : List Entry) (failed : Bool) → goes all done failed → since failed)
       → (result : Result (List Attempt) E) → failing ≡ failed_in n f (heard_entry report moment ∷ [])
-      → failures_told taken.reply failing ≤ LAUNCHES_EACH → taken.booked ≤ BOOKINGS_EACH → KeepsRows new → counts.attempts ≡ old.attempts + taken.booked
-      → counts.failed ≡ old.failed + failures_told taken.reply failing → IfOk result (λ launched. launched ≡ launched_by taken.reply)
-      → IfOk result (λ _. tells_memory taken.reply ≡ false) → HasReported n f report moment old result new counts since
+      → failing ≤ LAUNCHES_EACH → taken.booked ≤ BOOKINGS_EACH → KeepsRows new → counts.attempts ≡ old.attempts + taken.booked
+      → counts.failed ≡ old.failed + told_failing → IfOk result (λ launched. (reply : Reply) → Tells taken.told reply → launched ≡ launched_by reply)
+      → IfOk result (λ _. (reply : Reply) → Tells taken.told reply → tells_memory reply ≡ false) → HasReported n f report moment old result new counts since
   has_reported since on result failing_is few booked_few keeps attempts failed launched_is tells_none =
       record {
         mark = takes.mark;

@@ -5,8 +5,10 @@ ghost use Rattle.farm_types.specs.Formed.{IsFormed};
 ghost use Rattle.farm_keeper.specs.Keeping.{Continues};
 ghost use Rattle.farm_lines.specs.Asked.{heard_entry};
 ghost use Rattle.farm_lines.specs.declared.limits.TheConstants.{LAUNCHES_EACH};
+ghost use Rattle.farm_lines.specs.declared.reply.Reply.{Reply};
 ghost use Rattle.line_answers.specs.LineAnswers.{is_short, tells_memory};
-ghost use Rattle.farm_load.specs.Loads.{launched_by, launches_in, load_done, load_report, most_reports, round_after};
+ghost use Rattle.line_answers.specs.Told.{Tells};
+ghost use Rattle.farm_load.specs.Loads.{launched_by, load_done, load_report, most_reports, round_after};
 ghost use Rattle.farm_load.specs.Turns.{HasReported, HasRoom, IsFormedHost, IsReady, TakesTurn, failures_told};
 
 use crate::counts::Counts;
@@ -15,9 +17,9 @@ use crate::limits::HOSTS;
 use crate::load_host::LoadHost;
 use farm_gen::load_exit;
 use farm_keeper::Keeper;
-use farm_lines::{Reply, Report, ReportReply};
+use farm_lines::{Reply, Report};
 use farm_types::{Attempt, Cut, DoneItem, HeardAct, Items};
-use line_answers::take_report;
+use line_answers::{ReportLine, Told, take_report};
 use recorder::PlainRecorder;
 use std::alloc::{AllocError, Global};
 use std::collections::VecDeque;
@@ -87,45 +89,41 @@ fn take_counted<K: Keeper>(
     let taken = take_report(alloc, recorder, report, moment);
     recorder.read().kept();
     counts.attempts += u64::from(taken.booked);
-    counts.failed += failures_told(&taken.reply, failing);
-    launched_by(alloc, taken.reply)
+    counts.failed += failures_told(&taken.told, failing);
+    launched_by(alloc, taken.told)
 }
 
 // The failures of a report: none where it wasn't taken.
-fn failures_told(reply: &Reply, failing: u64) -> u64
-    ensures { result ≡ failures_told reply.now failing }
+fn failures_told(told: &Told, failing: u64) -> u64
+    ensures { (reply : Reply) → Tells told.now reply → result ≡ failures_told reply failing }
 {
-    match reply {
-        Reply::Report(_) => failing,
-        _ => 0,
+    match told {
+        Told::Reported(_) => failing,
+        Told::Other(_) => 0,
     }
 }
 
-// What the reply launches, unless it tells that memory ran out.
-fn launched_by(alloc: Global, reply: Reply) -> Result<Items<Attempt>, AllocError>
-    ensures launched { IfOk result (λ launched. launched ≡ launched_by reply) }
-    ensures calm { IfOk result (λ _. tells_memory reply ≡ false) }
+// What is launched, unless it is told that memory ran out.
+fn launched_by(alloc: Global, told: Told) -> Result<Items<Attempt>, AllocError>
+    ensures launched { IfOk result (λ launched. (reply : Reply) → Tells told reply → launched ≡ launched_by reply) }
+    ensures calm { IfOk result (λ _. (reply : Reply) → Tells told reply → tells_memory reply ≡ false) }
 {
-    match reply {
-        Reply::NoMemory => Err(AllocError),
-        Reply::Report(told) => launches_in(alloc, &told),
-        _ => Ok(Items::new(alloc)),
+    match told {
+        Told::Reported(line) => launched_in(line),
+        Told::Other(Reply::NoMemory) => Err(AllocError),
+        Told::Other(_) => Ok(Items::new(alloc)),
     }
 }
 
-// The attempts of the launches, unless memory cut the round short.
-fn launches_in(alloc: Global, told: &ReportReply) -> Result<Items<Attempt>, AllocError>
-    ensures launched { IfOk result (λ launched. launched ≡ launches_in told.now) }
-    ensures calm { IfOk result (λ _. is_short told.now.cut ≡ false) }
+// The attempts that are launched, unless memory cut the round short.
+fn launched_in(line: ReportLine) -> Result<Items<Attempt>, AllocError>
+    ensures launched { IfOk result (λ launched. launched ≡ line.launched) }
+    ensures calm { IfOk result (λ _. is_short line.cut ≡ false) }
 {
-    if told.cut == Cut::Memory {
+    if line.cut == Cut::Memory {
         return Err(AllocError);
     }
-    let mut launched = Items::new(alloc);
-    for launch in told.launches.as_slice() {
-        launched.push(launch.attempt)?;
-    }
-    Ok(launched)
+    Ok(line.launched)
 }
 
 // The host's report of a round.

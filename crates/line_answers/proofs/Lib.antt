@@ -6,3 +6,4 @@ mod OutcomeLemmas
 mod ReportLemmas
 mod ToldLemmas
 mod WalkLemmas
+mod WrittenLaunches

@@ -38,8 +38,12 @@ use Rattle.recorder.specs.declared.refusal.RecordFault.TheVariants as fault
 use Rattle.recorder.specs.Faults.{is_by_store, is_of_store, is_store_refusal, of_farm, of_record}
 use Rattle.recorder.specs.Recording.{ChangesNone, ChangesRows, FailsToRecord, IsUnstored}
 use Rattle.line_answers.specs.LineAnswers.{AnswersReport, Going, Hears, MayCutRound, MayStore, TakesReport, TakesRound, bookings_in, is_calm, reported, tells_memory, unrecorded_reply}
-use Rattle.line_answers.specs.Lines.{IsLineOf, IsLineOfTaken, is_store_reply}
-use Rattle.line_answers.specs.declared.taken.Taken.{Taken}
+use Rattle.line_answers.specs.Lines.{IsLineOf, IsLineOfOther, is_store_reply}
+use Rattle.line_answers.specs.Told.{IsLineOfTold, Reports, Tells, is_report}
+use Rattle.line_answers.specs.declared.told.ReportLine.{ReportLine}
+use Rattle.line_answers.specs.declared.told.Told.{Told}
+use Rattle.line_answers.specs.declared.told.Told.TheVariants as told
+use Rattle.line_answers.specs.declared.told.Taken.{Taken}
 use Rattle.line_answers.specs.Reports.{TellsHost}
 use Rattle.line_answers.proofs.AnswerLemmas.{unrecorded}
 use Rattle.line_answers.proofs.BookingLemmas.{booked_front, booked_whole}
@@ -130,34 +134,38 @@ accepted_is f report moment host mark accepts named =
     (ap (report_answer f report moment mark) accepts ∙ ap (accepted_answer f report moment mark) named)
 
 -- nothing was recorded, and this is replied
-unchanged : (f : Farm) (report : Report) (moment : ℕ) (mark : Mark) (taken : Taken) (goes : Going) → reported f report moment mark ≡ only_reply taken.reply → taken.booked ≡ 0
-    → (tells_memory taken.reply ≡ false → is_calm mark ≡ true) → MayStore f moment (asked.Report report) mark
+unchanged : (f : Farm) (report : Report) (moment : ℕ) (mark : Mark) (what : Reply) (taken : Taken) (goes : Going) → reported f report moment mark ≡ only_reply what → Tells taken.told what → taken.booked ≡ 0
+    → (tells_memory what ≡ false → is_calm mark ≡ true) → MayStore f moment (asked.Report report) mark
     → goes (reported f report moment Plain).entries [] (is_store_mark mark) → TakesReport f report moment f taken goes
-unchanged f report moment mark taken goes is none calm may keeper = record {
+unchanged f report moment mark what taken goes is tells none calm may keeper = record {
   mark = mark;
   farm = sym (ap (λ (a : Answered). run_of f a.entries) is);
-  reply = sym (ap (λ (a : Answered). a.reply) is);
+  reply = subst (λ (a : Answered). Tells taken.told a.reply) (sym is) tells;
   booked = none ∙ sym (ap (λ (a : Answered). bookings_in a.entries) is);
-  calm = calm;
+  calm = subst (λ (a : Answered). tells_memory a.reply ≡ false → is_calm mark ≡ true) (sym is) calm;
   may_stand = may;
   keeper = subst (λ (a : Answered). goes (reported f report moment Plain).entries a.entries (is_store_mark mark)) (sym is) keeper;
 }
 
+-- what is told of a report that wasn't recorded
+other_tells : (taken : Taken) (what : Reply) → is_report what ≡ false → taken.told ≡ told.Other what → Tells taken.told what
+other_tells taken what other is = subst (λ (t : Told). Tells t what) (sym is) (refl, other)
+
 -- it wasn't recorded
 pub unrecorded_report : (f new : Farm) (report : Report) (moment : ℕ) (why : CommitRefusal) (taken : Taken) (goes : Going)
-    → Hears f (heard_entry report moment) (Err why) new → taken.reply ≡ unrecorded_reply why → taken.booked ≡ 0
+    → Hears f (heard_entry report moment) (Err why) new → taken.told ≡ told.Other (unrecorded_reply why) → taken.booked ≡ 0
     → goes (reported f report moment Plain).entries [] (is_by_store why) → TakesReport f report moment new taken goes
 unrecorded_report f new report moment (refusal.Refused why) taken goes heard is none keeper =
     subst (λ (g : Farm). TakesReport f report moment g taken goes) (sym heard.1)
-    (unchanged f report moment Plain taken goes (ap (report_answer f report moment Plain) heard.0 ∙ ap only_reply (sym is)) none (λ calm. refl) tt keeper)
+    (unchanged f report moment Plain (reply.Refused why) taken goes (ap (report_answer f report moment Plain) heard.0) (other_tells taken (reply.Refused why) refl is) none (λ calm. refl) tt keeper)
 unrecorded_report f new report moment refusal.Store taken goes heard is none keeper =
     let found = host_of f report moment (host_named f report.heard.host) refl heard.0 in
     subst (λ (g : Farm). TakesReport f report moment g taken goes) (sym heard.2)
-    (unchanged f report moment Store taken goes (accepted_is f report moment found.0 Store heard.0 found.1 ∙ ap only_reply (sym is)) none (λ calm. refl)
+    (unchanged f report moment Store reply.Store taken goes (accepted_is f report moment found.0 Store heard.0 found.1) (other_tells taken reply.Store refl is) none (λ calm. refl)
     (record { accepted = heard.0; changes = heard.1 }) keeper)
 unrecorded_report f new report moment refusal.NoMemory taken goes heard is none keeper =
     subst (λ (g : Farm). TakesReport f report moment g taken goes) (sym heard)
-    (unchanged f report moment Memory taken goes (ap only_reply (sym is)) none (λ calm. absurd (false≢true (sym calm ∙ ap tells_memory is))) tt keeper)
+    (unchanged f report moment Memory reply.NoMemory taken goes refl (other_tells taken reply.NoMemory refl is) none (λ calm. absurd (true≢false calm)) tt keeper)
 
 -- a mark of the round stands for the report
 round_may : (f next : Farm) (report : Report) (moment host : ℕ) → refusal_of f (heard_entry report moment) ≡ None → host_named f report.heard.host ≡ Some host
@@ -186,9 +194,9 @@ taken_report f next new report moment host taken goes since heard on walked =
     record {
       mark = walked.mark;
       farm = walked.farm f (heard_entry report moment) (sym heard.2) ∙ sym (ap (λ (a : Answered). run_of f a.entries) is);
-      reply = walked.reply f (heard_entry report moment) (sym heard.2) ∙ sym (ap (λ (a : Answered). a.reply) is);
+      reply = subst (λ (a : Answered). Tells taken.told a.reply) (sym is) (walked.reply f (heard_entry report moment) (sym heard.2));
       booked = walked.booked f (heard_entry report moment) refl ∙ sym (ap (λ (a : Answered). bookings_in a.entries) is);
-      calm = walked.calm;
+      calm = subst (λ (a : Answered). tells_memory a.reply ≡ false → is_calm walked.mark ≡ true) (sym is) (walked.calm f (heard_entry report moment));
       may_stand = round_may f next report moment host heard.0 heard.1 heard.2 walked.mark walked.may_stand;
       keeper =
           subst (λ (a : Answered). goes a.entries (reported f report moment walked.mark).entries (is_store_mark walked.mark)) (sym (made Plain))
@@ -202,14 +210,10 @@ taken_report f next new report moment host taken goes since heard on walked =
 walked_from : (old f new : Farm) (heard : Entry) (round : List Entry) → new ≡ run_of old round → after f heard ≡ old → new ≡ run_of (after f heard) round
 walked_from old f new heard round walked e = walked ∙ ap (λ (g : Farm). run_of g round) (sym e)
 
--- the reply is that over the farm that the round left
-told_from : (old f new : Farm) (host : ℕ) (report : Report) (heard : Entry) (round : List Entry) (ended : Cut) (told : Reply) → new ≡ run_of old round → after f heard ≡ old
-    → told ≡ report_reply new host report ended → told ≡ report_reply (run_of (after f heard) round) host report ended
-told_from old f new host report heard round ended told walked e is = is ∙ ap (λ (g : Farm). report_reply g host report ended) (walked_from old f new heard round walked e)
-
--- a reply that tells that memory ran out tells it
-not_calm : {P : Type 0} (told other : Reply) → told ≡ other → tells_memory other ≡ true → tells_memory told ≡ false → P
-not_calm told other is tells calm = absurd (false≢true (sym calm ∙ (ap tells_memory is ∙ tells)))
+-- the reply that is told is that over the farm that the round left
+told_from : (old f new : Farm) (host : ℕ) (report : Report) (heard : Entry) (round : List Entry) (ended : Cut) (what : Told) → new ≡ run_of old round → after f heard ≡ old
+    → Tells what (report_reply new host report ended) → Tells what (report_reply (run_of (after f heard) round) host report ended)
+told_from old f new host report heard round ended what walked e tells = subst (λ (g : Farm). Tells what (report_reply g host report ended)) (walked_from old f new heard round walked e) tells
 
 module _ (old : Farm) (host : ℕ) (report : Report) (moment : ℕ) (new : Farm) (taken : Taken) (goes : Going) where
   abbrev round : List Entry
@@ -218,14 +222,14 @@ module _ (old : Farm) (host : ℕ) (report : Report) (moment : ℕ) (new : Farm)
   whole : taken.booked ≡ length round → take taken.booked round ≡ round
   whole all = take_all taken.booked round (omega (arith, all))
 
-  replied_by : (ended : Cut) → EndsBy old round ended taken.booked new → goes round (take taken.booked round) (is_store_cut ended) → taken.reply ≡ report_reply new host report ended
+  replied_by : (ended : Cut) → EndsBy old round ended taken.booked new → goes round (take taken.booked round) (is_store_cut ended) → Tells taken.told (report_reply new host report ended)
       → TakesRound old host report moment new taken goes
   replied_by cut.Whole walked keeper is = record {
     mark = Plain;
     farm = λ f heard e. walked_from old f new heard round walked.1 e;
-    reply = λ f heard e. told_from old f new host report heard round cut.Whole taken.reply walked.1 e is;
+    reply = λ f heard e. told_from old f new host report heard round cut.Whole taken.told walked.1 e is;
     booked = λ f heard other. booked_whole old host moment heard taken.booked other walked.0;
-    calm = λ calm. refl;
+    calm = λ f heard calm. refl;
     may_stand = tt;
     done = take taken.booked round;
     behind = λ f heard. ap (λ (es : List Entry). heard ∷ es) (sym (whole walked.0));
@@ -234,9 +238,9 @@ module _ (old : Farm) (host : ℕ) (report : Report) (moment : ℕ) (new : Farm)
   replied_by cut.Store walked keeper is = record {
     mark = StoreAfter taken.booked;
     farm = λ f heard e. walked_from old f new heard (take taken.booked round) walked.1 e;
-    reply = λ f heard e. told_from old f new host report heard (take taken.booked round) cut.Store taken.reply walked.1 e is;
+    reply = λ f heard e. told_from old f new host report heard (take taken.booked round) cut.Store taken.told walked.1 e is;
     booked = λ f heard other. booked_front old host moment heard taken.booked other (omega (arith, walked.0));
-    calm = λ calm. refl;
+    calm = λ f heard calm. refl;
     may_stand = walked.0;
     done = take taken.booked round;
     behind = λ f heard. refl;
@@ -245,23 +249,23 @@ module _ (old : Farm) (host : ℕ) (report : Report) (moment : ℕ) (new : Farm)
   replied_by cut.Memory walked keeper is = record {
     mark = CutAfter taken.booked;
     farm = λ f heard e. walked_from old f new heard (take taken.booked round) walked.1 e;
-    reply = λ f heard e. told_from old f new host report heard (take taken.booked round) cut.Memory taken.reply walked.1 e is;
+    reply = λ f heard e. told_from old f new host report heard (take taken.booked round) cut.Memory taken.told walked.1 e is;
     booked = λ f heard other. booked_front old host moment heard taken.booked other walked.0;
-    calm = not_calm taken.reply (report_reply new host report cut.Memory) is refl;
+    calm = λ f heard calm. absurd (true≢false calm);
     may_stand = tt;
     done = take taken.booked round;
     behind = λ f heard. refl;
     keeper = keeper;
   }
 
-  unreplied_by : (ended : Cut) → EndsBy old round ended taken.booked new → goes round (take taken.booked round) (is_store_cut ended) → taken.reply ≡ reply.NoMemory
+  unreplied_by : (ended : Cut) → EndsBy old round ended taken.booked new → goes round (take taken.booked round) (is_store_cut ended) → taken.told ≡ told.Other reply.NoMemory
       → TakesRound old host report moment new taken goes
   unreplied_by cut.Whole walked keeper is = record {
     mark = LatePlain;
     farm = λ f heard e. walked_from old f new heard round walked.1 e;
-    reply = λ f heard e. is;
+    reply = λ f heard e. other_tells taken reply.NoMemory refl is;
     booked = λ f heard other. booked_whole old host moment heard taken.booked other walked.0;
-    calm = not_calm taken.reply reply.NoMemory is refl;
+    calm = λ f heard calm. absurd (true≢false calm);
     may_stand = tt;
     done = take taken.booked round;
     behind = λ f heard. ap (λ (es : List Entry). heard ∷ es) (sym (whole walked.0));
@@ -270,9 +274,9 @@ module _ (old : Farm) (host : ℕ) (report : Report) (moment : ℕ) (new : Farm)
   unreplied_by cut.Store walked keeper is = record {
     mark = LateStore taken.booked;
     farm = λ f heard e. walked_from old f new heard (take taken.booked round) walked.1 e;
-    reply = λ f heard e. is;
+    reply = λ f heard e. other_tells taken reply.NoMemory refl is;
     booked = λ f heard other. booked_front old host moment heard taken.booked other (omega (arith, walked.0));
-    calm = not_calm taken.reply reply.NoMemory is refl;
+    calm = λ f heard calm. absurd (true≢false calm);
     may_stand = walked.0;
     done = take taken.booked round;
     behind = λ f heard. refl;
@@ -281,9 +285,9 @@ module _ (old : Farm) (host : ℕ) (report : Report) (moment : ℕ) (new : Farm)
   unreplied_by cut.Memory walked keeper is = record {
     mark = LateCut taken.booked;
     farm = λ f heard e. walked_from old f new heard (take taken.booked round) walked.1 e;
-    reply = λ f heard e. is;
+    reply = λ f heard e. other_tells taken reply.NoMemory refl is;
     booked = λ f heard other. booked_front old host moment heard taken.booked other walked.0;
-    calm = not_calm taken.reply reply.NoMemory is refl;
+    calm = λ f heard calm. absurd (true≢false calm);
     may_stand = tt;
     done = take taken.booked round;
     behind = λ f heard. refl;
@@ -299,11 +303,11 @@ module _ (old : Farm) (host : ℕ) (report : Report) (moment : ℕ) (new : Farm)
   goes_as walked booked keeper = subst (λ (k : ℕ). goes round (take k round) (is_store_cut walked.cut)) (sym booked) keeper
 
   pub round_replied : (walked : Walked) → IsRound old host moment walked new → goes round (take walked.booked round) (is_store_cut walked.cut) → taken.booked ≡ walked.booked
-      → taken.reply ≡ report_reply new host report walked.cut → TakesRound old host report moment new taken goes
+      → Tells taken.told (report_reply new host report walked.cut) → TakesRound old host report moment new taken goes
   round_replied walked ends keeper booked is = replied_by walked.cut (ends_as walked booked ends) (goes_as walked booked keeper) is
 
   pub round_unreplied : (walked : Walked) → IsRound old host moment walked new → goes round (take walked.booked round) (is_store_cut walked.cut) → taken.booked ≡ walked.booked
-      → taken.reply ≡ reply.NoMemory → TakesRound old host report moment new taken goes
+      → taken.told ≡ told.Other reply.NoMemory → TakesRound old host report moment new taken goes
   round_unreplied walked ends keeper booked is = unreplied_by walked.cut (ends_as walked booked ends) (goes_as walked booked keeper) is
 
 -- ---- the line of its reply
@@ -356,7 +360,7 @@ refused_nothing f report moment mark why refused = ap (λ (o : Option Refusal). 
     by mark = refl
 
 module _ (f new : Farm) (report : Report) (moment : ℕ) (text : List ℕ) (taken : Taken) (goes : Going) (took : TakesReport f report moment new taken goes)
-    (memory : text ≡ reply_text reply.NoMemory ++ 10 ∷ []) (other : is_store_reply taken.reply ≡ false) where
+    (memory : text ≡ reply_text reply.NoMemory ++ 10 ∷ []) (other : is_store_reply (reported f report moment took.mark).reply ≡ false) where
   -- memory ran out before anything was recorded
   late_refused : (why : Refusal) → refusal_of f (heard_entry report moment) ≡ Some why → AnswersReport f report moment new text goes
   late_refused why refused =
@@ -389,7 +393,7 @@ module _ (f new : Farm) (report : Report) (moment : ℕ) (text : List ℕ) (take
         keeper =
             subst (λ (es : List Entry). goes (reported f report moment Plain).entries es (is_store_mark (late_mark took.mark))) same
             (subst (goes (reported f report moment Plain).entries (reported f report moment took.mark).entries)
-            (late.store (ap is_store_reply (sym (ap (λ (a : Answered). a.reply) is) ∙ sym took.reply) ∙ other)) took.keeper);
+            (late.store (ap (λ (a : Answered). is_store_reply a.reply) (sym is) ∙ other)) took.keeper);
       }
 
   late_by : (why : Option Refusal) → refusal_of f (heard_entry report moment) ≡ why → AnswersReport f report moment new text goes
@@ -397,33 +401,43 @@ module _ (f new : Farm) (report : Report) (moment : ℕ) (text : List ℕ) (take
   late_by (Some why) refused = late_refused why refused
 
 -- the line of any other reply than that the store failed
-pub line_of_other : (told : Reply) (text : List ℕ) → (told ≡ reply.Store → ⊥) → IsLineOf told text → IsLineOfTaken told text
+pub line_of_other : (told : Reply) (text : List ℕ) → (told ≡ reply.Store → ⊥) → IsLineOf told text → IsLineOfOther told text
 line_of_other reply.Store text other is = absurd (other refl)
 line_of_other told text other is = is
 
 -- memory ran out for a line alone that doesn't tell of the store
-line_told : (told : Reply) (text : List ℕ) → IsLineOfTaken told text
-    → (text ≡ reply_text told ++ 10 ∷ []) ⊎ ((text ≡ reply_text reply.NoMemory ++ 10 ∷ []) × (is_store_reply told ≡ false))
-line_told reply.Store text is = inl is
-line_told told text (inl is) = inl is
-line_told told text (inr memory) = inr (memory, refl)
+abbrev IsToldBy : Reply → List ℕ → Type 0
+IsToldBy what text = (text ≡ reply_text what ++ 10 ∷ []) ⊎ ((text ≡ reply_text reply.NoMemory ++ 10 ∷ []) × (is_store_reply what ≡ false))
 
-by_line : (f new : Farm) (report : Report) (moment : ℕ) (text : List ℕ) (taken : Taken) (goes : Going) → TakesReport f report moment new taken goes
-    → (text ≡ reply_text taken.reply ++ 10 ∷ []) ⊎ ((text ≡ reply_text reply.NoMemory ++ 10 ∷ []) × (is_store_reply taken.reply ≡ false))
-    → AnswersReport f report moment new text goes
+other_told : (what : Reply) (text : List ℕ) → IsLineOfOther what text → IsToldBy what text
+other_told reply.Store text is = inl is
+other_told what text (inl is) = inl is
+other_told what text (inr memory) = inr (memory, refl)
+
+reports_text : (line : ReportLine) (what : Reply) → Reports line what → line.text ≡ reply_text what ++ 10 ∷ []
+reports_text line (reply.Report made) is = is.text
+reports_text line other is = elim is [ ]
+
+line_told : (what : Reply) (text : List ℕ) (tells : Told) → Tells tells what → IsLineOfTold tells text → IsToldBy what text
+line_told what text (told.Reported line) is line_is = inl (line_is ∙ reports_text line what is)
+line_told what text (told.Other other) is line = other_told what text (subst (λ (r : Reply). IsLineOfOther r text) is.0 line)
+
+by_line : (f new : Farm) (report : Report) (moment : ℕ) (text : List ℕ) (taken : Taken) (goes : Going) → (took : TakesReport f report moment new taken goes)
+    → IsToldBy (reported f report moment took.mark).reply text → AnswersReport f report moment new text goes
 by_line f new report moment text taken goes took (inl line) = record {
   mark = took.mark;
-  answer = record { farm = took.farm; text = line ∙ ap (λ (told : Reply). reply_text told ++ 10 ∷ []) took.reply };
+  answer = record { farm = took.farm; text = line };
   may_stand = took.may_stand;
   keeper = took.keeper;
 }
 by_line f new report moment text taken goes took (inr memory) =
     late_by f new report moment text taken goes took memory.0 memory.1 (refusal_of f (heard_entry report moment)) refl
 
--- the line is that of what is replied, or memory ran out for it
+-- the line is that of what is told, or memory ran out for it
 pub told_report : (f new : Farm) (report : Report) (moment : ℕ) (text : List ℕ) (taken : Taken) (goes : Going) → TakesReport f report moment new taken goes
-    → IsLineOfTaken taken.reply text → AnswersReport f report moment new text goes
-told_report f new report moment text taken goes took line = by_line f new report moment text taken goes took (line_told taken.reply text line)
+    → IsLineOfTold taken.told text → AnswersReport f report moment new text goes
+told_report f new report moment text taken goes took line =
+    by_line f new report moment text taken goes took (line_told (reported f report moment took.mark).reply text taken.told took.reply line)
 
 -- ---- what changes no row
 

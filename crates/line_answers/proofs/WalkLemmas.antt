@@ -156,3 +156,9 @@ module _ (f : Farm) (host : ℕ) (report : Report) where
   walk_shortens slot now next own at is =
       let own = subst (IsOwn f.slots host) at own in
       omega (arith, (after_own slot next own is).fewer, ap length (ap (rows_from f.slots) at ∙ (own_row slot own).2))
+
+  -- at its end all are found
+  pub walk_ends : (now : Option ℕ) (found : List Launch) → IsWalked f host report now found → now ≡ None → found ≡ launches_of f host report
+  walk_ends now found walked at =
+      sym (ap (λ (o : Option ℕ). found ++ take (LAUNCHES_EACH - length found) (filter_map (due_in f host report) (rows_from f.slots o))) at
+      ∙ ap (λ (xs : List Launch). found ++ xs) (take_none (LAUNCHES_EACH - length found)) ∙ append-nil found) ∙ walked.given

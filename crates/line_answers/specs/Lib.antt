@@ -4,3 +4,4 @@ pub mod Launches
 pub mod Lines
 pub mod Outcomes
 pub mod Reports
+pub mod Told

@@ -19,7 +19,8 @@ use Rattle.line_answers.specs.declared.reply_line.ReplyLine.{ReplyLine}
 use Rattle.line_answers.specs.declared.reply_line.ReplyLine.TheVariants.{Written}
 use Rattle.line_answers.specs.declared.reply_line.ReplyLine.TheVariants as reply_line
 use Rattle.line_answers.specs.Lines.{IsLineOf}
-use Rattle.line_answers.specs.declared.taken.Taken.{Taken}
+use Rattle.line_answers.specs.Told.{Tells}
+use Rattle.line_answers.specs.declared.told.Taken.{Taken}
 use Rattle.recorder.specs.declared.refusal.CommitRefusal.{CommitRefusal}
 use Rattle.recorder.specs.declared.refusal.CommitRefusal.TheVariants as commit
 use Rattle.recorder.specs.Recording.{ChangesRows}
@@ -137,14 +138,14 @@ tells_memory reply.NoMemory = true
 tells_memory (reply.Report told) = is_short told.cut
 tells_memory other = false
 
--- The report was recorded at the moment with its round, or it wasn't, by one of the marks; the reply is the one of that mark, and so many frames were
--- booked. Where the reply tells nothing of memory, it didn't run out. The keeper goes on as after the mark.
+-- The report was recorded at the moment with its round, or it wasn't, by one of the marks; the reply of that mark is told, and so many frames were
+-- booked. Where it tells nothing of memory, it didn't run out. The keeper goes on as after the mark.
 pub record TakesReport (old : Farm) (report : Report) (moment : ℕ) (new : Farm) (taken : Taken) (goes : Going) : Type 0 where
   pub mark : Mark
   pub farm : new ≡ run_of old (reported old report moment mark).entries
-  pub reply : taken.reply ≡ (reported old report moment mark).reply
+  pub reply : Tells taken.told (reported old report moment mark).reply
   pub booked : taken.booked ≡ bookings_in (reported old report moment mark).entries
-  pub calm : tells_memory taken.reply ≡ false → is_calm mark ≡ true
+  pub calm : tells_memory (reported old report moment mark).reply ≡ false → is_calm mark ≡ true
   pub may_stand : MayStore old moment (asked.Report report) mark
   pub keeper : goes (reported old report moment Plain).entries (reported old report moment mark).entries (is_store_mark mark)
 
@@ -193,10 +194,10 @@ MayCutRound bookings mark = Unit {0}
 pub record TakesRound (old : Farm) (host : ℕ) (report : Report) (moment : ℕ) (new : Farm) (taken : Taken) (goes : Going) : Type 0 where
   pub mark : Mark
   pub farm : (f : Farm) (heard : Entry) → after f heard ≡ old → new ≡ run_of f (marked_answer f host report heard (round_for old host moment) mark).entries
-  pub reply : (f : Farm) (heard : Entry) → after f heard ≡ old → taken.reply ≡ (marked_answer f host report heard (round_for old host moment) mark).reply
+  pub reply : (f : Farm) (heard : Entry) → after f heard ≡ old → Tells taken.told (marked_answer f host report heard (round_for old host moment) mark).reply
   pub booked : (f : Farm) (heard : Entry) → is_booking heard.act ≡ false
       → taken.booked ≡ bookings_in (marked_answer f host report heard (round_for old host moment) mark).entries
-  pub calm : tells_memory taken.reply ≡ false → is_calm mark ≡ true
+  pub calm : (f : Farm) (heard : Entry) → tells_memory (marked_answer f host report heard (round_for old host moment) mark).reply ≡ false → is_calm mark ≡ true
   pub may_stand : MayCutRound (length (round_for old host moment)) mark
   pub done : List Entry
   pub behind : (f : Farm) (heard : Entry) → (marked_answer f host report heard (round_for old host moment) mark).entries ≡ heard ∷ done

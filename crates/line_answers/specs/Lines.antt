@@ -34,6 +34,6 @@ is_store_reply reply.Store = true
 is_store_reply other = false
 
 -- the line is that of the reply, or tells that memory ran out for it, which it doesn't where the store failed
-abbrev pub IsLineOfTaken : Reply → List ℕ → Type 0
-IsLineOfTaken reply.Store line = line ≡ reply_text reply.Store ++ 10 ∷ []
-IsLineOfTaken told line = IsLineOf told line
+abbrev pub IsLineOfOther : Reply → List ℕ → Type 0
+IsLineOfOther reply.Store line = line ≡ reply_text reply.Store ++ 10 ∷ []
+IsLineOfOther told line = IsLineOf told line

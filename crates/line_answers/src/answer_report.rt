@@ -12,23 +12,23 @@ ghost use Rattle.recorder.specs.Recording.{ChangesNone, HasSameRows, IsOfEntry, 
 ghost use Rattle.recorder.specs.Telling.{GoesOn, TellsCommit};
 ghost use Rattle.farm_types.specs.Formed.{IsFormed};
 ghost use Rattle.farm_lines.specs.Asked.{heard_entry};
-ghost use Rattle.farm_lines.specs.Reply.{report_reply};
 ghost use Rattle.farm_lines.specs.Transcript.{Plain};
 ghost use Rattle.line_answers.specs.LineAnswers.{AnswersReport, Hears, TakesReport, TakesRound, reported, unrecorded_reply};
-ghost use Rattle.line_answers.specs.Lines.{IsLineOfTaken, shown};
+ghost use Rattle.line_answers.specs.Lines.{IsLineOfOther, shown};
 ghost use Rattle.line_answers.specs.Launches.{told};
 ghost use Rattle.line_answers.specs.Reports.{IsReport, TellsHost};
+ghost use Rattle.line_answers.specs.Told.{IsLineOfTold};
 
-use crate::launches::{acks, kills, launches};
 use crate::reply_line::{ReplyLine, line_of};
-use crate::taken::Taken;
+use crate::report_line::report_line;
+use crate::told::{Taken, Told};
 use dispatch_plan::round;
-use farm_core::{Change, Farm};
+use farm_core::Change;
 use farm_keeper::Keeper;
-use farm_lines::{Reply, Report, ReportReply};
-use farm_types::{Act, Attempt, Cut, Entry, HeardAct, HostNo};
+use farm_lines::{Reply, Report};
+use farm_types::{Act, Attempt, Entry, HeardAct, HostNo};
 use recorder::{CommitRefusal, PlainRecorder};
-use std::alloc::{AllocError, Global};
+use std::alloc::Global;
 
 /// Answers a report: records it and its round, and gives the line of its reply.
 pub fn answer_report<K: Keeper>(
@@ -43,7 +43,7 @@ pub fn answer_report<K: Keeper>(
     ensures same { ChangesNone recorder.old.farm (reported recorder.old.farm report moment Plain).entries → recorder.new.keeper ≡ recorder.old.keeper }
 {
     let taken = take_report(alloc, recorder, report, moment);
-    taken_line(alloc, taken.reply)
+    told_line(alloc, taken.told)
 }
 
 /// Records a report and its round, and says what is replied to it and how many frames were booked.
@@ -74,9 +74,19 @@ pub fn take_report<K: Keeper>(
     )
 }
 
-// The line of the reply to a report, or that memory ran out.
-fn taken_line(alloc: Global, reply: Reply) -> ReplyLine
-    ensures { IsLineOfTaken reply (shown result) }
+// The line of what is told of a report, or that memory ran out.
+fn told_line(alloc: Global, told: Told) -> ReplyLine
+    ensures { IsLineOfTold told (shown result) }
+{
+    match told {
+        Told::Reported(line) => ReplyLine::Written(line.text),
+        Told::Other(reply) => other_line(alloc, reply),
+    }
+}
+
+// The line of a reply that is to no report that was recorded, or that memory ran out.
+fn other_line(alloc: Global, reply: Reply) -> ReplyLine
+    ensures { IsLineOfOther reply (shown result) }
 {
     match reply {
         Reply::Store => ReplyLine::Store,
@@ -145,7 +155,7 @@ fn take_recorded<K: Keeper>(
             take_round(alloc, recorder, host, heard, running, moment)
         }
         Err(why) => Taken {
-            reply: unrecorded_reply(why),
+            told: Told::Other(unrecorded_reply(why)),
             booked: 0,
         },
     }
@@ -189,38 +199,14 @@ fn take_round<K: Keeper>(
     ensures same { ChangesNone recorder.old.farm (round_for recorder.old.farm host moment) → recorder.new.keeper ≡ recorder.old.keeper }
 {
     let walked = round(alloc, recorder, host, moment);
-    match report_reply(alloc, recorder.read(), host, heard, running, walked.cut) {
-        Ok(reply) => Taken {
-            reply,
+    match report_line(alloc, recorder.read(), host, heard, running, walked.cut) {
+        Ok(line) => Taken {
+            told: Told::Reported(line),
             booked: walked.booked,
         },
         Err(_) => Taken {
-            reply: Reply::NoMemory,
+            told: Told::Other(Reply::NoMemory),
             booked: walked.booked,
         },
     }
-}
-
-// The reply to a report over the farm as it is.
-fn report_reply(
-    alloc: Global,
-    farm: &Farm,
-    host: HostNo,
-    heard: &HeardAct,
-    running: &[Attempt],
-    cut: Cut,
-) -> Result<Reply, AllocError>
-    ensures { IfOk result (λ reply. reply ≡ report_reply farm.now host (told heard.now running.now) cut) }
-{
-    let acks = acks(alloc, heard.done.as_slice())?;
-    let kills = kills(alloc, farm, host, heard.boot, running)?;
-    let launches = launches(alloc, farm, host, heard, running)?;
-    Ok(Reply::Report(ReportReply {
-        acks,
-        boot: heard.boot,
-        cut,
-        kills,
-        launches,
-        seq: heard.seq,
-    }))
 }

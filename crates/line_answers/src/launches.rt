@@ -1,17 +1,20 @@
 //! What the reply to a report orders: acknowledgements, kills and launches.
 
-ghost use Rattle.std.specs.Prelude.{◌≡◌, ◌++◌, IfOk, OnOk, option_to_list};
+ghost use Rattle.std.specs.Prelude.{◌≡◌, ◌∷◌, [], IfOk, OnOk, option_to_list};
 ghost use Rattle.std.specs.List.{list_any};
-ghost use Rattle.farm_lines.specs.Reply.{acks_of, kills_of, launches_of, launch_of, launch_for, due_in, is_due, is_listed};
+ghost use Rattle.farm_lines.specs.Reply.{acks_of, kills_of, launches_of, launch_data, launch_for, launch_of, due_in, is_due, is_listed};
 ghost use Rattle.farm_types.specs.Run.{is_same};
-ghost use Rattle.line_answers.specs.Launches.{due_at, told};
+ghost use Rattle.line_answers.specs.Launches.{HasWritten, Writes, due_at, launch_by, told};
+ghost use Rattle.object_writer.specs.Tokens.{added, tokens_of};
 
 use command_text::{expand, frame_name};
 use farm_core::Farm;
-use farm_lines::{LAUNCHES_EACH, Launch};
+use farm_lines::LAUNCHES_EACH;
 use farm_types::{
     Attempt, DoneItem, Frame, HeardAct, HostNo, Items, JobRow, LayerRow, ProcRow, Slot, SlotRow,
 };
+use object_writer::ObjectWriter;
+use report_codec::{LaunchText, Launches, write_launch};
 use std::alloc::{AllocError, Global};
 
 /// The attempts that the report says are done, in order.
@@ -44,69 +47,191 @@ pub fn kills(
     Ok(kills)
 }
 
-/// The first live attempts on this host and boot, by slot, that the report doesn't list. The host's own attempts are walked, up to the limit of a
-/// reply.
-pub fn launches(
+/// The launches of a report's reply, as they are written over the farm: those of the first live attempts on this host and boot, by slot, that the report
+/// doesn't list, up to the limit of a reply.
+#[derive(Drop)]
+pub(crate) struct DueLaunches<'f> {
+    pub farm: &'f Farm,
+    pub host: HostNo,
+    pub heard: &'f HeardAct,
+    pub running: &'f [Attempt],
+}
+
+impl Launches for DueLaunches<'_> {
+    ghost use Rattle.std.specs.Prelude.{◌≡◌, ◌∷◌, IfOk, OnOk, true};
+    ghost use Rattle.json.specs.Token.{key};
+    ghost use Rattle.farm_lines.specs.Reply.{launches_data};
+    ghost use Rattle.line_answers.specs.Launches.{launches_due};
+    ghost use Rattle.object_writer.specs.Tokens.{added, tokens_of};
+    ghost use Rattle.object_writer.specs.Written.{is_plain};
+    ghost use Rattle.report_codec.specs.Launches.{attempts_in};
+
+    ghost launches = { λ due. launches_due due };
+
+    fn write(
+        &self,
+        alloc: Global,
+        out: &mut ObjectWriter,
+        name: &str,
+    ) -> Result<Items<Attempt>, AllocError>
+        requires { is_plain name.now ≡ true }
+        ensures text { OnOk result (out.new ≡ added out.old (key name.now ∷ tokens_of (launches_data (launches_due self.now)))) }
+        ensures attempts { IfOk result (λ attempts. attempts ≡ attempts_in (launches_due self.now)) }
+    {
+        out.begin_list(name)?;
+        let launched = write_due(alloc, out, self.farm, self.host, self.heard, self.running)?;
+        out.end_list()?;
+        Ok(launched)
+    }
+}
+
+// Writes the launches, and gives their attempts. The host's own attempts are walked.
+fn write_due(
     alloc: Global,
+    out: &mut ObjectWriter,
     farm: &Farm,
     host: HostNo,
     heard: &HeardAct,
     running: &[Attempt],
-) -> Result<Items<Launch>, AllocError>
-    ensures { IfOk result (λ launches. launches ≡ launches_of farm.now host (told heard.now running.now)) }
+) -> Result<Items<Attempt>, AllocError>
+    ensures { IfOk result (λ launched. HasWritten out.old (launches_of farm.now host (told heard.now running.now)) out.new launched) }
 {
-    let mut launches = Items::new(alloc);
+    let mut launched = Items::new(alloc);
     let mut next = farm.books().first_attempt(host);
     while let Some(slot) = next {
-        if launches.len() >= LAUNCHES_EACH as usize {
-            return Ok(launches);
+        if launched.len() >= LAUNCHES_EACH as usize {
+            return Ok(launched);
         }
-        add_due(alloc, &mut launches, farm, host, heard, running, slot)?;
+        write_at(alloc, out, &mut launched, farm, host, heard, running, slot)?;
         next = farm.books().next_attempt(slot);
     }
-    Ok(launches)
+    Ok(launched)
 }
 
-// Adds the launch of the slot's live attempt, where it is due.
-fn add_due(
+// Writes the launch of the slot's live attempt, where it is due.
+fn write_at(
     alloc: Global,
-    launches: &mut Items<Launch>,
+    out: &mut ObjectWriter,
+    launched: &mut Items<Attempt>,
     farm: &Farm,
     host: HostNo,
     heard: &HeardAct,
     running: &[Attempt],
     slot: Slot,
 ) -> Result<(), AllocError>
-    ensures { OnOk result (launches.new ≡ launches.old ++ option_to_list (due_at farm.now host (told heard.now running.now) slot)) }
+    ensures { OnOk result (Writes out.old launched.old (option_to_list (due_at farm.now host (told heard.now running.now) slot)) out.new launched.new) }
 {
-    let Some(row) = farm.books().slot(slot) else {
-        return Ok(());
-    };
-    if let Some(launch) = due(alloc, farm, host, heard, running, &row)? {
-        launches.push(launch)?;
+    match farm.books().slot(slot) {
+        None => Ok(()),
+        Some(row) => write_in(alloc, out, launched, farm, host, heard, running, &row),
     }
-    Ok(())
 }
 
-// The launch of the slot's live attempt, where it is due.
-fn due(
+// Writes the launch of the live attempt in the slot of that row, where it is due.
+fn write_in(
     alloc: Global,
+    out: &mut ObjectWriter,
+    launched: &mut Items<Attempt>,
     farm: &Farm,
     host: HostNo,
     heard: &HeardAct,
     running: &[Attempt],
     slot: &SlotRow,
-) -> Result<Option<Launch>, AllocError>
-    ensures { IfOk result (λ launch. launch ≡ due_in farm.now host (told heard.now running.now) slot.now) }
+) -> Result<(), AllocError>
+    ensures { OnOk result (Writes out.old launched.old (option_to_list (due_in farm.now host (told heard.now running.now) slot.now)) out.new launched.new) }
 {
     let Some(proc) = slot.proc else {
-        return Ok(None);
+        return Ok(());
     };
-    if is_due_on(host, heard, running, &proc) {
-        launch_at(alloc, farm, slot, &proc)
-    } else {
-        Ok(None)
+    if !is_due_on(host, heard, running, &proc) {
+        return Ok(());
     }
+    write_launch_at(alloc, out, launched, farm, slot, &proc)
+}
+
+// Writes the launch of the slot's live attempt.
+fn write_launch_at(
+    alloc: Global,
+    out: &mut ObjectWriter,
+    launched: &mut Items<Attempt>,
+    farm: &Farm,
+    slot: &SlotRow,
+    proc: &ProcRow,
+) -> Result<(), AllocError>
+    ensures { OnOk result (Writes out.old launched.old (option_to_list (launch_of farm.now slot.now proc.now)) out.new launched.new) }
+{
+    let Some(frame) = slot.frame else {
+        return Ok(());
+    };
+    let Some(job) = farm.books().job(frame.job) else {
+        return Ok(());
+    };
+    let Some(layer) = farm.books().layer(frame.job, frame.layer) else {
+        return Ok(());
+    };
+    write_launch_of(alloc, out, launched, proc, &frame, job, layer)
+}
+
+// Writes a launch, the names of the job and of the layer from the farm's rows themselves, and adds its attempt.
+fn write_launch_of(
+    alloc: Global,
+    out: &mut ObjectWriter,
+    launched: &mut Items<Attempt>,
+    proc: &ProcRow,
+    frame: &Frame,
+    job: &JobRow,
+    layer: &LayerRow,
+) -> Result<(), AllocError>
+    ensures { OnOk result (Writes out.old launched.old (launch_for proc.now frame.now job.now layer.now ∷ []) out.new launched.new) }
+{
+    let command = expand(
+        alloc,
+        layer.command.as_str(),
+        job.name.as_str(),
+        layer.name.as_str(),
+        frame.number,
+    )?;
+    let name = frame_name(alloc, frame.number, layer.name.as_str())?;
+    launched.push(Attempt {
+        slot: proc.slot,
+        version: proc.version,
+    })?;
+    write_names(
+        out,
+        proc,
+        command.as_str(),
+        name.as_str(),
+        job.name.as_str(),
+        layer.name.as_str(),
+    )
+}
+
+// Writes a launch by its texts and its live attempt.
+fn write_names<'t>(
+    out: &mut ObjectWriter,
+    proc: &ProcRow,
+    command: &'t str,
+    frame: &'t str,
+    job: &'t str,
+    layer: &'t str,
+) -> Result<(), AllocError>
+    ensures { OnOk result (out.new ≡ added out.old (tokens_of (launch_data (launch_by proc.now command.now frame.now job.now layer.now)))) }
+{
+    write_launch(
+        out,
+        &LaunchText {
+            attempt: Attempt {
+                slot: proc.slot,
+                version: proc.version,
+            },
+            command,
+            cores: proc.cores,
+            frame,
+            job,
+            layer,
+            memory: proc.memory,
+        },
+    )
 }
 
 // Whether the live attempt is on this host and boot and the report doesn't list it.
@@ -143,58 +268,4 @@ fn same(one: &Attempt, other: &Attempt) -> bool
     ensures { result ≡ is_same one.now other.now }
 {
     one.slot == other.slot && one.version == other.version
-}
-
-// The launch of the slot's live attempt.
-fn launch_at(
-    alloc: Global,
-    farm: &Farm,
-    slot: &SlotRow,
-    proc: &ProcRow,
-) -> Result<Option<Launch>, AllocError>
-    ensures { IfOk result (λ launch. launch ≡ launch_of farm.now slot.now proc.now) }
-{
-    let Some(frame) = slot.frame else {
-        return Ok(None);
-    };
-    let Some(job) = farm.books().job(frame.job) else {
-        return Ok(None);
-    };
-    let Some(layer) = farm.books().layer(frame.job, frame.layer) else {
-        return Ok(None);
-    };
-    Ok(Some(launch_of_frame(alloc, proc, &frame, job, layer)?))
-}
-
-fn launch_of_frame(
-    alloc: Global,
-    proc: &ProcRow,
-    frame: &Frame,
-    job: &JobRow,
-    layer: &LayerRow,
-) -> Result<Launch, AllocError>
-    ensures { IfOk result (λ launch. launch ≡ launch_for proc.now frame.now job.now layer.now) }
-{
-    let command = expand(
-        alloc,
-        layer.command.as_str(),
-        job.name.as_str(),
-        layer.name.as_str(),
-        frame.number,
-    )?;
-    let name = frame_name(alloc, frame.number, layer.name.as_str())?;
-    let job = job.name.copy(alloc)?;
-    let layer = layer.name.copy(alloc)?;
-    Ok(Launch {
-        attempt: Attempt {
-            slot: proc.slot,
-            version: proc.version,
-        },
-        command,
-        cores: proc.cores,
-        frame: name,
-        job,
-        layer,
-        memory: proc.memory,
-    })
 }

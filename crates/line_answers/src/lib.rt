@@ -7,7 +7,8 @@ mod answer_report;
 mod launches;
 mod laws;
 mod reply_line;
-mod taken;
+mod report_line;
+mod told;
 
 pub use answer::answer_line;
 pub use answer_report::take_report;
@@ -16,4 +17,4 @@ pub use laws::{
     taken_reports_have_their_round,
 };
 pub use reply_line::ReplyLine;
-pub use taken::Taken;
+pub use told::{ReportLine, Taken, Told};

@@ -10,20 +10,20 @@ use farm_types::Items;
 use row_codec::encode;
 use std::alloc::{AllocError, Global};
 
-// Most rows need no more.
-const ROW_ROOM: usize = 512;
-
-/// The changes as a batch of a keeper.
-pub(crate) fn batch_of(alloc: Global, changes: &[RowChange]) -> Result<Batch, AllocError>
+/// The changes as a batch of a keeper. Each row is put together in the room, whose memory is kept.
+pub(crate) fn batch_of(
+    alloc: Global,
+    changes: &[RowChange],
+    room: &mut Vec<u8>,
+) -> Result<Batch, AllocError>
     ensures { IfOk result (λ batch. batch ≡ batch_of changes.now) }
 {
     let mut batch = Batch {
         puts: Items::from_vec(Vec::with_capacity(alloc, changes.len())?),
         deletes: Items::new(alloc),
     };
-    let mut room = Vec::with_capacity(alloc, ROW_ROOM)?;
     for change in changes {
-        add(alloc, &mut batch, change, &mut room)?;
+        add(alloc, &mut batch, change, room)?;
     }
     Ok(batch)
 }

@@ -27,11 +27,12 @@ use farm_types::{Entry, HostNo, Slot};
 use std::alloc::Global;
 use store_law::{batches_make_the_rows, farms_differ_in_their_stores};
 
-/// Records a change in the keeper and in the farm, or in neither.
+/// Records a change in the keeper and in the farm, or in neither. Its rows are put together in the room, whose memory is kept.
 pub(crate) fn record_in<K: Keeper>(
     alloc: Global,
     farm: &mut Farm,
     keeper: &mut K,
+    room: &mut Vec<u8>,
     entry: &Entry,
     change: Change,
 ) -> Result<(), RecordFault>
@@ -43,7 +44,7 @@ pub(crate) fn record_in<K: Keeper>(
     ensures told { TellsOf K.commits farm.old (entry.now ∷ []) result keeper.old keeper.new }
 {
     let mut change = change;
-    match make_ready(alloc, farm, keeper, entry, &mut change) {
+    match make_ready(alloc, farm, keeper, room, entry, &mut change) {
         Ok(()) => {
             farm.apply(change);
             Ok(())
@@ -64,6 +65,7 @@ fn make_ready<K: Keeper>(
     alloc: Global,
     farm: &mut Farm,
     keeper: &mut K,
+    room: &mut Vec<u8>,
     entry: &Entry,
     change: &mut Change,
 ) -> Result<(), RecordFault>
@@ -77,14 +79,16 @@ fn make_ready<K: Keeper>(
 {
     farm.kept();
     farm.reserve(alloc, change)?;
-    keep(alloc, keeper, change.batch())
+    keep(alloc, keeper, room, change.batch())
 }
 
-/// Books the slot's frame on the host, where it may be, in the keeper and in the farm, or in neither. That it may be is decided once.
+/// Books the slot's frame on the host, where it may be, in the keeper and in the farm, or in neither. That it may be is decided once. Its rows
+/// are put together in the room.
 pub(crate) fn book_in<K: Keeper>(
     alloc: Global,
     farm: &mut Farm,
     keeper: &mut K,
+    room: &mut Vec<u8>,
     slot: Slot,
     host: HostNo,
     moment: u64,
@@ -96,7 +100,7 @@ pub(crate) fn book_in<K: Keeper>(
     ensures told { TellsOf K.commits farm.old (due_booking farm.old slot host moment) result keeper.old keeper.new }
 {
     match farm.booking(slot, host, moment) {
-        Ok(booking) => record_booking(alloc, farm, keeper, &booking),
+        Ok(booking) => record_booking(alloc, farm, keeper, room, &booking),
         Err(_why) => Ok(false),
     }
 }
@@ -106,6 +110,7 @@ fn record_booking<K: Keeper>(
     alloc: Global,
     farm: &mut Farm,
     keeper: &mut K,
+    room: &mut Vec<u8>,
     booking: &Booking,
 ) -> Result<bool, RecordFault>
     requires booking { IsBookingOf farm.old booking.now }
@@ -117,13 +122,18 @@ fn record_booking<K: Keeper>(
     ensures told { TellsOf K.commits farm.old (entry_of booking.now.booked ∷ []) result keeper.old keeper.new }
 {
     farm.kept();
-    keep(alloc, keeper, booking.batch())?;
+    keep(alloc, keeper, room, booking.batch())?;
     farm.book(booking);
     Ok(true)
 }
 
 // Tells the keeper the changes, where there are any.
-fn keep<K: Keeper>(alloc: Global, keeper: &mut K, changes: &[RowChange]) -> Result<(), RecordFault>
+fn keep<K: Keeper>(
+    alloc: Global,
+    keeper: &mut K,
+    room: &mut Vec<u8>,
+    changes: &[RowChange],
+) -> Result<(), RecordFault>
     ensures kept { (f : farms.Farm) (e : Entry) → IsKeptFarm f → IsLegalStep f e → NamesExactly f (after f e) changes.now
         → StaysRecorded (K.holds keeper.old) (K.left keeper.old) (K.holds keeper.new) (K.left keeper.new) f e result }
     ensures same { (f : farms.Farm) (e : Entry) → IsKeptFarm f → IsLegalStep f e → NamesExactly f (after f e) changes.now → HasSameRows f (after f e)
@@ -138,13 +148,14 @@ fn keep<K: Keeper>(alloc: Global, keeper: &mut K, changes: &[RowChange]) -> Resu
     if changes.is_empty() {
         return Ok(());
     }
-    commit(alloc, keeper, changes)
+    commit(alloc, keeper, room, changes)
 }
 
 // Commits the changes to the keeper as one batch.
 fn commit<K: Keeper>(
     alloc: Global,
     keeper: &mut K,
+    room: &mut Vec<u8>,
     changes: &[RowChange],
 ) -> Result<(), RecordFault>
     ensures taken { OnOk result (HoldsWith (stored_batch changes.now) (K.holds keeper.old) (K.holds keeper.new)) }
@@ -154,7 +165,7 @@ fn commit<K: Keeper>(
     ensures keeper { Continues K.tells K.faults keeper.old keeper.new (is_store_fault result) }
     ensures told { TellsBatch K.commits (stored_batch changes.now) result keeper.old keeper.new }
 {
-    let batch = batch_of(alloc, changes)?;
+    let batch = batch_of(alloc, changes, room)?;
     keeper.commit(alloc, batch)?;
     Ok(())
 }

@@ -23,6 +23,7 @@ use std::marker::Model;
 pub struct PlainRecorder<K: Keeper> {
     farm: Farm,
     keeper: K,
+    room: Vec<u8>,
 }
 
 impl<K: Keeper> Model for PlainRecorder<K> {
@@ -37,11 +38,15 @@ impl<K: Keeper> Model for PlainRecorder<K> {
 
 impl<K: Keeper> PlainRecorder<K> {
     /// The farm with the keeper that holds its rows.
-    pub fn make(farm: Farm, keeper: K) -> PlainRecorder<K>
+    pub fn make(alloc: Global, farm: Farm, keeper: K) -> PlainRecorder<K>
         requires { K.tells keeper → HasRecorded (K.holds keeper) (K.left keeper) farm }
         ensures { result ≡ record { farm = farm; keeper = keeper } }
     {
-        PlainRecorder { farm, keeper }
+        PlainRecorder {
+            farm,
+            keeper,
+            room: Vec::new(alloc),
+        }
     }
 
     /// The farm.
@@ -89,7 +94,14 @@ impl<K: Keeper> PlainRecorder<K> {
         ensures keeper { Continues K.tells K.faults self.old.keeper self.new.keeper (is_store_fault result) }
         ensures told { TellsOf K.commits self.old.farm (entry.now ∷ []) result self.old.keeper self.new.keeper }
     {
-        record_in(alloc, &mut self.farm, &mut self.keeper, entry, change)
+        record_in(
+            alloc,
+            &mut self.farm,
+            &mut self.keeper,
+            &mut self.room,
+            entry,
+            change,
+        )
     }
 
     /// Records an entry and says what the farm answers to it. The entry is within its forms and limits, and an entry to book is one whose booking may
@@ -137,6 +149,14 @@ impl<K: Keeper> PlainRecorder<K> {
         ensures keeper { Continues K.tells K.faults self.old.keeper self.new.keeper (is_store_fault result) }
         ensures told { TellsOf K.commits self.old.farm (due_booking self.old.farm slot host moment) result self.old.keeper self.new.keeper }
     {
-        book_in(alloc, &mut self.farm, &mut self.keeper, slot, host, moment)
+        book_in(
+            alloc,
+            &mut self.farm,
+            &mut self.keeper,
+            &mut self.room,
+            slot,
+            host,
+            moment,
+        )
     }
 }

@@ -26,4 +26,5 @@ mod write;
 pub use fault_reply::write_bad_store;
 pub use laws::replies_are_single_lines;
 pub use read::read_request;
+pub use report_line::{LaunchText, Launches, WrittenReport, write_launch, write_report_reply};
 pub use write::write_reply;

@@ -1,6 +1,7 @@
 //! Writing a reply.
 
 ghost use Rattle.std.specs.Prelude.{◌≡◌, IfOk, OnOk};
+ghost use Rattle.farm_lines.specs.declared.reply.Reply.TheVariants as replies;
 ghost use Rattle.farm_lines.specs.Reply.{done_data, reply_data, reply_text};
 ghost use Rattle.object_writer.specs.Tokens.{added, tokens_of};
 
@@ -19,7 +20,7 @@ use crate::report_line::write_report;
 use crate::sub_line::write_sub;
 use crate::submit_line::write_submitted;
 use crate::tick_line::write_tick;
-use farm_lines::Reply;
+use farm_lines::{Reply, ReportReply};
 use farm_types::Items;
 use object_writer::ObjectWriter;
 use std::alloc::{AllocError, Global};
@@ -30,12 +31,12 @@ pub fn write_reply(alloc: Global, reply: &Reply) -> Result<Items<u8>, AllocError
     ensures { IfOk result (λ bytes. bytes ≡ reply_text reply.now) }
 {
     let mut out = ObjectWriter::new(alloc)?;
-    write_object(&mut out, reply)?;
+    write_object(alloc, &mut out, reply)?;
     Ok(out.into_bytes())
 }
 
 // The reply as an object, its keys in byte order. Amounts of cores are in hundredths of a core.
-fn write_object(out: &mut ObjectWriter, reply: &Reply) -> Result<(), AllocError>
+fn write_object(alloc: Global, out: &mut ObjectWriter, reply: &Reply) -> Result<(), AllocError>
     ensures { OnOk result (out.new ≡ added out.old (tokens_of (reply_data reply.now))) }
 {
     match reply {
@@ -52,7 +53,7 @@ fn write_object(out: &mut ObjectWriter, reply: &Reply) -> Result<(), AllocError>
         Reply::Depend { depend, unmet } => write_depend(out, *depend, *unmet),
         Reply::Dropped { opened } => write_dropped(out, *opened),
         Reply::Ended { ended } => write_ended(out, *ended),
-        Reply::Report(report) => write_report(out, report),
+        Reply::Report(report) => write_report_whole(alloc, out, report),
         Reply::List(list) => write_list(out, list),
         Reply::BadLine { field } => write_bad_line(out, field.as_str()),
         Reply::TooLong => write_too_long(out),
@@ -64,6 +65,27 @@ fn write_object(out: &mut ObjectWriter, reply: &Reply) -> Result<(), AllocError>
         Reply::Store => write_store_fault(out),
         Reply::NoMemory => write_no_memory(out),
     }
+}
+
+// The reply to a report, as it is held.
+fn write_report_whole(
+    alloc: Global,
+    out: &mut ObjectWriter,
+    report: &ReportReply,
+) -> Result<(), AllocError>
+    ensures { OnOk result (out.new ≡ added out.old (tokens_of (reply_data (replies.Report report.now)))) }
+{
+    write_report(
+        alloc,
+        out,
+        report.acks.as_slice(),
+        report.boot,
+        report.cut,
+        report.kills.as_slice(),
+        &report.launches,
+        report.seq,
+    )?;
+    Ok(())
 }
 
 // Done, with nothing to tell.

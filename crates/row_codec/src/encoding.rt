@@ -18,23 +18,15 @@ use std::mem;
 
 /// The row as compact JSON, its keys in byte order, in the format in which rows are written. It is put together in the room, whose memory is kept from
 /// row to row, and what it holds goes.
+#[tactic(auto, using(crate::proofs::Printed::row_printed))]
 pub fn encode(alloc: Global, row: &FarmRow, room: &mut Vec<u8>) -> Result<Items<u8>, AllocError>
     ensures { IfOk result (λ bytes. bytes ≡ row_text row.now) }
 {
-    let text = write_over(mem::replace(room, Vec::new(alloc)), row)?;
-    let bytes = Vec::from_slice(alloc, text.as_slice())?;
-    *room = text;
-    Ok(Items::from_vec(bytes))
-}
-
-// The row's text in the memory of the room.
-#[tactic(auto, using(crate::proofs::Printed::row_printed))]
-fn write_over(room: Vec<u8>, row: &FarmRow) -> Result<Vec<u8>, AllocError>
-    ensures { IfOk result (λ text. text.items ≡ row_text row.now) }
-{
-    let mut out = ObjectWriter::over(room);
+    let mut out = ObjectWriter::over(mem::replace(room, Vec::new(alloc)));
     write_row(&mut out, ROW_FORMAT, row)?;
-    Ok(out.into_vec())
+    let bytes = Vec::from_slice(alloc, out.bytes())?;
+    *room = out.into_room();
+    Ok(Items::from_vec(bytes))
 }
 
 /// The row as compact JSON, in that format.

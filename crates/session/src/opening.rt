@@ -62,7 +62,12 @@ fn open_new<K: Keeper>(alloc: Global, form: Form<'_>, keeper: K, moment: u64) ->
     the_demonstration_is_a_run();
     loads_are_runs();
     match Farm::make(alloc) {
-        Ok(farm) => begin(alloc, form, PlainRecorder::make(farm, keeper), moment),
+        Ok(farm) => begin(
+            alloc,
+            form,
+            PlainRecorder::make(alloc, farm, keeper),
+            moment,
+        ),
         Err(_) => Opening::Failed {
             keeper,
             fault: OpenFault::NoMemory,
@@ -109,7 +114,12 @@ fn open_recovered<K: Keeper>(
 {
     let mut keeper = keeper;
     match migrated(alloc, &mut keeper, &farm, format) {
-        Ok(()) => begin(alloc, form, PlainRecorder::make(farm, keeper), moment),
+        Ok(()) => begin(
+            alloc,
+            form,
+            PlainRecorder::make(alloc, farm, keeper),
+            moment,
+        ),
         Err(fault) => Opening::Failed { keeper, fault },
     }
 }

@@ -1,11 +1,12 @@
 //! The request that is a host's report.
 
-ghost use Rattle.std.specs.Prelude.{◌≡◌, ◌∷◌, OnOk, map};
+ghost use Rattle.std.specs.Prelude.{◌≡◌, ◌∷◌, OnOk, map, true};
 ghost use Rattle.json.specs.Token.{key};
 ghost use Rattle.serde_json.specs.Data.{array};
 ghost use Rattle.serde_json.specs.View.{items_of};
 ghost use Rattle.farm_lines.specs.RequestText.{done_item_data, report_line};
 ghost use Rattle.object_writer.specs.Tokens.{added, tokens_of};
+ghost use Rattle.object_writer.specs.Written.{is_plain};
 
 use crate::requests::members::write_cores_if;
 use farm_lines::{Report, write_attempts};
@@ -29,6 +30,7 @@ pub fn write_report(out: &mut ObjectWriter, report: &Report) -> Result<(), Alloc
 }
 
 fn write_done(out: &mut ObjectWriter, name: &str, items: &[DoneItem]) -> Result<(), AllocError>
+    requires { is_plain name.now ≡ true }
     ensures { OnOk result (out.new ≡ added out.old (key name.now ∷ tokens_of (array (items_of (map done_item_data items.now))))) }
 {
     out.begin_list(name)?;

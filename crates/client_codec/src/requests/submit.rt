@@ -1,11 +1,12 @@
 //! The request of a job's submit.
 
-ghost use Rattle.std.specs.Prelude.{◌≡◌, ◌∷◌, IfOk, OnOk, map};
+ghost use Rattle.std.specs.Prelude.{◌≡◌, ◌∷◌, IfOk, OnOk, map, true};
 ghost use Rattle.json.specs.Token.{key};
 ghost use Rattle.serde_json.specs.Data.{array};
 ghost use Rattle.serde_json.specs.View.{items_of};
 ghost use Rattle.farm_lines.specs.RequestText.{cores_text, layer_data, own_depend_data, spec_data, submit_line};
 ghost use Rattle.object_writer.specs.Tokens.{added, tokens_of};
+ghost use Rattle.object_writer.specs.Written.{is_plain};
 
 use crate::requests::members::{write_frame_if, write_text_if, write_texts};
 use farm_types::{Cores, DependSpec, JobSpec, LayerSpec, Text};
@@ -50,6 +51,7 @@ fn write_layers(
     name: &str,
     layers: &[LayerSpec],
 ) -> Result<(), AllocError>
+    requires { is_plain name.now ≡ true }
     ensures { OnOk result (out.new ≡ added out.old (key name.now ∷ tokens_of (array (items_of (map layer_data layers.now))))) }
 {
     out.begin_list(name)?;
@@ -92,6 +94,7 @@ fn write_depends(
     name: &str,
     depends: &[DependSpec],
 ) -> Result<(), AllocError>
+    requires { is_plain name.now ≡ true }
     ensures { OnOk result (out.new ≡ added out.old (key name.now ∷ tokens_of (array (items_of (map own_depend_data depends.now))))) }
 {
     out.begin_list(name)?;

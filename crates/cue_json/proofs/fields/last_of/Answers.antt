@@ -7,8 +7,8 @@ use Rattle.json.specs.Value.{value_view, members_view}
 use Rattle.json.proofs.Trees.{get_member-push}
 use Rattle.cue_json.proofs.fields.last_of.Goals as goal
 
-pub returns-then-eq : goal.returns-then-eq
-returns-then-eq c =
+pub returns-then-is_same : goal.returns-then-is_same
+returns-then-is_same c =
     let members = c.args.members.now in
     let place = c.loop-left.left - 1 in
     let member = c.index-members-left.result in

@@ -6,5 +6,5 @@ use Rattle.line_answers.proofs.answer_report.answer_report.Goals as goal
 
 pub returns-clause-answer : goal.returns-clause-answer
 returns-clause-answer g c =
-    told_report c.args.recorder.now.farm c.take_report-taken.new.recorder.farm c.args.report c.args.moment (shown c.taken_line.result) c.take_report-taken.result
-    (GoesOn g.K.Keeper.commits g.K.Keeper.tells g.K.Keeper.faults c.args.recorder.now.farm c.args.recorder.now.keeper c.take_report-taken.new.recorder.keeper) c.take_report-taken.ensures.taken c.taken_line.ensures
+    told_report c.args.recorder.now.farm c.take_report-taken.new.recorder.farm c.args.report c.args.moment (shown c.told_line.result) c.take_report-taken.result
+    (GoesOn g.K.Keeper.commits g.K.Keeper.tells g.K.Keeper.faults c.args.recorder.now.farm c.args.recorder.now.keeper c.take_report-taken.new.recorder.keeper) c.take_report-taken.ensures.taken c.told_line.ensures

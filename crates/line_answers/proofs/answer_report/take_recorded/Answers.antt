@@ -9,7 +9,9 @@ use Rattle.farm_lines.specs.declared.report.Report.{Report}
 use Rattle.recorder.specs.declared.refusal.CommitRefusal.{CommitRefusal}
 use Rattle.recorder.specs.Faults.{is_store_refusal}
 use Rattle.recorder.specs.Telling.{GoesOn, TellsCommit}
+use Rattle.farm_lines.specs.declared.reply.Reply.{Reply}
 use Rattle.line_answers.specs.Launches.{told}
+use Rattle.line_answers.specs.declared.told.Told.TheVariants as variants
 use Rattle.line_answers.specs.LineAnswers.{Hears, TakesRound}
 use Rattle.line_answers.specs.Reports.{TellsHost}
 use Rattle.line_answers.proofs.ReportLemmas.{heard_same, taken_report, unrecorded_report, unstored_round}
@@ -53,7 +55,7 @@ returns-in-Err-clause-taken g c = λ f before report is heard goes kept.
     let e = heard_entry report c.args.moment in
     let was : Hears f e (Err c.in-Err.why) now.farm = subst (λ (r : Result (Option ℕ) CommitRefusal). Hears f e r now.farm) c.in-Err.is heard in
     unrecorded_report f now.farm report c.args.moment c.in-Err.why _ (GoesOn g.K.Keeper.commits g.K.Keeper.tells g.K.Keeper.faults f before now.keeper) was
-    c.unrecorded_reply.ensures refl
+    (ap (λ (r : Reply). variants.Other r) c.unrecorded_reply.ensures) refl
     (unheard_goes g.K.Keeper.commits g.K.Keeper.tells g.K.Keeper.faults f now.farm report c.args.moment before now.keeper c.in-Err.why was
     (subst (λ (r : Result (Option ℕ) CommitRefusal). Continues g.K.Keeper.tells g.K.Keeper.faults before now.keeper (is_store_refusal r)) c.in-Err.is goes)
     (subst (λ (r : Result (Option ℕ) CommitRefusal). TellsCommit g.K.Keeper.commits f e r before now.keeper) c.in-Err.is kept))

@@ -3,7 +3,7 @@ use Rattle.std.proofs.Common.{◌≡◌, rules}
 use Rattle.farm_lines.specs.declared.reply.Reply.TheVariants as reply
 use Rattle.line_answers.specs.Lines.{IsLineOf, shown}
 use Rattle.line_answers.proofs.ReportLemmas.{line_of_other}
-use Rattle.line_answers.proofs.answer_report.taken_line.Goals as goal
+use Rattle.line_answers.proofs.answer_report.other_line.Goals as goal
 
 pub returns-in_default : goal.returns-in_default
 returns-in_default c =

@@ -1,0 +1,17 @@
+-- A key and a number.
+use Rattle.std.proofs.Common.{sym, ◌∙◌}
+use Rattle.std.proofs.Common.{decimal, rules}
+use Rattle.json.specs.Token.{key, number}
+use Rattle.json.proofs.Printed.Decimals.{IsNumber-decimal}
+use Rattle.object_writer.proofs.Pushed.{adds_member, member_tokens}
+use Rattle.object_writer.proofs.writer.ObjectWriter.whole.Goals as goal
+
+pub invariant_of-self-2 : goal.invariant_of-self-2
+invariant_of-self-2 c =
+    let old = c.self.inside in
+    (adds_member old.room.items c.write_member.new.room.items old.len c.in_ok-self-inside.field-0 old.after_value c.self.invariant c.args.name.now c.as_bytes.result.now (number (decimal c.args.value)) c.requires c.utf8.name (sym (c.as_bytes.ensures.value ∙ c.format.ensures.text)) (IsNumber-decimal c.args.value (search rules)) c.as_bytes.ensures.utf8 c.in_ok-self-inside.ensures.wrote).fills
+
+pub returns : goal.returns
+returns c =
+    let old = c.self.inside in
+    (adds_member old.room.items c.write_member.new.room.items old.len c.in_ok-self-inside.field-0 old.after_value c.self.invariant c.args.name.now c.as_bytes.result.now (number (decimal c.args.value)) c.requires c.utf8.name (sym (c.as_bytes.ensures.value ∙ c.format.ensures.text)) (IsNumber-decimal c.args.value (search rules)) c.as_bytes.ensures.utf8 c.in_ok-self-inside.ensures.wrote).tokens_are ∙ member_tokens _ c.args.self.now (key c.args.name.now) (number (decimal c.args.value)) c.self.view_is
