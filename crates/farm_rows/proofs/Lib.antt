@@ -5,4 +5,5 @@ pub mod FrameFits
 pub mod OneSlotMore
 pub mod RowOrder
 mod Exactness
+mod SeenRoom
 mod Turned

@@ -1,11 +1,11 @@
 //! Of changes one after the other, the last of each key, where it differs from the row that stands there.
 
-ghost use Rattle.std.specs.Prelude.{◌≡◌, ◌↔◌, IfOk, IsTrue};
+ghost use Rattle.std.specs.Prelude.{◌≡◌, ◌+◌, ◌↔◌, ℕ, IfOk, IsTrue, OnOk};
 ghost use Rattle.farm_types.specs.Farm.{Farm};
 ghost use Rattle.farm_rows.specs.Changes.{NamesExactly, change_key, row_after, row_at};
 ghost use Rattle.farm_rows.specs.declared.row_key.RowKey.{RowKey};
 ghost use Rattle.farm_rows.specs.Keys.{ChangesNothing};
-ghost use Rattle.farm_rows.specs.Seen.{IsTold, seen_parts};
+ghost use Rattle.farm_rows.specs.Seen.{HasRoom, IsTold, seen_parts};
 
 use crate::old_rows::OldRows;
 use crate::row_change::RowChange;
@@ -45,7 +45,9 @@ fn is_last_change<R: OldRows>(
     seen: &mut SeenKeys,
     change: &RowChange,
 ) -> Result<bool, AllocError>
-    ensures { IfOk result (IsTold (R.farm rows.now) change.now (seen_parts seen.old) (seen_parts seen.new)) }
+    requires { HasRoom seen.old 1 }
+    ensures told { IfOk result (IsTold (R.farm rows.now) change.now (seen_parts seen.old) (seen_parts seen.new)) }
+    ensures room { OnOk result ((n : ℕ) → HasRoom seen.old (n + 1) → HasRoom seen.new n) }
 {
     let new = seen.note(&change.key())?;
     Ok(new && !changes_nothing(rows, change))

@@ -1,11 +1,13 @@
 //! Keys that were seen.
 
-ghost use Rattle.std.specs.Prelude.{◌≡◌, [], not, IfOk, OnOk};
+ghost use Rattle.std.specs.Prelude.{◌≡◌, ◌+◌, ◌<◌, ◌≤◌, ℕ, [], not, IfOk, OnOk};
+ghost use Rattle.arrayvec.specs.ArrayVec.{array_vec_len};
 ghost use Rattle.farm_rows.specs.Keys.{has_parts, is_parts, key_parts, with_parts};
-ghost use Rattle.farm_rows.specs.Seen.{seen_parts};
+ghost use Rattle.farm_rows.specs.Seen.{HasRoom, seen_parts};
 
 use crate::key_parts::key_parts;
 use crate::row_key::RowKey;
+use arrayvec::ArrayVec;
 use indexmap::IndexSet;
 use std::alloc::{AllocError, Global};
 
@@ -14,50 +16,50 @@ const FEW: usize = 8;
 
 /// The keys that were seen so far: a few in a list, many in a hash table.
 #[derive(Drop)]
-pub(crate) struct SeenKeys {
-    are_few: bool,
-    few: Vec<(u8, u32, u32)>,
-    many: IndexSet<(u8, u32, u32)>,
+pub(crate) enum SeenKeys {
+    Few(ArrayVec<(u8, u32, u32), FEW>),
+    Many(IndexSet<(u8, u32, u32)>),
 }
 
 impl SeenKeys {
     /// None yet, where at most so many are to come.
     pub(crate) fn make(alloc: Global, most: usize) -> Result<SeenKeys, AllocError>
-        ensures { IfOk result (λ seen. seen_parts seen ≡ []) }
+        ensures none { IfOk result (λ seen. seen_parts seen ≡ []) }
+        ensures room { IfOk result (λ seen. HasRoom seen most) }
     {
-        let are_few = most <= FEW;
-        let room = if are_few { 0 } else { most };
-        Ok(SeenKeys {
-            are_few,
-            few: Vec::new(alloc),
-            many: IndexSet::with_capacity(alloc, room)?,
-        })
+        if most <= FEW {
+            return Ok(SeenKeys::Few(ArrayVec::new()));
+        }
+        Ok(SeenKeys::Many(IndexSet::with_capacity(alloc, most)?))
     }
 
     /// Notes the key, and says whether it is a new one.
     pub(crate) fn note(&mut self, key: &RowKey) -> Result<bool, AllocError>
+        requires { HasRoom self.old 1 }
         ensures new { IfOk result (λ new. new ≡ not (has_parts (seen_parts self.old) (key_parts key.now))) }
         ensures keys { OnOk result (seen_parts self.new ≡ with_parts (seen_parts self.old) (key_parts key.now)) }
+        ensures room { OnOk result ((n : ℕ) → HasRoom self.old (n + 1) → HasRoom self.new n) }
     {
         let parts = key_parts(key);
-        if self.are_few {
-            return note_few(&mut self.few, parts);
+        match self {
+            SeenKeys::Few(few) => Ok(note_few(few, parts)),
+            SeenKeys::Many(many) => Ok(many.insert(parts)?),
         }
-        let new = self.many.insert(parts)?;
-        Ok(new)
     }
 }
 
 // Notes a key in a list.
-fn note_few(seen: &mut Vec<(u8, u32, u32)>, parts: (u8, u32, u32)) -> Result<bool, AllocError>
-    ensures new { IfOk result (λ new. new ≡ not (has_parts seen.old.items parts)) }
-    ensures keys { OnOk result (seen.new.items ≡ with_parts seen.old.items parts) }
+fn note_few(seen: &mut ArrayVec<(u8, u32, u32), FEW>, parts: (u8, u32, u32)) -> bool
+    requires { array_vec_len seen.old < FEW }
+    ensures new { result ≡ not (has_parts seen.old.items parts) }
+    ensures keys { seen.new.items ≡ with_parts seen.old.items parts }
+    ensures most { array_vec_len seen.new ≤ array_vec_len seen.old + 1 }
 {
     if has_parts(seen.as_slice(), &parts) {
-        return Ok(false);
+        return false;
     }
-    seen.push(parts)?;
-    Ok(true)
+    seen.push(parts);
+    true
 }
 
 fn has_parts(seen: &[(u8, u32, u32)], parts: &(u8, u32, u32)) -> bool
