@@ -1,8 +1,8 @@
 //! The distinct numbers of a set in order, and the place of each.
 
 use crate::limits::MOST_NUMBERS;
+use indexmap::IndexSet;
 use std::alloc::{AllocError, AllocFailed, Global};
-use std::collections::HashMap;
 use std::marker::Model;
 
 /// Why a number isn't listed.
@@ -39,27 +39,24 @@ impl<T: Drop> From<AllocFailed<T>> for ListFault {
 /// Distinct numbers in the order in which they were listed, at most 10,000.
 #[derive(Drop)]
 pub struct Listing {
-    numbers: Vec<i32>,
-    places: HashMap<i32, usize>,
+    numbers: IndexSet<i32>,
 }
 
 impl Model for Listing {
-    ghost use Rattle.std.specs.Prelude.{◌≡◌, ◌≤◌, List, ℤ, length};
-    ghost use Rattle.std.specs.HashMap.{get};
-    ghost use Rattle.std.specs.Ordering.{int_eq};
-    ghost use Rattle.frame_range.specs.Places.{place_of};
+    ghost use Rattle.std.specs.Prelude.{◌≤◌, List, ℤ};
+    ghost use Rattle.indexmap.specs.IndexSet.{index_set_len};
     ghost use Rattle.frame_range.specs.declared.limits.TheConstants.{MOST_NUMBERS};
 
     ghost Value = { List ℤ };
 
-    ghost view = { λ a. a.numbers.items };
+    ghost view = { λ listing. listing.numbers.keys };
 
-    ghost invariant = { λ a. ((z : ℤ) → get int_eq a.places z ≡ place_of z a.numbers.items) × (length a.numbers.items ≤ MOST_NUMBERS) };
+    ghost invariant = { λ listing. index_set_len listing.numbers ≤ MOST_NUMBERS };
 }
 
 impl Listing {
     ghost use Rattle.std.specs.Prelude.{◌≡◌, ◌≤◌, [], ◌∷◌, length};
-    ghost use Rattle.frame_range.specs.Places.{place_of, has};
+    ghost use Rattle.frame_range.specs.Places.{place_of};
     ghost use Rattle.frame_range.specs.declared.limits.TheConstants.{MOST_NUMBERS};
     ghost use Rattle.frame_range.specs.Listing.{Lists};
 
@@ -68,8 +65,7 @@ impl Listing {
         ensures { result ≡ [] }
     {
         Listing {
-            numbers: Vec::new(alloc),
-            places: HashMap::new(alloc),
+            numbers: IndexSet::new(alloc),
         }
     }
 
@@ -85,23 +81,20 @@ impl Listing {
     pub fn position(&self, number: i32) -> Option<usize>
         ensures { result ≡ place_of number self.now }
     {
-        self.places.get(&number).copied()
+        self.numbers.get_index_of(&number)
     }
 
     /// Lists the number at the end, where it isn't listed yet.
     pub fn list(&mut self, number: i32) -> Result<(), ListFault>
         ensures { Lists self.old (number ∷ []) result self.new }
     {
-        if self.places.contains_key(&number) {
+        if self.numbers.len() < MOST_NUMBERS {
+            self.numbers.insert(number)?;
             return Ok(());
         }
-        let place = self.numbers.len();
-        if place == MOST_NUMBERS {
-            return Err(ListFault::TooMany);
+        if self.numbers.contains(&number) {
+            return Ok(());
         }
-        self.numbers.reserve(1)?;
-        self.places.insert(number, place)?;
-        self.numbers.push(number).unwrap();
-        Ok(())
+        Err(ListFault::TooMany)
     }
 }
