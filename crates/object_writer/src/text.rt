@@ -1,14 +1,19 @@
 //! A text in the first bytes of a vector, which is written on where it ends. Each call gives where it ends then; at an error the text is as before.
+//! A member's name is put in place, so that a literal's bytes are known there.
 
-ghost use Rattle.std.specs.Prelude.{◌≡◌, ◌+◌, ◌≤◌, ◌++◌, ◌∷◌, [], cond, length, take, IfOk, OnErr, OnOk};
+ghost use Rattle.std.specs.Prelude.{◌≡◌, ◌+◌, ◌≤◌, ◌++◌, ◌∷◌, [], cond, decimal, length, take, IfOk, OnErr, OnOk};
+ghost use Rattle.std.specs.Fmt.{signed_decimal};
 ghost use Rattle.json.specs.Print.{quoted};
 ghost use Rattle.object_writer.specs.Written.{HasWritten, KeepsText};
 
-use crate::put::{escaped, is_plain, put, put_comma, put_name, put_quoted, put_text};
+use crate::put::{
+    escaped, is_plain, put, put_comma, put_decimal, put_name, put_quoted, put_signed, put_text,
+};
 use json::Token;
 use std::alloc::AllocError;
 
 /// Bytes as they are, with the comma that stands before them.
+#[inline(always)]
 pub(crate) fn write_bare(
     room: &mut Vec<u8>,
     len: usize,
@@ -26,6 +31,7 @@ pub(crate) fn write_bare(
 }
 
 /// A member whose name is plain, and whose value's bytes stand for themselves.
+#[inline(always)]
 pub(crate) fn write_member(
     room: &mut Vec<u8>,
     len: usize,
@@ -45,7 +51,48 @@ pub(crate) fn write_member(
     Ok(put(bytes, at, value))
 }
 
+/// A member whose name is plain, and whose value is a whole number.
+#[inline(always)]
+pub(crate) fn write_number(
+    room: &mut Vec<u8>,
+    len: usize,
+    comma: bool,
+    name: &str,
+    value: u64,
+) -> Result<usize, AllocError>
+    requires { len ≤ length room.old.items }
+    ensures kept { OnErr result (KeepsText room.old.items room.new.items len) }
+    ensures wrote { IfOk result (HasWritten room.old.items room.new.items len
+        (cond comma (44 ∷ []) [] ++ 34 ∷ (name.now ++ 34 ∷ 58 ∷ decimal value))) }
+{
+    make_room(room, len, name.len() + 44)?;
+    let bytes = room.as_mut_slice();
+    let at = put_name(bytes, len, comma, name.as_bytes());
+    Ok(put_decimal(bytes, at, value))
+}
+
+/// A member whose name is plain, and whose value is a number with a sign.
+#[inline(always)]
+pub(crate) fn write_signed(
+    room: &mut Vec<u8>,
+    len: usize,
+    comma: bool,
+    name: &str,
+    value: i32,
+) -> Result<usize, AllocError>
+    requires { len ≤ length room.old.items }
+    ensures kept { OnErr result (KeepsText room.old.items room.new.items len) }
+    ensures wrote { IfOk result (HasWritten room.old.items room.new.items len
+        (cond comma (44 ∷ []) [] ++ 34 ∷ (name.now ++ 34 ∷ 58 ∷ signed_decimal value))) }
+{
+    make_room(room, len, name.len() + 44)?;
+    let bytes = room.as_mut_slice();
+    let at = put_name(bytes, len, comma, name.as_bytes());
+    Ok(put_signed(bytes, at, value))
+}
+
 /// A member whose name is plain, and whose value is a text. It is written as it is where its bytes stand for themselves.
+#[inline(always)]
 pub(crate) fn write_text(
     room: &mut Vec<u8>,
     len: usize,
@@ -59,32 +106,35 @@ pub(crate) fn write_text(
         (cond comma (44 ∷ []) [] ++ 34 ∷ (name.now ++ 34 ∷ 58 ∷ quoted value.now))) }
 {
     if !is_plain(value.as_bytes()) {
-        let text = escaped(*room.allocator(), Token::String(value))?;
-        return write_value(room, len, comma, name, text.as_slice());
+        return write_escaped(room, len, comma, name, value);
     }
     write_plain_text(room, len, comma, name, value)
 }
 
-// A member whose name is plain, and whose value's bytes stand for themselves, however many they are.
-fn write_value(
+// The same of a text that has escapes, which few have.
+#[cold]
+#[inline(never)]
+fn write_escaped(
     room: &mut Vec<u8>,
     len: usize,
     comma: bool,
     name: &str,
-    value: &[u8],
+    value: &str,
 ) -> Result<usize, AllocError>
     requires { len ≤ length room.old.items }
     ensures kept { OnErr result (KeepsText room.old.items room.new.items len) }
     ensures wrote { IfOk result (HasWritten room.old.items room.new.items len
-        (cond comma (44 ∷ []) [] ++ 34 ∷ (name.now ++ 34 ∷ 58 ∷ value.now))) }
+        (cond comma (44 ∷ []) [] ++ 34 ∷ (name.now ++ 34 ∷ 58 ∷ quoted value.now))) }
 {
-    make_room(room, len, sum(name.len(), value.len() + 4)?)?;
+    let text = escaped(*room.allocator(), Token::String(value))?;
+    make_room(room, len, sum(name.len(), text.len() + 4)?)?;
     let bytes = room.as_mut_slice();
     let at = put_name(bytes, len, comma, name.as_bytes());
-    Ok(put(bytes, at, value))
+    Ok(put(bytes, at, text.as_slice()))
 }
 
 // The same of a text in quotes.
+#[inline(always)]
 fn write_plain_text(
     room: &mut Vec<u8>,
     len: usize,
@@ -104,6 +154,7 @@ fn write_plain_text(
 }
 
 // So many bytes together, for which there is no memory where they are past all numbers.
+#[inline(always)]
 fn sum(one: usize, other: usize) -> Result<usize, AllocError>
     ensures { IfOk result (λ sum. sum ≡ one + other) }
 {
@@ -114,6 +165,7 @@ fn sum(one: usize, other: usize) -> Result<usize, AllocError>
 }
 
 /// A text in quotes, with the comma that stands before it.
+#[inline(always)]
 pub(crate) fn write_quoted(
     room: &mut Vec<u8>,
     len: usize,
@@ -132,6 +184,7 @@ pub(crate) fn write_quoted(
 }
 
 // The same of a text whose bytes stand for themselves.
+#[inline(always)]
 fn write_plain(
     room: &mut Vec<u8>,
     len: usize,

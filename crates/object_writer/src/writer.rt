@@ -8,7 +8,7 @@ ghost use Rattle.object_writer.specs.Tokens.{added};
 ghost use Rattle.object_writer.specs.Written.{is_plain};
 
 use crate::put::truth_word;
-use crate::text::{write_bare, write_member, write_quoted, write_text};
+use crate::text::{write_bare, write_member, write_number, write_quoted, write_signed, write_text};
 use farm_types::{AllocNo, Cores, HostNo, Items, JobNo, Kb, ShowNo, Slot, Text, Version};
 use std::alloc::{AllocError, Global};
 use std::marker::Model;
@@ -95,6 +95,7 @@ impl ObjectWriter {
     }
 
     /// The beginning of an object: of the whole, or of an item of a list.
+    #[inline(always)]
     pub fn begin_object(&mut self) -> Result<(), AllocError>
         ensures { OnOk result (self.new ≡ added self.old (begin_object ∷ [])) }
     {
@@ -104,6 +105,7 @@ impl ObjectWriter {
     }
 
     /// The end of the object.
+    #[inline(always)]
     pub fn end_object(&mut self) -> Result<(), AllocError>
         ensures { OnOk result (self.new ≡ added self.old (end_object ∷ [])) }
     {
@@ -113,6 +115,7 @@ impl ObjectWriter {
     }
 
     /// The key of a member whose value is written next.
+    #[inline(always)]
     pub fn key(&mut self, name: &str) -> Result<(), AllocError>
         requires { is_plain name.now ≡ true }
         ensures { OnOk result (self.new ≡ added self.old (key name.now ∷ [])) }
@@ -123,6 +126,7 @@ impl ObjectWriter {
     }
 
     /// A member that is a list, up to its first item.
+    #[inline(always)]
     pub fn begin_list(&mut self, name: &str) -> Result<(), AllocError>
         requires { is_plain name.now ≡ true }
         ensures { OnOk result (self.new ≡ added self.old (key name.now ∷ begin_array ∷ [])) }
@@ -133,6 +137,7 @@ impl ObjectWriter {
     }
 
     /// The end of the list.
+    #[inline(always)]
     pub fn end_list(&mut self) -> Result<(), AllocError>
         ensures { OnOk result (self.new ≡ added self.old (end_array ∷ [])) }
     {
@@ -142,23 +147,18 @@ impl ObjectWriter {
     }
 
     /// A member that is a whole number.
+    #[inline(always)]
     pub fn whole(&mut self, name: &str, value: u64) -> Result<(), AllocError>
         requires { is_plain name.now ≡ true }
         ensures { OnOk result (self.new ≡ added self.old (key name.now ∷ number (decimal value) ∷ [])) }
     {
-        let mut digits = itoa::Buffer::new();
-        self.len = write_member(
-            &mut self.room,
-            self.len,
-            self.after_value,
-            name,
-            digits.format(value).as_bytes(),
-        )?;
+        self.len = write_number(&mut self.room, self.len, self.after_value, name, value)?;
         self.after_value = true;
         Ok(())
     }
 
     /// A member that is an amount of cores, in hundredths of a core.
+    #[inline(always)]
     pub fn cores(&mut self, name: &str, cores: Cores) -> Result<(), AllocError>
         requires { is_plain name.now ≡ true }
         ensures { OnOk result (self.new ≡ added self.old (key name.now ∷ number (decimal cores) ∷ [])) }
@@ -167,6 +167,7 @@ impl ObjectWriter {
     }
 
     /// A member that is an amount of memory, in KB.
+    #[inline(always)]
     pub fn memory(&mut self, name: &str, memory: Kb) -> Result<(), AllocError>
         requires { is_plain name.now ≡ true }
         ensures { OnOk result (self.new ≡ added self.old (key name.now ∷ number (decimal memory) ∷ [])) }
@@ -175,6 +176,7 @@ impl ObjectWriter {
     }
 
     /// A member that is the number of a frame slot.
+    #[inline(always)]
     pub fn slot(&mut self, name: &str, slot: Slot) -> Result<(), AllocError>
         requires { is_plain name.now ≡ true }
         ensures { OnOk result (self.new ≡ added self.old (key name.now ∷ number (decimal slot) ∷ [])) }
@@ -183,6 +185,7 @@ impl ObjectWriter {
     }
 
     /// A member that is the version of a slot.
+    #[inline(always)]
     pub fn version(&mut self, name: &str, version: Version) -> Result<(), AllocError>
         requires { is_plain name.now ≡ true }
         ensures { OnOk result (self.new ≡ added self.old (key name.now ∷ number (decimal version) ∷ [])) }
@@ -191,6 +194,7 @@ impl ObjectWriter {
     }
 
     /// A member that is a job's number.
+    #[inline(always)]
     pub fn job(&mut self, name: &str, job: JobNo) -> Result<(), AllocError>
         requires { is_plain name.now ≡ true }
         ensures { OnOk result (self.new ≡ added self.old (key name.now ∷ number (decimal job) ∷ [])) }
@@ -199,6 +203,7 @@ impl ObjectWriter {
     }
 
     /// A member that is a show's number.
+    #[inline(always)]
     pub fn show(&mut self, name: &str, show: ShowNo) -> Result<(), AllocError>
         requires { is_plain name.now ≡ true }
         ensures { OnOk result (self.new ≡ added self.old (key name.now ∷ number (decimal show) ∷ [])) }
@@ -207,6 +212,7 @@ impl ObjectWriter {
     }
 
     /// A member that is an allocation's number.
+    #[inline(always)]
     pub fn alloc(&mut self, name: &str, alloc: AllocNo) -> Result<(), AllocError>
         requires { is_plain name.now ≡ true }
         ensures { OnOk result (self.new ≡ added self.old (key name.now ∷ number (decimal alloc) ∷ [])) }
@@ -215,6 +221,7 @@ impl ObjectWriter {
     }
 
     /// A member that is a host's number.
+    #[inline(always)]
     pub fn host(&mut self, name: &str, host: HostNo) -> Result<(), AllocError>
         requires { is_plain name.now ≡ true }
         ensures { OnOk result (self.new ≡ added self.old (key name.now ∷ number (decimal host) ∷ [])) }
@@ -223,6 +230,7 @@ impl ObjectWriter {
     }
 
     /// A member that is a whole number of 32 bits.
+    #[inline(always)]
     pub fn number(&mut self, name: &str, value: u32) -> Result<(), AllocError>
         requires { is_plain name.now ≡ true }
         ensures { OnOk result (self.new ≡ added self.old (key name.now ∷ number (decimal value) ∷ [])) }
@@ -231,23 +239,18 @@ impl ObjectWriter {
     }
 
     /// A member that is a whole number with a sign.
+    #[inline(always)]
     pub fn signed(&mut self, name: &str, value: i32) -> Result<(), AllocError>
         requires { is_plain name.now ≡ true }
         ensures { OnOk result (self.new ≡ added self.old (key name.now ∷ number (signed_decimal value) ∷ [])) }
     {
-        let mut digits = itoa::Buffer::new();
-        self.len = write_member(
-            &mut self.room,
-            self.len,
-            self.after_value,
-            name,
-            digits.format(i64::from(value)).as_bytes(),
-        )?;
+        self.len = write_signed(&mut self.room, self.len, self.after_value, name, value)?;
         self.after_value = true;
         Ok(())
     }
 
     /// A member that is a text.
+    #[inline(always)]
     pub fn text(&mut self, name: &str, value: &str) -> Result<(), AllocError>
         requires { is_plain name.now ≡ true }
         ensures { OnOk result (self.new ≡ added self.old (key name.now ∷ string value.now ∷ [])) }
@@ -258,6 +261,7 @@ impl ObjectWriter {
     }
 
     /// A member that is true or false.
+    #[inline(always)]
     pub fn truth(&mut self, name: &str, value: bool) -> Result<(), AllocError>
         requires { is_plain name.now ≡ true }
         ensures { OnOk result (self.new ≡ added self.old (key name.now ∷ boolean value ∷ [])) }
@@ -274,6 +278,7 @@ impl ObjectWriter {
     }
 
     /// An item of a list that is a text.
+    #[inline(always)]
     pub fn text_item(&mut self, value: &str) -> Result<(), AllocError>
         ensures { OnOk result (self.new ≡ added self.old (string value.now ∷ [])) }
     {

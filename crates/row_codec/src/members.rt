@@ -29,6 +29,7 @@ pub fn write_texts(
 }
 
 /// A member that is a whole number with a sign.
+#[inline(always)]
 #[tactic(auto, using(crate::proofs::Numbers::signed_text))]
 pub fn write_signed(out: &mut ObjectWriter, name: &str, value: i32) -> Result<(), AllocError>
     requires { is_plain name.now ≡ true }
@@ -38,6 +39,7 @@ pub fn write_signed(out: &mut ObjectWriter, name: &str, value: i32) -> Result<()
 }
 
 /// A member that is a whole number with a sign, where there is one.
+#[inline(always)]
 pub fn write_signed_if(
     out: &mut ObjectWriter,
     name: &str,
@@ -54,6 +56,7 @@ pub fn write_signed_if(
 }
 
 /// A member that is a text, where there is one.
+#[inline(always)]
 pub fn write_text_if(
     out: &mut ObjectWriter,
     name: &str,
