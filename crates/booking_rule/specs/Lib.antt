@@ -1,0 +1,13 @@
+pub mod Totals
+pub mod Words
+pub mod Recorded
+pub mod Views
+pub mod Rule
+pub mod Link
+pub mod Amounts
+pub mod Looks
+pub mod Ranges
+pub mod Suits
+pub mod Seats
+pub mod Kept
+pub mod Splits
