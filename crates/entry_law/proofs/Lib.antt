@@ -1,0 +1,17 @@
+pub mod HostRows
+pub mod SlotGoes
+pub mod RowsGo
+pub mod ActsGo
+pub mod FrameRows
+pub mod Opened
+pub mod FollowsGo
+pub mod RowsOf
+pub mod Closes
+pub mod Stands
+pub mod Rising
+pub mod Billing
+pub mod RowStands
+pub mod Alone
+pub mod RowsGrow
+pub mod Sizes
+pub mod Running
