@@ -1,0 +1,12 @@
+pub mod Bits
+pub mod Agreeing
+pub mod Within
+pub mod Seated
+pub mod Taking
+pub mod Rooms
+pub mod Claiming
+pub mod Sharing
+pub mod Keeps
+pub mod Journals
+pub mod Wrapping
+pub mod Whole

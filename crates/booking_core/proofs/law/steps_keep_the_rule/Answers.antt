@@ -1,0 +1,5 @@
+use Rattle.booking_core.proofs.Keeps.{steps_hold}
+use Rattle.booking_core.proofs.law.steps_keep_the_rule.Goals as goal
+
+pub returns : goal.returns
+returns c = steps_hold
