@@ -1,0 +1,4 @@
+pub mod Allowed
+pub mod Stepping
+pub mod Claims
+pub mod Looked

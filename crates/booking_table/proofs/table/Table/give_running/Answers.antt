@@ -1,0 +1,24 @@
+use Rattle.std.proofs.Common.{◌≡◌, ℕ, ◌+◌, ◌-◌, ◌%◌, ◌^◌, arith, rules, refl, ap}
+use Rattle.booking_rule.specs.Words.{limit_place}
+use Rattle.booking_table.specs.declared.doing.Doing.{Doing}
+use Rattle.booking_table.specs.declared.doing.Doing.TheVariants as doing
+use Rattle.booking_table.specs.Seats.{view}
+use Rattle.booking_table.specs.Steps.{tells_of}
+use Rattle.booking_table.proofs.Allowed.{moved}
+use Rattle.booking_table.proofs.Stepping.{may_give_limit}
+use Rattle.booking_table.proofs.table.Table.give_running.Goals as goal
+
+pub take_off-requires-clause-may : goal.take_off-requires-clause-may
+take_off-requires-clause-may c =
+    let v = view c.args.seat.now in
+    let id = c.args.seat.now.id in
+    let law = c.steps_keep_the_rule.ensures in
+    let r = c.requires in
+    let d : Doing = doing.GiveLimit c.args.limit in
+    let at : c.from.result ≡ c.args.limit = search rules in
+    let place : c.from.result + 136193 ≡ limit_place c.args.limit = ap (λ (x : ℕ). x + 136193) at in
+    let amount : ◌≡◌ {A = ℕ} 1 1 = refl in (
+      omega (arith, place, r.within),
+      moved (tells_of d) v id (λ (x n : ℕ). (n + (2 ^ 64 - x)) % 2 ^ 64) (c.from.result + 136193) (limit_place c.args.limit) 1 1 place amount
+          (may_give_limit law v id c.args.limit (λ s. (r.may, r.within, r.held))),
+    )
