@@ -1,0 +1,14 @@
+//! What the farm says that each shared word has to be, and which words a change of its rows is about.
+#![tactic(auto)]
+
+mod bounds;
+mod law;
+mod slot_words;
+mod turn;
+mod turns;
+
+pub use bounds::{HostSize, burst, host_size, most};
+pub use law::{turns_cover, turns_finish};
+pub use slot_words::{amount_word, frame_word};
+pub use turn::{Turn, turn_of};
+pub use turns::turns_of;
