@@ -5,6 +5,7 @@ use Rattle.std.specs.Prelude.{Option}
 use Rattle.std.proofs.lemmas.List.{set-get_or}
 use mathlib.Core.Logic.{dite}
 use native.Mathlib.Decide.{ℕ_discrete}
+use Rattle.farm_types.specs.Farm.{Farm}
 use Rattle.farm_types.specs.Limits.{IsBetween}
 use Rattle.farm_types.specs.declared.limits.TheConstants.{LEAST_CORES, MOST_CORES, LEAST_MEMORY, MOST_MEMORY}
 use Rattle.frame_words.specs.declared.frame_word.FrameWord.{FrameWord}
@@ -23,6 +24,7 @@ use Rattle.booking_rule.specs.Rule.{Account, weight, sum_of, cores_of, memory_of
 use Rattle.booking_rule.specs.Rule.{is_pending, is_claimed, claim_in, claims_like, claims_at, Claims, Rule}
 use Rattle.booking_rule.specs.Amounts.{IsWritten, last_amount, Written}
 use Rattle.booking_rule.specs.Ranges.{IsFoundUsed, Ranged}
+use Rattle.booking_rule.specs.Resizing.{Resizing}
 use Rattle.booking_rule.specs.Kept.{Kept, Holds}
 use Rattle.booking_rule.proofs.Sums.{sum_to-same}
 use Rattle.booking_rule.proofs.Moves.{put_here, put_else}
@@ -85,6 +87,16 @@ module _ (W X : Words) (same : Agrees W X) where
   written_agrees : (trail : List Noted) → Written W.amount trail → Written X.amount trail
   written_agrees trail w = record { each = λ slot lt. of_slot (λ x. IsWritten x.1 (last_amount slot trail)) slot lt (w.each slot lt) }
 
+  resizing_agrees : (cores memory : ℕ → ℕ) (f : Farm) (views : List View) → Resizing cores memory f W.host W.frame views → Resizing cores memory f X.host X.frame views
+  resizing_agrees cores memory f views r = record {
+    each = λ host lt is. (let e = r.each host lt is in record {
+      cores = ap (λ (x : HostWord). x.cores) (same.host host lt) ∙ e.cores;
+      memory = ap (λ (x : HostWord). x.memory) (same.host host lt) ∙ e.memory;
+      unclaimed = λ slot l. subst (λ (x : FrameWord). x.host ≡ host → x.phase ≢ 3) (sym (same.frame slot l)) (e.unclaimed slot l);
+      others = e.others;
+    });
+  }
+
   pub kept_agrees : (n : ℕ) (views : List View) → Kept n W views → Kept n X views
   kept_agrees n views K =
       let A = K.own in
@@ -99,11 +111,14 @@ module _ (W X : Words) (same : Agrees W X) where
           begins = A.begins;
           legal = A.legal;
           before = A.before;
+          alone = A.alone;
+          ahead = record { each = λ slot lt is. ap (λ (x : FrameWord). x.host) (same.frame slot lt) ∙ A.ahead.each slot lt is };
           rule = rule_agrees _ K.desk.pending views A.rule;
           suited = A.suited;
           looks = A.looks;
           ranged = ranged_agrees views A.ranged;
           written = written_agrees K.trail A.written;
+          resizing = resizing_agrees _ _ _ views A.resizing;
           seats = A.seats;
         };
       }

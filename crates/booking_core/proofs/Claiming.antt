@@ -25,7 +25,7 @@ use Rattle.booking_core.specs.Kinds.Kind.{claims, drops}
 use Rattle.booking_core.specs.Machine.{Table, word, IsFormedClaim, Asks, acts}
 use Rattle.booking_core.proofs.Bits.{frame_back}
 use Rattle.booking_core.proofs.Agreeing.{frame_holds, same_holds, exchange_holds}
-use Rattle.booking_core.proofs.Seated.{seated_of, finds_frame}
+use Rattle.booking_core.proofs.Seated.{seated_of, finds_frame, settled_own, settled_idle}
 
 pub waiting_fits : (c : Claim) → IsFormedClaim c → FitsFrame (waiting_for c)
 waiting_fits c formed = (omega arith, omega (arith, formed.2.1), omega arith, formed.2.3)
@@ -59,7 +59,8 @@ module _ (s : Table) (id : ℕ) (v : View) (h : Holds s) (at : get_elem? s.views
       let bill = bills (slice_index s.words 0) W s.views id v h.1 at c asks.2.0 below (omega (arith, least)) was asks.3.2 suits in
       frame_holds s id c.slot (frame_bits (setup_for c)) (claimed v c won) h.0 (setup_for c) asks.2.0 (frame_back (setup_for c) asks.2.2)
       (claim_kept (slice_index s.words 0) W s.views id v won h.1 at seated (finds_frame s won c.slot asks.2.0 refl refl) refl c (c.version - 1) seen.0 asks.2.0
-      (omega (arith, asks.2.1)) below was bill seen.1 seen.2 seen.3 asks.3.0 asks.3.1 asks.3.2 suits))
+      (omega (arith, asks.2.1)) below was bill seen.1 seen.2 seen.3 asks.3.0 asks.3.1 asks.3.2 suits
+      (settled_own (slice_index s.words 0) W s.views id v h.1 at c.host (settled_idle v c.host asks.1))))
       (λ _. same_holds s id (frame_place c.slot) (noted v lost) h.0
       (load_kept (slice_index s.words 0) W s.views id v lost h.1 at seated (finds_frame s lost c.slot asks.2.0 refl refl) refl))
 

@@ -17,7 +17,7 @@ use Rattle.booking_core.specs.Machine.{Table, word, Asks, acts}
 use Rattle.booking_core.proofs.Bits.{host_back, host_more}
 use Rattle.booking_core.proofs.Agreeing.{after_step, host_holds, same_holds, exchange_holds}
 use Rattle.booking_core.proofs.Within.{room_within}
-use Rattle.booking_core.proofs.Seated.{finds_count}
+use Rattle.booking_core.proofs.Seated.{finds_count, settled_own}
 
 -- what a load found is what stands there
 loads_found : (s : Table) (i : ℕ) → IsFound (words_of s.words) (look_at i (word s i))
@@ -70,4 +70,5 @@ module _ (s : Table) (id : ℕ) (v : View) (h : Holds s) (at : get_elem? s.views
       let item = host_given host (host_amounts cores memory) n in
       let b = room_within (slice_index s.words 0) W s.views id v h.1 at host cores memory asks.1 asks.2 in
       host_holds s id host (n + host_amounts cores memory) (gave_host v host cores memory n) h.0 _ asks.1 (host_more n cores memory (omega (arith, b.1)))
-      (give_host_kept (slice_index s.words 0) W s.views id v item h.1 at asks.0.0 (finds_count W item (omega arith)) refl host cores memory asks.1 asks.2)
+      (give_host_kept (slice_index s.words 0) W s.views id v item h.1 at asks.0.0 (finds_count W item (omega arith)) refl host cores memory asks.1
+      (settled_own (slice_index s.words 0) W s.views id v h.1 at host asks.3) asks.2)

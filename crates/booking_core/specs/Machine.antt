@@ -12,7 +12,9 @@ use Rattle.booking_rule.specs.declared.desk.Desk.{Desk}
 use Rattle.booking_rule.specs.declared.hold.Claim.{Claim}
 use Rattle.booking_rule.specs.Words.{all_words}
 use Rattle.booking_rule.specs.Views.{take_of, room_of, same_take, same_limit, same_room, same_claim, holds, holds_limit, take_in, room_in}
-use Rattle.booking_rule.specs.Link.{farm_of, IsDone}
+use Rattle.booking_rule.specs.Link.{farm_of, recorded_in, IsDone}
+use Rattle.booking_rule.specs.Kept.{farm_in}
+use Rattle.booking_rule.specs.Resizing.{IsResized}
 use Rattle.booking_rule.specs.Looks.{Look, HasLook}
 use Rattle.booking_rule.specs.Seats.{seats, IsSeated}
 use Rattle.booking_rule.specs.Suits.{SuitsOnce}
@@ -37,6 +39,12 @@ CanTake v = (seats v ≡ 1) × (v.ungranted ≡ None) × (v.ungranted_limit ≡ 
 -- the recorder's seat gives nothing back while the words are placed for the first time
 abbrev pub MayGive : View → Type 0
 MayGive v = IsSeated v × ((d : Desk) → v.desk ≡ Some d → d.before ≢ None)
+
+-- the recorder's seat keeps its room on a host that is to be resized
+abbrev pub MayGiveRoom : View → ℕ → Type 0
+MayGiveRoom v host =
+    (d : Desk) → v.desk ≡ Some d
+    → IsResized ((recorded_in v.opening v.journal d).cores host) ((recorded_in v.opening v.journal d).memory host) (farm_in v) host → ⊥
 
 -- the recorder's seat claims only where no word has to be changed and none runs ahead
 abbrev pub IsIdle : View → Type 0
@@ -67,7 +75,7 @@ Asks s id v (takes_limit limit) = CanTake v × (limit < 255)
 Asks s id v (gives_limit limit) = MayGive v × (limit < 255) × (holds same_limit limit v.limits ≡ true)
 Asks s id v (retracts_limit limit) = IsSeated v × (limit < 255) × (v.ungranted_limit ≡ Some limit)
 Asks s id v (takes_host host cores memory expected) = IsSeated v × (host < 4096) × (cores ≤ (host_of expected).cores) × (memory ≤ (host_of expected).memory)
-Asks s id v (gives_host host cores memory) = MayGive v × (host < 4096) × (holds same_room (room_of host cores memory) v.rooms ≡ true)
+Asks s id v (gives_host host cores memory) = MayGive v × (host < 4096) × (holds same_room (room_of host cores memory) v.rooms ≡ true) × MayGiveRoom v host
 Asks s id v (claims c) = (seats v ≡ 1) × IsIdle v × IsFormedClaim c × HoldsFor v c × HasSeen v c × SuitsOnce (farm_of v.opening) v.journal c
 Asks s id v (drops c) = IsSeated v × IsFormedClaim c × (holds same_claim c v.claims ≡ true)
 Asks s id v settles = Unit {0}

@@ -7,6 +7,7 @@ use mathlib.Core.Logic.{dite}
 use native.Mathlib.Decide.{ℕ_discrete}
 use lib.ListN.{get_elem?}
 use Rattle.farm_types.specs.declared.entry.Entry.{Entry}
+use Rattle.farm_types.specs.Run.{run_of}
 use Rattle.farm_types.specs.declared.limits.TheConstants.{LEAST_MEMORY, MOST_MEMORY}
 use Rattle.farm_types.specs.Limits.{IsBetween}
 use Rattle.frame_words.specs.declared.frame_word.FrameWord.{FrameWord}
@@ -31,6 +32,7 @@ use Rattle.booking_rule.proofs.Seeing.{suited_set, looks_set, ranged_step}
 use Rattle.booking_rule.proofs.Keeping.{found_finds}
 use Rattle.booking_rule.proofs.Own.{of_first, rule_like}
 use Rattle.booking_rule.proofs.Seating.{desk_steps}
+use Rattle.booking_rule.proofs.Resizing.{resizing_desk}
 
 -- ---- the rule
 
@@ -129,6 +131,8 @@ amount_kept n W views id v d slot a item K at is lt did place word wrote free be
         begins = A.begins;
         legal = A.legal;
         before = A.before;
+        alone = A.alone;
+        ahead = A.ahead;
         rule = rule_like R d.pending (with_amount W slot a) views id v v w at (sets_amount R d.pending W views slot a A.rule lt free id v at) alike;
         suited = suited_set (farm_of v.opening) v.journal views id w A.suited (A.suited.each id v at);
         looks = looks_set R.slot views id w A.looks (all_stand R.slot v.trail item (A.looks.each id v at) (tells_written R.slot item (ap (λ (x : ℕ). x == 1) did) (omega arith)));
@@ -147,6 +151,7 @@ amount_kept n W views id v d slot a item K at is lt did place word wrote free be
               (λ ne. subst (λ (x : AmountWord). IsWritten x (last_amount j (v.trail ++ item ∷ []))) (sym (put_else W.amount slot a j ne))
               (subst (IsWritten (W.amount j)) (sym (last_else j v.trail item (same_not item.word (amount_place j) (λ q. ne (omega arith))))) (A.written.each j l)));
         };
+        resizing = resizing_desk (recorded_in v.opening v.journal d).cores (recorded_in v.opening v.journal d).memory (run_of (farm_of v.opening) v.journal) W.host W.frame views id v w d A.resizing at is;
         seats = subst (λ (l : List Entry). Seats id v.opening d l (v.trail ++ item ∷ []) (set views id w)) (append-nil v.journal)
             (desk_steps id v.opening d d v.journal [] v.trail (item ∷ []) views id v w [] A.seats at is is refl refl refl (sym (append-nil v.journal)) refl refl refl refl
             m.flight m.limit_flight (sym (append-nil v.receipts)) (inl refl));

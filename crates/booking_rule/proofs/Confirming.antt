@@ -2,11 +2,13 @@
 use Rattle.std.proofs.Common.{◌≡◌, ◌≢◌, ℕ, ◌<◌, Bool, true, false, if◌then◌else◌, ◌==◌, ◌&&◌, ◌||◌, List, [], ◌∷◌, ◌++◌, set, sym, refl, ap, ◌∙◌, subst, arith, inl, inr, ⊎_elim}
 use Rattle.std.specs.Prelude.{Option, Some, None}
 use Rattle.std.proofs.lemmas.List.{append-nil}
+use Rattle.std.proofs.lemmas.Bool.Decides.{nat_tests}
 use mathlib.Core.Option.{some}
 use mathlib.Core.Logic.{dite}
 use native.Mathlib.Decide.{ℕ_discrete}
 use lib.ListN.{get_elem?}
 use Rattle.farm_types.specs.declared.entry.Entry.{Entry}
+use Rattle.farm_types.specs.Run.{run_of}
 use Rattle.frame_words.specs.declared.frame_word.FrameWord.{FrameWord}
 use Rattle.frame_words.specs.Bits.{frame_of}
 use Rattle.booking_rule.specs.declared.desk.Desk.{Desk}
@@ -17,8 +19,9 @@ use Rattle.booking_rule.specs.Totals.{total}
 use Rattle.booking_rule.specs.Words.{Words, frame_place, put, with_frame}
 use Rattle.booking_rule.specs.Recorded.{Stand, Recorded}
 use Rattle.booking_rule.specs.Views.{with_pending, confirmed}
-use Rattle.booking_rule.specs.Link.{farm_of, recorded_in}
-use Rattle.booking_rule.specs.Rule.{is_booked, word_of, IsTaken, ShowsFrame, Shows, RunsAhead, is_at, claims_at, is_like, claims_like, claim_in, is_pending, is_claimed, Rule}
+use Rattle.booking_rule.specs.Link.{farm_of, recorded_in, IsDone}
+use Rattle.booking_rule.specs.Resizing.{Resizing}
+use Rattle.booking_rule.specs.Rule.{NamesHost, is_booked, word_of, IsTaken, ShowsFrame, Shows, RunsAhead, is_at, claims_at, is_like, claims_like, claim_in, is_pending, is_claimed, Rule}
 use Rattle.booking_rule.specs.Seats.{Seats}
 use Rattle.booking_rule.specs.Kept.{Kept}
 use Rattle.booking_rule.proofs.Sums.{total_set}
@@ -30,6 +33,7 @@ use Rattle.booking_rule.proofs.Seeing.{suited_set, looks_set, ranged_step, writt
 use Rattle.booking_rule.proofs.Keeping.{IsFoundFrame, found_finds}
 use Rattle.booking_rule.proofs.Own.{of_first}
 use Rattle.booking_rule.proofs.Seating.{desk_steps}
+use Rattle.booking_rule.proofs.Resizing.{none_resized, resizing_desk, resizing_frame}
 
 -- the word in another phase
 abbrev pub in_phase : ℕ → FrameWord → FrameWord
@@ -142,16 +146,19 @@ withdraws R W views id v w slot K at lt same =
 
 -- ---- all that is kept
 
-module _ (n : ℕ) (W : Words) (views : List View) (id : ℕ) (v : View) (d : Desk) (slot phase : ℕ) (q : Option ℕ) (item : Noted) (K : Kept n W views) (at : get_elem? views id ≡ some v) (is : v.desk ≡ Some d) (lt : slot < 65536)
+module _ (n : ℕ) (W : Words) (views : List View) (id : ℕ) (v : View) (d : Desk) (slot phase : ℕ) (q : Option ℕ) (host : ℕ) (item : Noted) (K : Kept n W views) (at : get_elem? views id ≡ some v) (is : v.desk ≡ Some d) (lt : slot < 65536)
     (place : item.word ≡ frame_place slot) (word : frame_of item.found ≡ W.frame slot) (other : (item.did == 14) ≡ false) where
   phase_kept : ((W.frame slot).phase == 0) ≡ false → (phase == 0) ≡ false
-      → Rule (recorded_in v.opening v.journal d) q (with_frame W slot (in_phase phase (W.frame slot))) (set views id (confirmed v q item))
-      → Kept n (with_frame W slot (in_phase phase (W.frame slot))) (set views id (confirmed v q item))
-  phase_kept busy still_busy rule =
-      let w = confirmed v q item in
+      → Resizing (recorded_in v.opening v.journal d).cores (recorded_in v.opening v.journal d).memory (run_of (farm_of v.opening) v.journal) W.host
+      (put W.frame slot (in_phase phase (W.frame slot))) views
+      → NamesHost q host (put W.frame slot (in_phase phase (W.frame slot)))
+      → Rule (recorded_in v.opening v.journal d) q (with_frame W slot (in_phase phase (W.frame slot))) (set views id (confirmed v q host item))
+      → Kept n (with_frame W slot (in_phase phase (W.frame slot))) (set views id (confirmed v q host item))
+  phase_kept busy still_busy resizing ahead rule =
+      let w = confirmed v q host item in
       let A = of_first n W views id v d K at is in
       let m = A.seats.each id v at in
-      let D : Desk = record d { pending = q } in
+      let D : Desk = record d { pending = q; on = host } in
       let R = recorded_in v.opening v.journal d in
       let f = in_phase phase (W.frame slot) in
       let found : IsFoundFrame W item = record { slot = slot; within = lt; place = place; word = word } in
@@ -167,6 +174,8 @@ module _ (n : ℕ) (W : Words) (views : List View) (id : ℕ) (v : View) (d : De
           begins = A.begins;
           legal = A.legal;
           before = A.before;
+          alone = A.alone;
+          ahead = ahead;
           rule = rule;
           suited = suited_set (farm_of v.opening) v.journal views id w A.suited (A.suited.each id v at);
           looks = looks_set R.slot views id w A.looks (all_stand R.slot v.trail item (A.looks.each id v at) tells);
@@ -179,34 +188,45 @@ module _ (n : ℕ) (W : Words) (views : List View) (id : ℕ) (v : View) (d : De
               (λ e. let P : ℕ → Type 0 = λ x. (put W.frame slot f x).cores ≡ (W.frame x).cores in subst P (sym e) (ap (λ (x : FrameWord). x.cores) (put_here W.frame slot f)))
               (λ ne. ap (λ (x : FrameWord). x.cores) (put_else W.frame slot f j ne)));
           written = written_more W.amount v.trail item A.written other;
+          resizing = resizing_desk R.cores R.memory (run_of (farm_of v.opening) v.journal) W.host (put W.frame slot f) views id v w D resizing at (ap (with_pending q host) is);
           seats = subst (λ (l : List Entry). Seats id v.opening D l (v.trail ++ item ∷ []) (set views id w)) (append-nil v.journal)
-              (desk_steps id v.opening d D v.journal [] v.trail (item ∷ []) views id v w [] A.seats at is (ap (with_pending q) is) refl refl refl (sym (append-nil v.journal)) refl refl refl refl
+              (desk_steps id v.opening d D v.journal [] v.trail (item ∷ []) views id v w [] A.seats at is (ap (with_pending q host) is) refl refl refl (sym (append-nil v.journal)) refl refl refl refl
               m.flight m.limit_flight (sym (append-nil v.receipts)) (inl refl));
         };
       }
 
-  alike_confirmed : HoldsAlike v (confirmed v q item)
+  alike_confirmed : HoldsAlike v (confirmed v q host item)
   alike_confirmed = record { rooms = record { rooms = refl }; takes = record { takes = refl; ungranted = refl }; limits = record { limits = refl; ungranted = refl }; claims = refl }
 
 -- the slot of a claim whose word is SETUP becomes pending
-pub confirm_kept : (n : ℕ) (W : Words) (views : List View) (id : ℕ) (v : View) (d : Desk) (slot : ℕ) (item : Noted) (K : Kept n W views) → get_elem? views id ≡ some v → v.desk ≡ Some d → slot < 65536
-    → item.word ≡ frame_place slot → frame_of item.found ≡ W.frame slot → (item.did == 14) ≡ false → d.pending ≡ None → (W.frame slot).phase ≡ 3
-    → Kept n (with_frame W slot (in_phase 4 (W.frame slot))) (set views id (confirmed v (Some slot) item))
-confirm_kept n W views id v d slot item K at is lt place word other none setup =
+pub confirm_kept : (n : ℕ) (W : Words) (views : List View) (id : ℕ) (v : View) (d : Desk) (slot host : ℕ) (item : Noted) (K : Kept n W views) → get_elem? views id ≡ some v → v.desk ≡ Some d → slot < 65536
+    → item.word ≡ frame_place slot → frame_of item.found ≡ W.frame slot → (item.did == 14) ≡ false → d.pending ≡ None → (W.frame slot).phase ≡ 3 → (W.frame slot).host ≡ host
+    → Kept n (with_frame W slot (in_phase 4 (W.frame slot))) (set views id (confirmed v (Some slot) host item))
+confirm_kept n W views id v d slot host item K at is lt place word other none setup on =
     let A = of_first n W views id v d K at is in
     let R = recorded_in v.opening v.journal d in
     let waits = setup_stands (R.slot slot) (is_pending d.pending slot) (W.frame slot) setup (none_setup v.opening v.journal d A.begins.rows A.legal A.before slot) (A.rule.shows slot lt).frame in
-    phase_kept n W views id v d slot 4 (Some slot) item K at is lt place word other (ap (λ (x : ℕ). x == 0) setup) refl
-    (confirms R W views id v (confirmed v (Some slot) item) slot (subst (λ (p : Option ℕ). Rule R p W views) none A.rule) at lt setup waits.0 (alike_confirmed n W views id v d slot 4 (Some slot) item K at is lt place word other))
+    phase_kept n W views id v d slot 4 (Some slot) host item K at is lt place word other (ap (λ (x : ℕ). x == 0) setup) refl
+    (resizing_frame R.cores R.memory (run_of (farm_of v.opening) v.journal) W.host W.frame views slot (in_phase 4 (W.frame slot)) A.resizing (λ e. absurd (omega (arith, e))))
+    (record {
+      each = λ j l q. (let same : slot ≡ j = grind (arith, nat_tests) in let P : ℕ → Type 0 = λ x. (put W.frame slot (in_phase 4 (W.frame slot)) x).host ≡ host in
+          subst P same (ap (λ (x : FrameWord). x.host) (put_here W.frame slot (in_phase 4 (W.frame slot))) ∙ on));
+    })
+    (confirms R W views id v (confirmed v (Some slot) host item) slot (subst (λ (p : Option ℕ). Rule R p W views) none A.rule) at lt setup waits.0 (alike_confirmed n W views id v d slot 4 (Some slot) host item K at is lt place word other))
 
 -- the pending slot's word becomes SETUP again
-pub withdraw_kept : (n : ℕ) (W : Words) (views : List View) (id : ℕ) (v : View) (d : Desk) (slot : ℕ) (item : Noted) (K : Kept n W views) → get_elem? views id ≡ some v → v.desk ≡ Some d → slot < 65536
-    → item.word ≡ frame_place slot → frame_of item.found ≡ W.frame slot → (item.did == 14) ≡ false → d.pending ≡ Some slot
-    → Kept n (with_frame W slot (in_phase 3 (W.frame slot))) (set views id (confirmed v None item))
-withdraw_kept n W views id v d slot item K at is lt place word other pending =
+pub withdraw_kept : (n : ℕ) (W : Words) (views : List View) (id : ℕ) (v : View) (d : Desk) (slot host : ℕ) (item : Noted) (K : Kept n W views) → get_elem? views id ≡ some v → v.desk ≡ Some d → slot < 65536
+    → item.word ≡ frame_place slot → frame_of item.found ≡ W.frame slot → (item.did == 14) ≡ false → d.pending ≡ Some slot → IsDone v.opening v.journal d
+    → Kept n (with_frame W slot (in_phase 3 (W.frame slot))) (set views id (confirmed v None host item))
+withdraw_kept n W views id v d slot host item K at is lt place word other pending done =
     let A = of_first n W views id v d K at is in
     let R = recorded_in v.opening v.journal d in
     let rule : Rule R (Some slot) W views = subst (λ (p : Option ℕ). Rule R p W views) pending A.rule in
     let runs = (rule.pend slot lt (same_self slot)).runs in
-    phase_kept n W views id v d slot 3 None item K at is lt place word other (ap (λ (x : ℕ). x == 0) runs) refl
-    (withdraws R W views id v (confirmed v None item) slot rule at lt (alike_confirmed n W views id v d slot 3 None item K at is lt place word other))
+    phase_kept n W views id v d slot 3 None host item K at is lt place word other (ap (λ (x : ℕ). x == 0) runs) refl
+    (none_resized R.cores R.memory (run_of (farm_of v.opening) v.journal) W.host (put W.frame slot (in_phase 3 (W.frame slot))) views (λ host. (done.cores host, done.memory host)))
+    (record { each = λ j l q. absurd (off q) })
+    (withdraws R W views id v (confirmed v None host item) slot rule at lt (alike_confirmed n W views id v d slot 3 None host item K at is lt place word other))
+  where
+    off : false ≡ true → ⊥
+    off e = cc

@@ -18,6 +18,7 @@ use Rattle.booking_rule.specs.Looks.{AllStand}
 use Rattle.booking_rule.specs.Ranges.{found_used, IsFoundUsed}
 use Rattle.booking_rule.specs.Suits.{AllSuit}
 use Rattle.booking_rule.specs.Seats.{Fits}
+use Rattle.booking_rule.proofs.Resizing.{none_resized}
 
 none_stands : (n : ℕ) → stand_at empty_farm n ≡ free_at 0
 unfolding stand_at
@@ -64,6 +65,8 @@ opens words zeros kept =
         begins = kept;
         legal = tt;
         before = inl refl;
+        alone = λ q. refl;
+        ahead = record { each = λ slot lt is. absurd (clash (sym is)) };
         rule = record {
           shows = λ k lt. subst (λ (s : Stand). Shows false s (W.frame k) (W.amount k)) (sym (stand k)) (record { frame = frame k; amount = λ some_frame. absurd cc });
           pend = λ k lt is. absurd (clash (sym is));
@@ -95,6 +98,7 @@ opens words zeros kept =
               used;
         };
         written = record { each = λ slot lt. tt };
+        resizing = none_resized R.cores R.memory empty_farm W.host W.frame views (λ host. (refl, refl));
         seats = record {
           names = λ n. 0;
           split = omega arith;

@@ -21,3 +21,9 @@ pub mod Amounting
 pub mod Confirming
 pub mod Bounds
 pub mod First
+pub mod Resizing
+pub mod Lending
+pub mod Sizing
+pub mod Placing
+pub mod Hosting
+pub mod Billing

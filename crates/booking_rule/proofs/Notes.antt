@@ -8,6 +8,7 @@ use lib.ListN.{get_elem?}
 use Rattle.atomic_table.specs.Table.{Splits, Joins}
 use Rattle.atomic_table.proofs.Lists.{at_set}
 use Rattle.farm_types.specs.declared.entry.Entry.{Entry}
+use Rattle.farm_types.specs.Run.{run_of}
 use Rattle.booking_rule.specs.declared.view.View.{View}
 use Rattle.booking_rule.specs.declared.desk.Desk.{Desk}
 use Rattle.booking_rule.specs.declared.noted.Noted.{Noted}
@@ -22,6 +23,7 @@ use Rattle.booking_rule.proofs.Sums.{at_more, total_set, total_snoc}
 use Rattle.booking_rule.proofs.Moves.{HoldsAlike, rule_view, rule_more}
 use Rattle.booking_rule.proofs.Seating.{none_some, receipts_end}
 use Rattle.booking_rule.proofs.Seeing.{suited_set, suited_more, looks_set, looks_more, ranged_same, ranged_none, ranged_more}
+use Rattle.booking_rule.proofs.Resizing.{resizing_set, resizing_more}
 
 -- ---- a note more
 
@@ -105,11 +107,15 @@ notes_kept n W views id v K at =
         begins = A.begins;
         legal = A.legal;
         before = A.before;
+        alone = A.alone;
+        ahead = A.ahead;
         rule = rule_more R K.desk.pending W (set views id (without_receipts v)) (note_of v) (rule_view R K.desk.pending W views id v (without_receipts v) A.rule at (alike_note v)) (record { takes = refl; limits = refl; rooms = refl; claims = refl }) refl refl;
         suited = suited_more (farm_of K.opening) K.log (set views id (without_receipts v)) (note_of v) (suited_set (farm_of K.opening) K.log views id (without_receipts v) A.suited (A.suited.each id v at)) tt;
         looks = looks_more R.slot (set views id (without_receipts v)) (note_of v) (looks_set R.slot views id (without_receipts v) A.looks (A.looks.each id v at)) tt;
         ranged = ranged_more W.frame W.amount (set views id (without_receipts v)) (note_of v) refl (ranged_same W.frame W.amount views id v (without_receipts v) A.ranged at refl);
         written = A.written;
+        resizing = resizing_more (recorded_in K.opening K.log K.desk).cores (recorded_in K.opening K.log K.desk).memory (run_of (farm_of K.opening) K.log) W.host W.frame (set views id (without_receipts v)) (note_of v)
+            (resizing_set (recorded_in K.opening K.log K.desk).cores (recorded_in K.opening K.log K.desk).memory (run_of (farm_of K.opening) K.log) W.host W.frame views id v (without_receipts v) A.resizing at (λ none. (none, refl))) refl;
         seats = notes_seats K.seat K.opening K.desk K.log K.trail views id v A.seats at;
       };
     }
@@ -188,6 +194,8 @@ joins_kept n W views id v other u K at ne still note =
         begins = A.begins;
         legal = A.legal;
         before = A.before;
+        alone = A.alone;
+        ahead = A.ahead;
         rule = rule_view R K.desk.pending W (set views id w) other u blank (rule_view R K.desk.pending W views id v w A.rule at (alike_told v u)) still (record {
           rooms = record { rooms = sym none.rooms };
           takes = record { takes = sym none.takes; ungranted = sym note.2 };
@@ -198,6 +206,8 @@ joins_kept n W views id v other u K at ne still note =
         looks = looks_set R.slot (set views id w) other blank (looks_set R.slot views id w A.looks (A.looks.each id v at)) tt;
         ranged = ranged_none W.frame W.amount (set views id w) other blank (ranged_same W.frame W.amount views id v w A.ranged at refl) refl;
         written = A.written;
+        resizing = resizing_set (recorded_in K.opening K.log K.desk).cores (recorded_in K.opening K.log K.desk).memory (run_of (farm_of K.opening) K.log) W.host W.frame (set views id w) other u blank
+            (resizing_set (recorded_in K.opening K.log K.desk).cores (recorded_in K.opening K.log K.desk).memory (run_of (farm_of K.opening) K.log) W.host W.frame views id v w A.resizing at (λ none. (none, refl))) still (λ _. (note.0, sym none.rooms));
         seats = joins_seats K.seat K.opening K.desk K.log K.trail views id v other u A.seats at ne there still note;
       };
     }

@@ -1,6 +1,6 @@
 -- An entry more, while nothing is left to do for the one before.
 use Rattle.std.proofs.Common.{◌≡◌, ℕ, ◌+◌, ◌==◌, ◌-◌, false, List, [], ◌∷◌, ◌++◌, length, length-append, set, refl, ap, ◌∙◌, subst, arith, inl, inr}
-use Rattle.std.specs.Prelude.{Some}
+use Rattle.std.specs.Prelude.{Some, None}
 use Rattle.std.proofs.lemmas.List.{take-append-le}
 use mathlib.Core.Option.{some}
 use lib.ListN.{get_elem?}
@@ -16,9 +16,10 @@ use Rattle.booking_rule.specs.declared.noted.Noted.{Noted}
 use Rattle.booking_rule.specs.Words.{Words}
 use Rattle.booking_rule.specs.Recorded.{Recorded}
 use Rattle.booking_rule.specs.Views.{desk_after, recorded}
-use Rattle.booking_rule.specs.Link.{farm_of, recorded_in, IsDone}
+use Rattle.booking_rule.specs.Link.{farm_of, hosted, is_billed, is_counted, recorded_in, stand_at, IsDone}
 use Rattle.booking_rule.specs.Rule.{Rule}
 use Rattle.booking_rule.specs.Looks.{Looks}
+use Rattle.booking_rule.specs.Resizing.{Resizing}
 use Rattle.booking_rule.specs.Suits.{SuitsOnce, AllSuit, Suited}
 use Rattle.booking_rule.specs.Kept.{Kept, farm_in}
 use Rattle.booking_rule.proofs.Moves.{rule_view}
@@ -27,6 +28,8 @@ use Rattle.booking_rule.proofs.Seeing.{suited_set, looks_set, ranged_step, writt
 use Rattle.booking_rule.proofs.Keeping.{found_finds}
 use Rattle.booking_rule.proofs.Own.{of_first}
 use Rattle.booking_rule.proofs.Seating.{desk_steps}
+use Rattle.booking_rule.proofs.Resizing.{resizing_desk}
+use Rattle.booking_rule.proofs.Lending.{done_lends}
 
 -- ---- claims suit at a place of the longer journal too
 
@@ -44,9 +47,11 @@ suited_grows f log more views s = record { each = λ id v e. all_more f log more
 -- ---- the step
 
 pub record_kept : (n : ℕ) (W : Words) (views : List View) (id : ℕ) (v : View) (d : Desk) (e : Entry) (item : Noted) (K : Kept n W views) → get_elem? views id ≡ some v → v.desk ≡ Some d
-    → IsDone v.opening v.journal d → IsLegalStep (farm_in v) e → item.word ≡ 0 → (item.did == 14) ≡ false
+    → IsDone v.opening v.journal d → IsLegalStep (farm_in v) e
+    → Resizing (recorded_in v.opening v.journal d).cores (recorded_in v.opening v.journal d).memory (run_of (farm_of v.opening) (v.journal ++ e ∷ [])) W.host W.frame views
+    → item.word ≡ 0 → (item.did == 14) ≡ false
     → Kept (n + 1) W (set views id (recorded v e item))
-record_kept n W views id v d e item K at is done may place other =
+record_kept n W views id v d e item K at is done may resizing place other =
     let w = recorded v e item in
     let A = of_first n W views id v d K at is in
     let m = A.seats.each id v at in
@@ -60,9 +65,9 @@ record_kept n W views id v d e item K at is done may place other =
       alloc = λ k. done.alloc k i;
       burst = λ k. done.burst k i;
       most = λ k. done.most k i;
-      roomed = R.roomed;
-      billed = R.billed;
-      counted = R.counted;
+      roomed = λ k. done_lends v.opening v.journal d k (hosted d (stand_at (farm_in v) k)) (done.slot k) i;
+      billed = λ k. done_lends v.opening v.journal d k (is_billed (farm_in v) d (stand_at (farm_in v) k)) (done.slot k) i;
+      counted = λ k. done_lends v.opening v.journal d k (is_counted d (stand_at (farm_in v) k)) (done.slot k) i;
     }) in
     let rule : Rule R d.pending W views = subst (λ (x : Recorded). Rule x d.pending W views) same A.rule in
     let looks : Looks R.slot views = subst (λ (x : Recorded). Looks x.slot views) same A.looks in
@@ -78,12 +83,19 @@ record_kept n W views id v d e item K at is done may place other =
         begins = A.begins;
         legal = legal_append (farm_of v.opening) v.journal (e ∷ []) A.legal (may, tt);
         before = inr (e, refl);
+        alone = λ q. absurd (some_none q);
+        ahead = A.ahead;
         rule = rule_view R d.pending W views id v w rule at (record { rooms = record { rooms = refl }; takes = record { takes = refl; ungranted = refl }; limits = record { limits = refl; ungranted = refl }; claims = refl });
         suited = suited_set (farm_of v.opening) log views id w longer (longer.each id v at);
         looks = looks_set R.slot views id w looks (all_stand R.slot v.trail item (looks.each id v at) (tells_nothing R.slot item (inl place)));
         ranged = ranged_step W.frame W.amount views W.frame id v w item A.ranged at refl (found_finds W item (inr (inr (inl place)))) (λ slot. refl) (λ slot. refl);
         written = written_more W.amount v.trail item A.written other;
+        resizing = resizing_desk R.cores R.memory (run_of (farm_of v.opening) log) W.host W.frame views id v w D
+            (subst (λ (x : Recorded). Resizing x.cores x.memory (run_of (farm_of v.opening) log) W.host W.frame views) same resizing) at (ap (desk_after v.journal) is);
         seats = desk_steps id v.opening d D v.journal (e ∷ []) v.trail (item ∷ []) views id v w (length v.journal ∷ []) A.seats at is (ap (desk_after v.journal) is) refl refl refl refl refl refl refl refl
             m.flight m.limit_flight refl (inr (refl, omega arith));
       };
     }
+  where
+    some_none : Some v.journal ≡ None → ⊥
+    some_none q = cc

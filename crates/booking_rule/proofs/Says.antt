@@ -117,7 +117,7 @@ legal_front : (f : Farm) (xs ys : List Entry) → IsLegal f (xs ++ ys) → IsLeg
 legal_front f [] ys legal = tt
 legal_front f (x ∷ xs) ys legal = (legal.0, legal_front (after f x) xs ys legal.1)
 
-kept_before : (o : Opening) (before : Option (List Entry)) (log : List Entry) → KeepsRows (farm_of o) → IsLegal (farm_of o) log → IsBefore before log → KeepsRows (farm_before o before)
+pub kept_before : (o : Opening) (before : Option (List Entry)) (log : List Entry) → KeepsRows (farm_of o) → IsLegal (farm_of o) log → IsBefore before log → KeepsRows (farm_before o before)
 kept_before o None log begins legal is = kept_empty
 kept_before o (Some xs) log begins legal is = kept_run (farm_of o) xs begins (⊎_elim
     (λ (e : xs ≡ log). subst (IsLegal (farm_of o)) (sym e) legal)

@@ -17,7 +17,7 @@ use Rattle.booking_rule.specs.Looks.{HasLook}
 use Rattle.booking_rule.specs.Seats.{seats, IsSeated}
 use Rattle.booking_rule.specs.Suits.{SuitsOnce}
 use Rattle.booking_rule.specs.Kept.{Kept}
-use Rattle.booking_rule.proofs.Keeping.{records_of, IsFound, Stays, looks_kept, grants_kept, overshoots_kept, gives_kept, retracts_kept, grants_limit_kept, overshoots_limit_kept, gives_limit_kept, retracts_limit_kept, takes_room_kept, gives_room_kept, wins_kept, drops_kept}
+use Rattle.booking_rule.proofs.Keeping.{records_of, IsSettledFor, IsFound, Stays, looks_kept, grants_kept, overshoots_kept, gives_kept, retracts_kept, grants_limit_kept, overshoots_limit_kept, gives_limit_kept, retracts_limit_kept, takes_room_kept, gives_room_kept, wins_kept, drops_kept}
 
 -- a view with other holds and another trail
 abbrev holding : View → List Take → List ℕ → List Room → List Claim → Option Take → Option ℕ → List Noted → View
@@ -85,10 +85,10 @@ module _ (n : ℕ) (W : Words) (views : List View) (id : ℕ) (v : View) (item :
   take_host_kept host cores memory lt some_cores some_memory =
       takes_room_kept n W views id v (with_room v (room_of host cores memory) item) item K at seated (stays_holding v v.takes v.limits (room_of host cores memory ∷ v.rooms) v.claims v.ungranted v.ungranted_limit (v.trail ++ item ∷ [])) refl found other host cores memory lt (record { takes = refl; ungranted = refl }) (record { limits = refl; ungranted = refl }) refl some_cores some_memory refl
 
-  pub give_host_kept : (host cores memory : ℕ) → host < 4096 → holds same_room (room_of host cores memory) v.rooms ≡ true
+  pub give_host_kept : (host cores memory : ℕ) → host < 4096 → IsSettledFor K v host → holds same_room (room_of host cores memory) v.rooms ≡ true
       → Kept n (with_host W host (record { cores = (W.host host).cores + cores; memory = (W.host host).memory + memory })) (set views id (without_room v (room_of host cores memory) item))
-  give_host_kept host cores memory lt has =
-      gives_room_kept n W views id v (without_room v (room_of host cores memory) item) item K at seated (stays_holding v v.takes v.limits (without same_room (room_of host cores memory) v.rooms) v.claims v.ungranted v.ungranted_limit (v.trail ++ item ∷ [])) refl found other host cores memory lt (record { takes = refl; ungranted = refl }) (record { limits = refl; ungranted = refl }) refl has refl
+  give_host_kept host cores memory lt settled has =
+      gives_room_kept n W views id v (without_room v (room_of host cores memory) item) item K at seated (stays_holding v v.takes v.limits (without same_room (room_of host cores memory) v.rooms) v.claims v.ungranted v.ungranted_limit (v.trail ++ item ∷ [])) refl found other host cores memory lt (record { takes = refl; ungranted = refl }) (record { limits = refl; ungranted = refl }) refl settled has refl
 
   -- ---- a claim
 
@@ -97,13 +97,13 @@ module _ (n : ℕ) (W : Words) (views : List View) (id : ℕ) (v : View) (item :
       → sub_of (W.amount c.slot).show ((records_of K).alloc c.host) ≡ c.sub
       → HasLook v.trail (record { slot = c.slot; version = version; cores = c.cores; amount = Some seen }) → seen.limit ≡ c.limit → seen.memory ≡ c.memory
       → holds same_take (take_in c) v.takes ≡ true → holds_limit c.limit v.limits ≡ true → holds same_room (room_in c) v.rooms ≡ true
-      → SuitsOnce (farm_of K.opening) K.log c
+      → SuitsOnce (farm_of K.opening) K.log c → IsSettledFor K v c.host
       → Kept n (with_frame W c.slot (record { phase = 3; version = c.version; host = c.host; cores = c.cores })) (set views id (claimed v c item))
-  claim_kept c version seen lt next below was bills look limit memory has_take has_limit has_room suits =
+  claim_kept c version seen lt next below was bills look limit memory has_take has_limit has_room suits settled =
       wins_kept n W views id v (claimed v c item) item K at seated
       (stays_holding v (claimed v c item).takes (claimed v c item).limits (claimed v c item).rooms (claimed v c item).claims v.ungranted v.ungranted_limit (v.trail ++ item ∷ []))
       refl found other c version seen lt next below was bills look limit memory
-      (record { has_take = has_take; has_limit = has_limit; has_room = has_room; takes = refl; limits = refl; rooms = refl; ungranted = refl; ungranted_limit = refl }) refl suits
+      (record { has_take = has_take; has_limit = has_limit; has_room = has_room; takes = refl; limits = refl; rooms = refl; ungranted = refl; ungranted_limit = refl }) refl suits settled
 
   pub drop_claim_kept : (c : Claim) → c.slot < 65536 → W.frame c.slot ≡ record { phase = 3; version = c.version; host = c.host; cores = c.cores } → holds same_claim c v.claims ≡ true
       → Kept n (with_frame W c.slot (record { phase = 1; version = c.version - 1; host = 0; cores = c.cores })) (set views id (dropped v c item))

@@ -7,6 +7,7 @@ use mathlib.Core.Logic.{dite}
 use native.Mathlib.Decide.{ℕ_discrete}
 use lib.ListN.{get_elem?}
 use Rattle.farm_types.specs.declared.entry.Entry.{Entry}
+use Rattle.farm_types.specs.Run.{run_of}
 use Rattle.frame_words.specs.declared.limit_word.LimitWord.{LimitWord}
 use Rattle.frame_words.specs.declared.sub_word.SubWord.{SubWord}
 use Rattle.booking_rule.specs.declared.desk.Desk.{Desk}
@@ -26,6 +27,7 @@ use Rattle.booking_rule.proofs.Keeping.{found_finds}
 use Rattle.booking_rule.proofs.Own.{of_first}
 use Rattle.booking_rule.proofs.Seating.{desk_steps}
 use Rattle.booking_rule.proofs.Turning.{done_by}
+use Rattle.booking_rule.proofs.Resizing.{resizing_desk}
 
 -- ---- the rule
 
@@ -82,9 +84,10 @@ sets_most R p W views id v w k b K at lt same =
 -- ---- all that is kept
 
 pub sets_burst_kept : (n : ℕ) (W : Words) (views : List View) (id : ℕ) (v : View) (d : Desk) (k : ℕ) (item : Noted) (K : Kept n W views) → get_elem? views id ≡ some v → v.desk ≡ Some d → k < 1024
+    → ((j : ℕ) → (recorded_in v.opening v.journal d).billed j ≡ (recorded_in v.opening v.journal (record d { subs = k ∷ d.subs })).billed j)
     → item.word ≡ sub_place k → (item.did == 14) ≡ false
     → Kept n (with_sub W k (record { burst = (burst_at (farm_in v) k); booked = (W.sub k).booked })) (set views id (burst_set v k item))
-sets_burst_kept n W views id v d k item K at is lt place other =
+sets_burst_kept n W views id v d k item K at is lt lends place other =
     let w = burst_set v k item in
     let A = of_first n W views id v d K at is in
     let m = A.seats.each id v at in
@@ -99,7 +102,7 @@ sets_burst_kept n W views id v d k item K at is lt place other =
       burst = λ j. done_by burst_at (farm_before v.opening d.before) (farm_in v) d.subs k j i;
       most = R.most;
       roomed = R.roomed;
-      billed = R.billed;
+      billed = λ j. lends j i;
       counted = R.counted;
     }) in
     let far : (item.word ≡ 0) ⊎ (131073 ≤ item.word) = inr (omega arith) in
@@ -114,12 +117,15 @@ sets_burst_kept n W views id v d k item K at is lt place other =
         begins = A.begins;
         legal = A.legal;
         before = A.before;
+        alone = A.alone;
+        ahead = A.ahead;
         rule = subst (λ (x : Recorded). Rule x d.pending (with_sub W k (record { burst = (burst_at (farm_in v) k); booked = (W.sub k).booked })) (set views id w)) same
             (sets_burst R d.pending W views id v w k (burst_at (farm_in v) k) A.rule at lt (record { rooms = record { rooms = refl }; takes = record { takes = refl; ungranted = refl }; limits = record { limits = refl; ungranted = refl }; claims = refl }));
         suited = suited_set (farm_of v.opening) v.journal views id w A.suited (A.suited.each id v at);
         looks = looks_set R.slot views id w A.looks (all_stand R.slot v.trail item (A.looks.each id v at) (tells_nothing R.slot item far));
         ranged = ranged_step W.frame W.amount views W.frame id v w item A.ranged at refl (found_finds W item (inr (inr far))) (λ slot. refl) (λ slot. refl);
         written = written_more W.amount v.trail item A.written other;
+        resizing = resizing_desk (recorded_in v.opening v.journal d).cores (recorded_in v.opening v.journal d).memory (run_of (farm_of v.opening) v.journal) W.host W.frame views id v w D A.resizing at (ap (with_sub_done k) is);
         seats = subst (λ (l : List Entry). Seats id v.opening D l (v.trail ++ item ∷ []) (set views id w)) (append-nil v.journal)
             (desk_steps id v.opening d D v.journal [] v.trail (item ∷ []) views id v w [] A.seats at is (ap (with_sub_done k) is) refl refl refl (sym (append-nil v.journal)) refl refl refl refl
             m.flight m.limit_flight (sym (append-nil v.receipts)) (inl refl));
@@ -127,9 +133,10 @@ sets_burst_kept n W views id v d k item K at is lt place other =
     }
 
 pub sets_most_kept : (n : ℕ) (W : Words) (views : List View) (id : ℕ) (v : View) (d : Desk) (k : ℕ) (item : Noted) (K : Kept n W views) → get_elem? views id ≡ some v → v.desk ≡ Some d → k < 255
+    → ((j : ℕ) → (recorded_in v.opening v.journal d).counted j ≡ (recorded_in v.opening v.journal (record d { limits = k ∷ d.limits })).counted j)
     → item.word ≡ limit_place k → (item.did == 14) ≡ false
     → Kept n (with_limit W k (record { most = (most_at (farm_in v) k); running = (W.limit k).running })) (set views id (most_set v k item))
-sets_most_kept n W views id v d k item K at is lt place other =
+sets_most_kept n W views id v d k item K at is lt lends place other =
     let w = most_set v k item in
     let A = of_first n W views id v d K at is in
     let m = A.seats.each id v at in
@@ -145,7 +152,7 @@ sets_most_kept n W views id v d k item K at is lt place other =
       most = λ j. done_by most_at (farm_before v.opening d.before) (farm_in v) d.limits k j i;
       roomed = R.roomed;
       billed = R.billed;
-      counted = R.counted;
+      counted = λ j. lends j i;
     }) in
     let far : (item.word ≡ 0) ⊎ (131073 ≤ item.word) = inr (omega arith) in
     record {
@@ -159,12 +166,15 @@ sets_most_kept n W views id v d k item K at is lt place other =
         begins = A.begins;
         legal = A.legal;
         before = A.before;
+        alone = A.alone;
+        ahead = A.ahead;
         rule = subst (λ (x : Recorded). Rule x d.pending (with_limit W k (record { most = (most_at (farm_in v) k); running = (W.limit k).running })) (set views id w)) same
             (sets_most R d.pending W views id v w k (most_at (farm_in v) k) A.rule at lt (record { rooms = record { rooms = refl }; takes = record { takes = refl; ungranted = refl }; limits = record { limits = refl; ungranted = refl }; claims = refl }));
         suited = suited_set (farm_of v.opening) v.journal views id w A.suited (A.suited.each id v at);
         looks = looks_set R.slot views id w A.looks (all_stand R.slot v.trail item (A.looks.each id v at) (tells_nothing R.slot item far));
         ranged = ranged_step W.frame W.amount views W.frame id v w item A.ranged at refl (found_finds W item (inr (inr far))) (λ slot. refl) (λ slot. refl);
         written = written_more W.amount v.trail item A.written other;
+        resizing = resizing_desk (recorded_in v.opening v.journal d).cores (recorded_in v.opening v.journal d).memory (run_of (farm_of v.opening) v.journal) W.host W.frame views id v w D A.resizing at (ap (with_limit_done k) is);
         seats = subst (λ (l : List Entry). Seats id v.opening D l (v.trail ++ item ∷ []) (set views id w)) (append-nil v.journal)
             (desk_steps id v.opening d D v.journal [] v.trail (item ∷ []) views id v w [] A.seats at is (ap (with_limit_done k) is) refl refl refl (sym (append-nil v.journal)) refl refl refl refl
             m.flight m.limit_flight (sym (append-nil v.receipts)) (inl refl));

@@ -8,6 +8,7 @@ use mathlib.Core.List.{IsPrefix}
 use lib.ListN.{get_elem?}
 use Rattle.atomic_table.specs.Table.{Me, step, keeps, Allows}
 use Rattle.farm_types.specs.declared.entry.Entry.{Entry}
+use Rattle.farm_types.specs.Run.{run_of}
 use Rattle.booking_rule.specs.declared.view.View.{View}
 use Rattle.booking_rule.specs.declared.desk.Desk.{Desk}
 use Rattle.booking_rule.specs.Words.{Words, words_of}
@@ -20,6 +21,7 @@ use Rattle.booking_rule.proofs.Own.{of_first}
 use Rattle.booking_rule.proofs.Looking.{all_stand, tells_nothing}
 use Rattle.booking_rule.proofs.Seeing.{suited_set, looks_set, ranged_step, journal_unused, written_more}
 use Rattle.booking_rule.proofs.Seating.{first_steps, seat_steps, longer}
+use Rattle.booking_rule.proofs.Resizing.{resizing_set, resizing_desk}
 
 module _ {A : Type 0} where
   pub prefix_length : (xs ys : List A) → IsPrefix xs ys → length xs ≤ length ys
@@ -79,11 +81,14 @@ first_settles n W views id v d found K at is =
         begins = A.begins;
         legal = A.legal;
         before = A.before;
+        alone = A.alone;
+        ahead = A.ahead;
         rule = rule_view (recorded_in v.opening v.journal d) d.pending W views id v w A.rule at (alike_settled v found);
         suited = suited_set (farm_of v.opening) v.journal views id w A.suited (A.suited.each id v at);
         looks = looks_set (recorded_in v.opening v.journal d).slot views id w A.looks (all_stand (recorded_in v.opening v.journal d).slot v.trail item (A.looks.each id v at) (tells_nothing (recorded_in v.opening v.journal d).slot item (inl refl)));
         ranged = ranged_step W.frame W.amount views W.frame id v w item A.ranged at refl (λ slot lt h. absurd (journal_unused slot found h)) (λ slot. refl) (λ slot. refl);
         written = written_more W.amount v.trail item A.written refl;
+        resizing = resizing_desk (recorded_in v.opening v.journal d).cores (recorded_in v.opening v.journal d).memory (run_of (farm_of v.opening) v.journal) W.host W.frame views id v w d A.resizing at is;
         seats = subst (λ (l : List Entry). Seats id v.opening d l (v.trail ++ item ∷ []) (set views id w)) (append-nil v.journal)
             (first_steps id v.opening d d v.journal [] v.trail (item ∷ []) views id v w [] A.seats at is is refl refl refl (all_seen n W views id v d K at is ∙ sym (append-nil v.journal)) (v.journal ++ [], refl) refl
             (longer (longer_of v.desk_trail v.told_trail) v.trail (item ∷ []) t.0) (v.trail ++ item ∷ [], refl) a.flight a.limit_flight (sym (append-nil v.receipts)) (inl refl));
@@ -110,11 +115,14 @@ other_settles n W views id v found K at is =
         begins = A.begins;
         legal = A.legal;
         before = A.before;
+        alone = A.alone;
+        ahead = A.ahead;
         rule = rule_view (recorded_in K.opening K.log K.desk) K.desk.pending W views id v w A.rule at (alike_settled v found);
         suited = suited_set (farm_of K.opening) K.log views id w A.suited (A.suited.each id v at);
         looks = looks_set R.slot views id w A.looks (all_stand R.slot v.trail item (A.looks.each id v at) (tells_nothing R.slot item (inl refl)));
         ranged = ranged_step W.frame W.amount views W.frame id v w item A.ranged at refl (λ slot lt h. absurd (journal_unused slot found h)) (λ slot. refl) (λ slot. refl);
         written = A.written;
+        resizing = resizing_set (recorded_in K.opening K.log K.desk).cores (recorded_in K.opening K.log K.desk).memory (run_of (farm_of K.opening) K.log) W.host W.frame views id v w A.resizing at (λ none. (none, refl));
         seats = seat_steps K.seat K.opening K.desk K.log K.trail views id v w A.seats at is is refl refl j.0 (K.log, refl) t.0 (K.trail, refl) refl m.flight m.limit_flight
             (λ no. let h = m.idle is no in record { takes = h.takes; limits = h.limits; rooms = h.rooms; claims = h.claims });
       };

@@ -8,6 +8,7 @@ use lib.ListN.{get_elem?}
 use Rattle.atomic_table.specs.Table.{Splits}
 use Rattle.atomic_table.proofs.Lists.{at_set}
 use Rattle.farm_types.specs.declared.entry.Entry.{Entry}
+use Rattle.farm_types.specs.Run.{run_of}
 use Rattle.booking_rule.specs.declared.view.View.{View}
 use Rattle.booking_rule.specs.declared.desk.Desk.{Desk}
 use Rattle.booking_rule.specs.declared.noted.Noted.{Noted}
@@ -23,6 +24,7 @@ use Rattle.booking_rule.proofs.Sums.{at_more, total_set, total_snoc}
 use Rattle.booking_rule.proofs.Moves.{HoldsAlike, rule_view, rule_more}
 use Rattle.booking_rule.proofs.Own.{of_first}
 use Rattle.booking_rule.proofs.Seeing.{suited_set, suited_more, looks_set, looks_more, ranged_same, ranged_more}
+use Rattle.booking_rule.proofs.Resizing.{resizing_desk, resizing_more}
 
 abbrev unsplit : ℕ → ℕ
 unsplit n = if n == 0 then 1 else 0
@@ -123,9 +125,9 @@ splits_seats seat o d log trail views id v S at is flies limit_flies more =
 alike_more : (v : View) → HoldsAlike v (one_more v)
 alike_more v = record { rooms = record { rooms = refl }; takes = record { takes = refl; ungranted = refl }; limits = record { limits = refl; ungranted = refl }; claims = refl }
 
-pub splits_kept : (n : ℕ) (W : Words) (views : List View) (id : ℕ) (v : View) (d : Desk) → Kept n W views → get_elem? views id ≡ some v → v.desk ≡ Some d → v.ungranted ≡ None → v.ungranted_limit ≡ None → d.split < 64
+pub splits_kept : (n : ℕ) (W : Words) (views : List View) (id : ℕ) (v : View) (d : Desk) → Kept n W views → get_elem? views id ≡ some v → v.desk ≡ Some d → v.ungranted ≡ None → v.ungranted_limit ≡ None → d.split < 64 → d.before ≢ None
     → Kept n W (set views id (one_more v) ++ numbered v ∷ [])
-splits_kept n W views id v d K at is flies limit_flies more =
+splits_kept n W views id v d K at is flies limit_flies more placed =
     let A = of_first n W views id v d K at is in
     record {
       seat = id;
@@ -138,14 +140,18 @@ splits_kept n W views id v d K at is flies limit_flies more =
         begins = A.begins;
         legal = A.legal;
         before = A.before;
+        alone = λ e. absurd (placed e);
+        ahead = A.ahead;
         rule = rule_more (recorded_in v.opening v.journal d) d.pending W (set views id (one_more v)) (numbered v) (rule_view (recorded_in v.opening v.journal d) d.pending W views id v (one_more v) A.rule at (alike_more v)) (record { takes = refl; limits = refl; rooms = refl; claims = refl }) refl refl;
         suited = suited_more (farm_of v.opening) v.journal (set views id (one_more v)) (numbered v) (suited_set (farm_of v.opening) v.journal views id (one_more v) A.suited (A.suited.each id v at)) tt;
         looks = looks_more (recorded_in v.opening v.journal d).slot (set views id (one_more v)) (numbered v) (looks_set (recorded_in v.opening v.journal d).slot views id (one_more v) A.looks (A.looks.each id v at)) tt;
         ranged = ranged_more W.frame W.amount (set views id (one_more v)) (numbered v) refl (ranged_same W.frame W.amount views id v (one_more v) A.ranged at refl);
         written = A.written;
+        resizing = resizing_more (recorded_in v.opening v.journal d).cores (recorded_in v.opening v.journal d).memory (run_of (farm_of v.opening) v.journal) W.host W.frame (set views id (one_more v)) (numbered v)
+            (resizing_desk (recorded_in v.opening v.journal d).cores (recorded_in v.opening v.journal d).memory (run_of (farm_of v.opening) v.journal) W.host W.frame views id v (one_more v) (one_split d) A.resizing at (ap desk_split is)) refl;
         seats = splits_seats id v.opening d v.journal v.trail views id v A.seats at is flies limit_flies more;
       };
     }
 
 pub allows_split : (id : ℕ) (v : View) → MaySplit v → Splits Holds id v (one_more v) (numbered v)
-allows_split id v may s h at = (h.0, splits_kept (Rattle.std.specs.Prelude.slice_index s.words 0) (words_of s.words) s.views id v may.0 h.1 at may.1 may.2 may.3 may.4)
+allows_split id v may s h at = (h.0, splits_kept (Rattle.std.specs.Prelude.slice_index s.words 0) (words_of s.words) s.views id v may.0 h.1 at may.1 may.2 may.3 may.4 may.5)

@@ -16,7 +16,7 @@ use Rattle.booking_rule.specs.Totals.{total}
 use Rattle.booking_rule.specs.Words.{Words, put, with_frame}
 use Rattle.booking_rule.specs.Recorded.{Recorded, Stand}
 use Rattle.booking_rule.specs.Views.{take_of, room_of, take_in, room_in, same_take, same_room, holds, without, limit_take, holds_limit, without_limit}
-use Rattle.booking_rule.specs.Rule.{is_booked, cores_in, memory_in, on_sub, in_flight, granted_on, cores_of, memory_of, booked_on, booked_of, granted_of, on_limit, limit_in_flight, granted_in, running_on, running_of, counted_of, word_of, IsTaken, ShowsFrame, Shows, RunsAhead, claim_in, is_pending, is_claimed, Claims, Rule}
+use Rattle.booking_rule.specs.Rule.{NamesHost, is_booked, cores_in, memory_in, on_sub, in_flight, granted_on, cores_of, memory_of, booked_on, booked_of, granted_of, on_limit, limit_in_flight, granted_in, running_on, running_of, counted_of, word_of, IsTaken, ShowsFrame, Shows, RunsAhead, claim_in, is_pending, is_claimed, Claims, Rule}
 use Rattle.booking_rule.proofs.Sums.{total_append}
 use Rattle.booking_rule.proofs.Moves.{put_here, put_else, frame_moves}
 use Rattle.booking_rule.proofs.Steps.{total_without, take_same, room_same, is_limit, limit_weighs, limit_without}
@@ -215,3 +215,14 @@ module _ (R : Recorded) (slot : ℕ) (f g : FrameWord) (a : AmountWord) (v w : V
             let r = total_append (on_limit l) (limit_take a.limit) v.limits in let q = limit_weighs l a.limit in let x = limit_weighed R f a booked l in let y = limit_free R g a over l in omega arith);
         limit_flight = λ l. ap (limit_in_flight l) u.ungranted_limit;
       }
+
+-- a slot's word changes that isn't pending
+pub names_put : (p : Option ℕ) (host : ℕ) (F : ℕ → FrameWord) (slot : ℕ) (f : FrameWord) → NamesHost p host F → is_pending p slot ≡ false → NamesHost p host (put F slot f)
+names_put p host F slot f names free = record {
+  each = λ j lt is. dite (ℕ_discrete j slot)
+      (λ e. absurd (clash (sym is ∙ ap (is_pending p) e ∙ free)))
+      (λ ne. ap (λ (x : FrameWord). x.host) (put_else F slot f j ne) ∙ names.each j lt is);
+}
+  where
+    clash : true ≡ false → ⊥
+    clash e = cc

@@ -7,7 +7,9 @@ pub mod Link
 pub mod Amounts
 pub mod Looks
 pub mod Ranges
+pub mod Resizing
 pub mod Suits
 pub mod Seats
 pub mod Kept
+pub mod Placing
 pub mod Splits

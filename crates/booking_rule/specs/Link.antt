@@ -1,5 +1,5 @@
 -- What the journal's farm says that words have to show, while its last entry is being carried out.
-use Rattle.std.specs.Prelude.{◌≡◌, ℕ, Bool, false, if◌then◌else◌, ◌==◌, ◌||◌, ◌+◌, List, [], ◌∷◌, Option, Some, None, slice_get}
+use Rattle.std.specs.Prelude.{◌≡◌, ℕ, Bool, false, not, if◌then◌else◌, ◌==◌, ◌&&◌, ◌||◌, ◌+◌, List, [], ◌∷◌, Option, Some, None, slice_get}
 use Rattle.farm_types.specs.declared.attempt.ProcRow.{ProcRow}
 use Rattle.farm_types.specs.declared.entry.Entry.{Entry}
 use Rattle.farm_types.specs.declared.rows.HostRow.{HostRow}
@@ -11,7 +11,7 @@ use Rattle.farm_types.specs.declared.slot_row.Frame.{Frame}
 use Rattle.farm_types.specs.declared.slot_row.SlotRow.{SlotRow}
 use Rattle.farm_types.specs.declared.states.FrameState.{FrameState}
 use Rattle.farm_types.specs.declared.states.FrameState.TheVariants as frame_state
-use Rattle.farm_types.specs.Farm.{Farm, empty_farm, job_at, layer_at, sub_at}
+use Rattle.farm_types.specs.Farm.{Farm, empty_farm, job_at, layer_at, sub_at, sub_of}
 use Rattle.farm_types.specs.Run.{run_of}
 use Rattle.booking_rule.specs.declared.opening.Opening.{Opening}
 use Rattle.booking_rule.specs.declared.desk.Desk.{Desk}
@@ -167,6 +167,26 @@ farm_before o (Some log) = run_of (farm_of o) log
 abbrev pub recorded_by : {X : Type 0} → (Farm → ℕ → X) → Farm → Farm → List ℕ → ℕ → X
 recorded_by says old now done n = if has n done then says now n else says old n
 
+-- a limit by a word's way to say it is among them
+abbrev pub has_limit : ℕ → List ℕ → Bool
+has_limit code [] = false
+has_limit code (x ∷ xs) = (code == x + 1) || has_limit code xs
+
+-- while the words are placed for the first time: of a frame that runs, until its own word is placed, once these were
+abbrev pub lent : Option (List Entry) → Bool → Bool → Stand → Stand
+lent None done placed s = if not done && (placed && (s.phase == 4)) then s else free_at 0
+lent (Some log) done placed s = free_at 0
+
+-- the frame's host was placed; its subscription was, too; its limit was
+abbrev pub hosted : Desk → Stand → Bool
+hosted d s = has s.host d.hosts
+
+abbrev pub is_billed : Farm → Desk → Stand → Bool
+is_billed f d s = has s.host d.hosts && has (sub_of s.show (host_alloc f s.host)) d.subs
+
+abbrev pub is_counted : Desk → Stand → Bool
+is_counted d s = has_limit s.limit d.limits
+
 abbrev pub recorded_of : Farm → Farm → Desk → Recorded
 recorded_of old now d =
     record {
@@ -176,9 +196,9 @@ recorded_of old now d =
       alloc = recorded_by host_alloc old now d.hosts;
       burst = recorded_by burst_at old now d.subs;
       most = recorded_by most_at old now d.limits;
-      roomed = λ slot. free_at 0;
-      billed = λ slot. free_at 0;
-      counted = λ slot. free_at 0;
+      roomed = λ slot. lent d.before (has slot d.slots) (hosted d (stand_at now slot)) (stand_at now slot);
+      billed = λ slot. lent d.before (has slot d.slots) (is_billed now d (stand_at now slot)) (stand_at now slot);
+      counted = λ slot. lent d.before (has slot d.slots) (is_counted d (stand_at now slot)) (stand_at now slot);
     }
 
 abbrev pub recorded_in : Opening → List Entry → Desk → Recorded

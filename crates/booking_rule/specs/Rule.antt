@@ -190,6 +190,10 @@ pub record Claims (alloc : ℕ → ℕ) (pending : Option ℕ) (frame : ℕ → 
       → total (claims_like (claim_in alloc slot (frame slot) (amount slot))) views ≡ 1
   pub not_later : (slot version : ℕ) → slot < 65536 → (frame slot).version < version → total (claims_at slot version) views ≡ 0
 
+-- the pending slot's word names the host
+pub record NamesHost (pending : Option ℕ) (host : ℕ) (frame : ℕ → FrameWord) : Type 0 where
+  pub each : (slot : ℕ) → slot < 65536 → is_pending pending slot ≡ true → (frame slot).host ≡ host
+
 -- ---- the rule
 
 -- Each slot's words show its record, or a claim of it. What a host has free is its size less what is booked there and

@@ -1,5 +1,5 @@
 -- A seat more; what a seat has seen, for another; and a look at the journal's word.
-use Rattle.std.specs.Prelude.{◌≡◌, ℕ, ◌+◌, ◌<◌, if◌then◌else◌, nat_le, length, List, ◌∷◌, ◌++◌, [], Option, Some, None}
+use Rattle.std.specs.Prelude.{◌≡◌, ◌≢◌, ℕ, ◌+◌, ◌<◌, if◌then◌else◌, nat_le, length, List, ◌∷◌, ◌++◌, [], Option, Some, None}
 use mathlib.Core.List.{IsPrefix}
 use Rattle.atomic_table.specs.Table.{Step}
 use Rattle.farm_types.specs.Farm.{empty_farm}
@@ -11,9 +11,9 @@ use Rattle.booking_rule.specs.Kept.{Sat}
 
 -- ---- a seat with the next number
 
--- only the recorder's seat splits one off, with nothing in flight, and only while there are fewer than 64
+-- only the recorder's seat splits one off, with nothing in flight, while there are fewer than 64, and once the words were placed
 abbrev pub MaySplit : View → Type 0
-MaySplit v = (d : Desk) × (v.desk ≡ Some d) × (v.ungranted ≡ None) × (v.ungranted_limit ≡ None) × (d.split < 64)
+MaySplit v = (d : Desk) × (v.desk ≡ Some d) × (v.ungranted ≡ None) × (v.ungranted_limit ≡ None) × (d.split < 64) × (d.before ≢ None)
 
 abbrev pub one_split : Desk → Desk
 one_split d = record d { split = d.split + 1 }

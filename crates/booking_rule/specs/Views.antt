@@ -160,14 +160,27 @@ with_limit_done limit (Some d) = Some (record d { limits = limit ∷ d.limits })
 abbrev pub most_set : View → ℕ → Noted → View
 most_set v limit item = record v { desk = with_limit_done limit v.desk; trail = v.trail ++ item ∷ [] }
 
+-- ---- a host's size is the farm's again, and the recorder's seat's room there is a part of it
+
+abbrev pub rooms_off : ℕ → List Room → List Room
+rooms_off host [] = []
+rooms_off host (r ∷ rs) = if r.host == host then rooms_off host rs else r ∷ rooms_off host rs
+
+abbrev pub with_host_done : ℕ → Option Desk → Option Desk
+with_host_done host None = None
+with_host_done host (Some d) = Some (record d { hosts = host ∷ d.hosts })
+
+abbrev pub size_set : View → ℕ → Noted → View
+size_set v host item = record v { desk = with_host_done host v.desk; rooms = rooms_off host v.rooms; trail = v.trail ++ item ∷ [] }
+
 -- ---- a slot runs ahead of its booking, or no more
 
-abbrev pub with_pending : Option ℕ → Option Desk → Option Desk
-with_pending slot None = None
-with_pending slot (Some d) = Some (record d { pending = slot })
+abbrev pub with_pending : Option ℕ → ℕ → Option Desk → Option Desk
+with_pending slot host None = None
+with_pending slot host (Some d) = Some (record d { pending = slot; on = host })
 
-abbrev pub confirmed : View → Option ℕ → Noted → View
-confirmed v slot item = record v { desk = with_pending slot v.desk; trail = v.trail ++ item ∷ [] }
+abbrev pub confirmed : View → Option ℕ → ℕ → Noted → View
+confirmed v slot host item = record v { desk = with_pending slot host v.desk; trail = v.trail ++ item ∷ [] }
 
 -- ---- an entry, of which no word was changed yet
 

@@ -5,7 +5,7 @@ use std::collections::LinkedList;
 
 /// What the recorder's seat alone knows: how many numbered seats it has split off; the entries before the last one, none while
 /// the words are placed for the first time; the slots, hosts, subscriptions and limits whose words were changed since; and
-/// the slot whose word runs ahead of its booking's commit.
+/// the slot whose word runs ahead of its booking's commit, with the host that this word names.
 pub struct Desk {
     pub split: u64,
     pub before: Option<LinkedList<Entry>>,
@@ -14,4 +14,5 @@ pub struct Desk {
     pub subs: LinkedList<SubNo>,
     pub limits: LinkedList<LimitNo>,
     pub pending: Option<Slot>,
+    pub on: HostNo,
 }

@@ -44,6 +44,12 @@ module _ (law : KeepsRule) (v : View) (id : ℕ) where
 
   -- ---- a subscription
 
+  pub may_load_sub : (sub : ℕ) → ((s : Table) → Asks s id v (loads (sub_place sub)))
+      → MayStep (tells_of (doing.LoadSub sub)) v id (sub_place sub) (λ n. n)
+  may_load_sub sub asks s h at fits =
+      let n = word s (sub_place sub) in
+      (loaded v (sub_place sub) n, on_kind law s id v h at (loads (sub_place sub)) (loaded v (sub_place sub) n) n (asks s) refl refl, refl)
+
   pub may_take_burst : (sub cores : ℕ) → ((s : Table) → Asks s id v (takes_burst sub cores))
       → MayStep (tells_of (doing.TakeBurst sub cores)) v id (sub_place sub) (λ n. (n + cores) % 2 ^ 64)
   may_take_burst sub cores asks s h at fits =
@@ -75,6 +81,12 @@ module _ (law : KeepsRule) (v : View) (id : ℕ) where
       )
 
   -- ---- a limit
+
+  pub may_load_limit : (limit : ℕ) → ((s : Table) → Asks s id v (loads (limit_place limit)))
+      → MayStep (tells_of (doing.LoadLimit limit)) v id (limit_place limit) (λ n. n)
+  may_load_limit limit asks s h at fits =
+      let n = word s (limit_place limit) in
+      (loaded v (limit_place limit) n, on_kind law s id v h at (loads (limit_place limit)) (loaded v (limit_place limit) n) n (asks s) refl refl, refl)
 
   pub may_take_limit : (limit : ℕ) → ((s : Table) → Asks s id v (takes_limit limit))
       → MayStep (tells_of (doing.TakeLimit limit)) v id (limit_place limit) (λ n. (n + 1) % 2 ^ 64)

@@ -4,7 +4,8 @@ use Rattle.farm_types.specs.Booking.{suits}
 use Rattle.farm_types.specs.Run.{run_of}
 use Rattle.frame_words.specs.declared.amount_word.AmountWord.{AmountWord}
 use Rattle.frame_words.specs.declared.frame_word.FrameWord.{FrameWord}
-use Rattle.frame_words.specs.Bits.{frame_bits, frame_of, amount_of, host_of, sub_of, limit_of}
+use Rattle.frame_words.specs.declared.host_word.HostWord.{HostWord}
+use Rattle.frame_words.specs.Bits.{frame_bits, frame_of, amount_of, host_bits, host_of, sub_of, limit_of}
 use Rattle.booking_rule.specs.declared.view.View.{View}
 use Rattle.booking_rule.specs.Words.{frame_place, amount_place, host_place}
 use Rattle.booking_rule.specs.Link.{farm_of, limit_code}
@@ -75,6 +76,19 @@ IsShort v host cores memory (host_short.NoRoom free_cores free_memory) w =
 IsShort v host cores memory (host_short.Moved expected found) w =
     (found ≢ expected) × (cores ≤ (host_of expected).cores) × (memory ≤ (host_of expected).memory)
     × (w ≡ noted (loaded v (host_place host) expected) (host_tried host (host_less expected cores memory) found))
+
+-- all that was free was exactly this, and is taken
+abbrev pub IsWholeTaken : View → ℕ → HostWord → View → Type 0
+IsWholeTaken v host free w =
+    w ≡ with_room (loaded v (host_place host) (host_bits free)) (room_of host free.cores free.memory)
+    (host_taken host (host_less (host_bits free) free.cores free.memory) (host_bits free))
+
+-- other amounts were found free, by the look or by the exchange
+abbrev pub IsOtherFree : View → ℕ → HostWord → HostWord → View → Type 0
+IsOtherFree v host free found w =
+    (found ≢ free)
+    × ((w ≡ loaded v (host_place host) (host_bits found))
+    ⊎ (w ≡ noted (loaded v (host_place host) (host_bits free)) (host_tried host (host_less (host_bits free) free.cores free.memory) (host_bits found))))
 
 -- the host's room goes back, then the place in the limit, then the cores
 abbrev pub hold_given : View → Hold → ℕ → ℕ → ℕ → View

@@ -9,7 +9,7 @@ use Rattle.frame_words.specs.Bits.{frame_of, amount_of, sub_of, limit_of}
 use Rattle.booking_rule.specs.declared.view.View.{View}
 use Rattle.booking_rule.specs.Kept.{Holds, Sat}
 use Rattle.booking_rule.specs.Ranges.{found_used}
-use Rattle.booking_rule.specs.Words.{frame_place, amount_place, host_place}
+use Rattle.booking_rule.specs.Words.{frame_place, amount_place, host_place, sub_place, limit_place}
 use Rattle.booking_core.specs.Kinds.{loaded, tried_burst, retracted_burst, gave_burst, tried_limit, retracted_limit, gave_limit, tried_host, gave_host, tried_claim, tried_drop}
 use Rattle.booking_table.specs.declared.doing.Doing.{Doing}
 use Rattle.booking_table.specs.declared.doing.Doing.TheVariants as doing
@@ -38,6 +38,8 @@ tells_of (doing.LoadFrame slot) v found w =
 tells_of (doing.LoadAmount slot) v found w =
     (w ≡ loaded v (amount_place slot) found) × (found_used slot v.trail ≡ true → IsBetween LEAST_MEMORY MOST_MEMORY (amount_of found).memory)
 tells_of (doing.LoadHost host) v found w = w ≡ loaded v (host_place host) found
+tells_of (doing.LoadSub sub) v found w = w ≡ loaded v (sub_place sub) found
+tells_of (doing.LoadLimit limit) v found w = w ≡ loaded v (limit_place limit) found
 tells_of (doing.TakeBurst sub cores) v found w = (w ≡ tried_burst v sub cores found) × ((sub_of found).booked ≤ 4160000000)
 tells_of (doing.RetractBurst sub cores) v found w = w ≡ retracted_burst v sub cores found
 tells_of (doing.GiveBurst sub cores) v found w = w ≡ gave_burst v sub cores found

@@ -4,7 +4,7 @@ ghost use Rattle.std.specs.Prelude.{◌≡◌, ◌-◌, ◌<◌, ◌^◌, MatchR
 ghost use Rattle.frame_words.specs.Bits.{frame_bits};
 ghost use Rattle.booking_rule.specs.Looks.{HasLook};
 ghost use Rattle.booking_rule.specs.Seats.{seats};
-ghost use Rattle.booking_core.specs.Machine.{IsIdle, MayGive};
+ghost use Rattle.booking_core.specs.Machine.{IsIdle, MayGive, MayGiveRoom};
 ghost use Rattle.booking_table.specs.Seats.{view, IsSeatOf, IsSameSeat};
 ghost use Rattle.booking_table.specs.Holds.{HasHold, HasClaim};
 ghost use Rattle.booking_table.specs.Calls.{look_by, IsSeenFor, SuitsAt, claim_by, IsClaimed, IsTaken, IsDropped};
@@ -96,6 +96,7 @@ impl Table {
         requires table { IsSeatOf self.now seat.old }
         requires may { MayGive (view seat.old) }
         requires held { HasClaim (view seat.old) claim }
+        requires room { MayGiveRoom (view seat.old) claim.hold.host }
         ensures same { IsSameSeat seat.old seat.new }
         ensures answer { IsDropped (view seat.old) claim result (view seat.new) }
     {

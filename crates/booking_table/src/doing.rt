@@ -14,6 +14,12 @@ pub enum Doing {
     LoadHost {
         host: HostNo,
     },
+    LoadSub {
+        sub: SubNo,
+    },
+    LoadLimit {
+        limit: LimitNo,
+    },
     TakeBurst {
         sub: SubNo,
         cores: Cores,

@@ -13,6 +13,13 @@ pub struct BurstHold {
 }
 
 impl BurstHold {
+    /// What stands for such a take. Whether a seat has it, its view decides.
+    pub fn of(sub: SubNo, cores: Cores, limit: Option<LimitNo>) -> BurstHold
+        ensures { result ≡ record { sub = sub; cores = cores; limit = limit } }
+    {
+        BurstHold { sub, cores, limit }
+    }
+
     /// The subscription.
     pub fn sub(&self) -> SubNo
         ensures { result ≡ self.now.sub }
@@ -51,6 +58,17 @@ pub struct Hold {
 }
 
 impl Hold {
+    /// What stands for the cores with such a room. Whether a seat has them, its view decides.
+    pub fn of(burst: BurstHold, host: HostNo, memory: Kb) -> Hold
+        ensures { result ≡ record { burst = burst; host = host; memory = memory } }
+    {
+        Hold {
+            burst,
+            host,
+            memory,
+        }
+    }
+
     /// The cores and their subscription.
     pub fn burst(&self) -> &BurstHold
         ensures { result.now ≡ self.now.burst }
@@ -93,6 +111,17 @@ pub struct Claim {
 }
 
 impl Claim {
+    /// What stands for such a claim. Whether a seat has it, its view decides.
+    pub fn of(slot: Slot, version: Version, hold: Hold) -> Claim
+        ensures { result ≡ record { slot = slot; version = version; hold = hold } }
+    {
+        Claim {
+            slot,
+            version,
+            hold,
+        }
+    }
+
     /// The slot.
     pub fn slot(&self) -> Slot
         ensures { result ≡ self.now.slot }

@@ -12,6 +12,7 @@ mod room;
 mod seen;
 mod steps;
 mod table;
+mod words;
 
 pub use burst::BurstFull;
 pub use claiming::{Dropped, Taken};

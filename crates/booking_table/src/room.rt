@@ -1,13 +1,16 @@
 //! Room on a host: taken, and given back.
 
-ghost use Rattle.std.specs.Prelude.{◌≡◌, ◌<◌, ℕ, MatchResult};
+ghost use Rattle.std.specs.Prelude.{◌≡◌, ◌<◌, ◌≤◌, ℕ, true, MatchResult};
 ghost use Rattle.farm_types.specs.Limits.{IsBetween};
-ghost use Rattle.farm_types.specs.declared.limits.TheConstants.{LEAST_MEMORY, MOST_MEMORY};
+ghost use Rattle.farm_types.specs.declared.limits.TheConstants.{LEAST_MEMORY, MOST_CORES, MOST_MEMORY};
+ghost use Rattle.frame_words.specs.Bits.{FitsHost};
 ghost use Rattle.booking_rule.specs.Seats.{IsSeated};
-ghost use Rattle.booking_core.specs.Machine.{MayGive};
+ghost use Rattle.booking_rule.specs.Views.{holds, room_of, same_room};
+ghost use Rattle.booking_core.specs.Kinds.{gave_host};
+ghost use Rattle.booking_core.specs.Machine.{MayGive, MayGiveRoom};
 ghost use Rattle.booking_table.specs.Seats.{view, IsSeatOf, IsSameSeat};
 ghost use Rattle.booking_table.specs.Holds.{IsBurst, hold_of, HasHold};
-ghost use Rattle.booking_table.specs.Calls.{IsRoomTaken, IsShort, hold_given};
+ghost use Rattle.booking_table.specs.Calls.{IsRoomTaken, IsShort, IsWholeTaken, IsOtherFree, hold_given};
 
 use crate::holds::{BurstHold, Hold};
 use crate::table::{Seat, Table};
@@ -60,11 +63,13 @@ impl Table {
         })
     }
 
-    /// Gives all of a hold back: the host's room, the place in the limit, the cores.
+    /// Gives all of a hold back: the host's room, the place in the limit, the cores. The recorder's seat gives no room back
+    /// on a host that is to be resized.
     pub fn give_back(&self, seat: &mut Seat, hold: Hold)
         requires table { IsSeatOf self.now seat.old }
         requires may { MayGive (view seat.old) }
         requires held { HasHold (view seat.old) hold }
+        requires room { MayGiveRoom (view seat.old) hold.host }
         ensures same { IsSameSeat seat.old seat.new }
         ensures given { (room place found : ℕ) × (view seat.new ≡ hold_given (view seat.old) hold room place found) }
     {
@@ -75,5 +80,42 @@ impl Table {
         } = hold;
         self.give_free(seat, host, burst.cores, memory);
         self.give_burst(seat, burst);
+    }
+
+    /// Takes all that a host has free, where it is exactly this, by a look and one exchange; else it tells what was free.
+    pub fn take_whole(&self, seat: &mut Seat, host: HostNo, free: HostWord) -> Result<(), HostWord>
+        requires table { IsSeatOf self.now seat.old }
+        requires seated { IsSeated (view seat.old) }
+        requires within { (host < 4096) × FitsHost free }
+        ensures same { IsSameSeat seat.old seat.new }
+        ensures answer { MatchResult result
+            (λ _. IsWholeTaken (view seat.old) host free (view seat.new))
+            (λ found. IsOtherFree (view seat.old) host free found (view seat.new)) }
+    {
+        let HostWord { cores, memory } = free;
+        let expected = free.pack();
+        let word = self.load_host(seat, host);
+        if word != expected {
+            return Err(HostWord::unpack(word));
+        }
+        let found = self.take_free(seat, host, cores, memory, expected);
+        if found != expected {
+            return Err(HostWord::unpack(found));
+        }
+        Ok(())
+    }
+
+    /// Gives room back on a host that isn't to be resized by this seat.
+    pub fn give_whole(&self, seat: &mut Seat, host: HostNo, room: HostWord)
+        requires table { IsSeatOf self.now seat.old }
+        requires may { MayGive (view seat.old) }
+        requires within { (host < 4096) × (room.cores ≤ MOST_CORES) × (room.memory ≤ MOST_MEMORY) }
+        requires held { holds same_room (room_of host room.cores room.memory) (view seat.old).rooms ≡ true }
+        requires room { MayGiveRoom (view seat.old) host }
+        ensures same { IsSameSeat seat.old seat.new }
+        ensures given { (found : ℕ) × (view seat.new ≡ gave_host (view seat.old) host room.cores room.memory found) }
+    {
+        let HostWord { cores, memory } = room;
+        self.give_free(seat, host, cores, memory);
     }
 }

@@ -4,14 +4,14 @@ ghost use Rattle.std.specs.Prelude.{◌≡◌, ◌≤◌, ◌<◌, ◌==◌, tru
 ghost use Rattle.farm_types.specs.Limits.{IsBetween};
 ghost use Rattle.farm_types.specs.declared.limits.TheConstants.{LEAST_CORES, LEAST_MEMORY, MOST_CORES, MOST_MEMORY};
 ghost use Rattle.frame_words.specs.Bits.{frame_of, frame_bits, amount_of, host_of, sub_of, limit_of};
-ghost use Rattle.booking_rule.specs.Words.{frame_place, amount_place, host_place};
+ghost use Rattle.booking_rule.specs.Words.{frame_place, amount_place, host_place, sub_place, limit_place};
 ghost use Rattle.booking_rule.specs.Views.{take_of, room_of, same_take, same_limit, same_room, same_claim, holds};
 ghost use Rattle.booking_rule.specs.Link.{farm_of};
 ghost use Rattle.booking_rule.specs.Suits.{SuitsOnce};
 ghost use Rattle.booking_rule.specs.Seats.{IsSeated, seats};
 ghost use Rattle.booking_rule.specs.Ranges.{found_used};
 ghost use Rattle.booking_core.specs.Kinds.{loaded, tried_burst, gave_burst, retracted_burst, tried_limit, gave_limit, retracted_limit, tried_host, gave_host, tried_claim, tried_drop, waiting_for, setup_for};
-ghost use Rattle.booking_core.specs.Machine.{CanTake, MayGive, IsIdle, IsFormedClaim, HasSeen};
+ghost use Rattle.booking_core.specs.Machine.{CanTake, MayGive, MayGiveRoom, IsIdle, IsFormedClaim, HasSeen};
 ghost use Rattle.booking_table.specs.Seats.{view, IsSeatOf, IsSameSeat};
 ghost use Rattle.booking_table.specs.Holds.{HasHold, claim_at};
 
@@ -70,6 +70,34 @@ impl Table {
     {
         steps_keep_the_rule();
         self.load(seat, usize::from(host.0) + HOSTS, Doing::LoadHost { host })
+    }
+
+    // A subscription's word, as it was found.
+    pub(crate) fn load_sub(&self, seat: &mut Seat, sub: SubNo) -> u64
+        requires table { IsSeatOf self.now seat.old }
+        requires seated { IsSeated (view seat.old) }
+        requires within { sub < 1024 }
+        ensures same { IsSameSeat seat.old seat.new }
+        ensures loaded { view seat.new ≡ loaded (view seat.old) (sub_place sub) result }
+    {
+        steps_keep_the_rule();
+        self.load(seat, usize::from(sub.0) + SUBS, Doing::LoadSub { sub })
+    }
+
+    // A limit's word, as it was found.
+    pub(crate) fn load_limit(&self, seat: &mut Seat, limit: LimitNo) -> u64
+        requires table { IsSeatOf self.now seat.old }
+        requires seated { IsSeated (view seat.old) }
+        requires within { limit < 255 }
+        ensures same { IsSameSeat seat.old seat.new }
+        ensures loaded { view seat.new ≡ loaded (view seat.old) (limit_place limit) result }
+    {
+        steps_keep_the_rule();
+        self.load(
+            seat,
+            usize::from(limit.0) + LIMITS,
+            Doing::LoadLimit { limit },
+        )
     }
 
     // Adds cores to what is booked of a subscription.
@@ -220,6 +248,7 @@ impl Table {
         requires may { MayGive (view seat.old) }
         requires within { (host < 4096) × (cores ≤ MOST_CORES) × (memory ≤ MOST_MEMORY) }
         requires held { holds same_room (room_of host cores memory) (view seat.old).rooms ≡ true }
+        requires room { MayGiveRoom (view seat.old) host }
         ensures same { IsSameSeat seat.old seat.new }
         ensures given { view seat.new ≡ gave_host (view seat.old) host cores memory result }
     {

@@ -1,5 +1,6 @@
 -- A seat that stays free may go on taking and giving, and the first one may be split again.
 use Rattle.std.proofs.Common.{◌≡◌, ◌+◌, ◌∙◌, sym, ap, arith}
+use Rattle.std.specs.Prelude.{Some, None}
 use Rattle.booking_rule.specs.declared.view.View.{View}
 use Rattle.booking_rule.specs.Kept.{first_view, no_desk}
 use Rattle.booking_rule.specs.Seats.{desk_seats, number_seats}
@@ -13,6 +14,9 @@ may_take v w stays can may = (
   ((λ none. may.0 (sym stays.desk ∙ none.0, sym stays.number ∙ none.1)), (λ d is. may.1 d (sym stays.desk ∙ is))),
 )
 
+some_none : {A : Type 0} {x : A} → Some x ≡ None → ⊥
+some_none e = cc
+
 pub may_split_again : (v w x : View) → v ≡ first_view → StaysFree v w → x ≡ one_more w → MaySplit x
 may_split_again v w x is stays split = (
   one_split no_desk,
@@ -20,4 +24,5 @@ may_split_again v w x is stays split = (
   ap (λ (y : View). y.ungranted) split ∙ stays.ungranted,
   ap (λ (y : View). y.ungranted_limit) split ∙ stays.ungranted_limit,
   omega arith,
+  some_none,
 )

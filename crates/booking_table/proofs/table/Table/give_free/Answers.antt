@@ -22,5 +22,5 @@ add-requires-clause-may c =
     let amount : c.pack.result ≡ c.pack.result = refl in (
       omega (arith, place, r.within.0),
       moved (tells_of d) v id (λ (x n : ℕ). (n + x) % 2 ^ 64) (c.from.result + 131073) (host_place c.args.host) c.pack.result c.pack.result place amount
-          (may_give_room law v id c.args.host c.args.cores c.args.memory c.pack.result amounts (λ s. (r.may, r.within.0, r.held))),
+          (may_give_room law v id c.args.host c.args.cores c.args.memory c.pack.result amounts (λ s. (r.may, r.within.0, r.held, r.room))),
     )
