@@ -1,0 +1,16 @@
+pub mod Between
+pub mod Turning
+pub mod Written
+pub mod Setting
+pub mod Confirming
+pub mod Booking
+pub mod Keeps
+pub mod Journals
+pub mod Starting
+pub mod Whole
+pub mod Sizing
+pub mod Opening
+pub mod Closing
+pub mod Placing
+pub mod Caps
+pub mod Bare

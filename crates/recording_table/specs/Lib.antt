@@ -1,0 +1,3 @@
+pub mod Booking
+pub mod Steps
+pub mod Calls
