@@ -1,0 +1,13 @@
+pub mod SizesResized
+pub mod SizesTaken
+pub mod PlacingDesk
+pub mod PlacingFarm
+pub mod PlacingAsks
+pub mod OpeningDone
+pub mod PlacingSteps
+pub mod CarryingFarms
+pub mod CarryingViews
+pub mod CarryingSlots
+pub mod CarryingGiving
+pub mod CarryingOthers
+pub mod CarryingTurns

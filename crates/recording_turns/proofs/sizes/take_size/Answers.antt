@@ -1,0 +1,15 @@
+use Rattle.std.proofs.Common.{◌≡◌}
+use Rattle.booking_table.specs.Seats.{view}
+use Rattle.recording_turns.specs.Sizes.{free_of}
+use Rattle.recording_turns.proofs.SizesTaken.{has_size}
+use Rattle.recording_turns.proofs.sizes.take_size.Goals as goal
+
+pub returns-clause-answer : goal.returns-clause-answer
+returns-clause-answer c =
+    let f = c.args.farm.now in
+    let free = c.free_word-cores.result in
+    let is : free ≡ free_of f c.args.host = λ i. record { cores = c.free_word-cores.ensures.cores i; memory = c.free_word-cores.ensures.memory i } in (
+      is,
+      has_size (view c.args.seat.now) f c.args.host free (view c.take_whole.new.seat) c.requires.farm c.requires.rests c.kept.ensures
+          (c.used_is_running.ensures f c.kept.ensures) c.requires.there is c.free_word-cores.ensures.within c.in_ok-take_whole.ensures.answer,
+    )
