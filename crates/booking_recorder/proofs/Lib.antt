@@ -1,0 +1,9 @@
+pub mod Rests
+pub mod Ready
+pub mod Stopped
+pub mod Ahead
+pub mod Booked
+pub mod Confirmed
+pub mod Held
+pub mod Reasons
+pub mod Homes
