@@ -47,6 +47,28 @@ impl Books {
         })
     }
 
+    /// The booking of the slot's frame on the host that is asked for at the moment (seconds), or the first reason why it may not be recorded. Tags are
+    /// passed over: who asks for a booking has compared them, and the host's may be others since.
+    pub fn recordable(&self, slot: Slot, host: HostNo, moment: u64) -> Result<Booking, NotBooked>
+        requires { IsWhole self.now }
+        ensures may { is_ok result ≡ may_record self.now.farm slot host }
+        ensures why { result_err result ≡ why_not_record self.now.farm slot host }
+        ensures asked { IfOk result (IsAsked slot host moment) }
+        ensures row { IfOk result (IsBooking self.now.farm) }
+    {
+        let parts = match self.parts(slot, host) {
+            Ok(parts) => parts,
+            Err(why) => return Err(why),
+        };
+        let row = parts.row(slot, host, self.later_of(moment));
+        Ok(Booking {
+            slot,
+            host,
+            moment,
+            row,
+        })
+    }
+
     /// Whether frames of the job may be booked on the host, as far as host and job decide it: the host is up and open, and the job isn't paused and of
     /// the host's facility.
     pub fn takes_job(&self, host: HostNo, job: JobNo) -> bool
