@@ -27,3 +27,4 @@ pub mod Sizing
 pub mod Placing
 pub mod Hosting
 pub mod Billing
+pub mod Alone

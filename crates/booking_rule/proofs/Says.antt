@@ -99,7 +99,7 @@ slot_nowhere : (f : Farm) (x : Option SlotRow) → (slot_stand f x).phase ≡ 1 
 slot_nowhere f None e = refl
 slot_nowhere f (Some s) e = frame_nowhere f s s.frame e
 
-stand_nowhere : (f : Farm) (n : ℕ) → (stand_at f n).phase ≡ 1 → (stand_at f n).host ≡ 0
+pub stand_nowhere : (f : Farm) (n : ℕ) → (stand_at f n).phase ≡ 1 → (stand_at f n).host ≡ 0
 unfolding stand_at
 stand_nowhere f n e = slot_nowhere f (slice_get f.slots n) e
 

@@ -63,6 +63,10 @@ alike_settled v found = record { rooms = record { rooms = refl }; takes = record
 pub all_seen : (n : ℕ) (W : Words) (views : List View) (id : ℕ) (v : View) (d : Desk) → Kept n W views → get_elem? views id ≡ some v → v.desk ≡ Some d → longer_of v.journal v.told ≡ v.journal
 all_seen n W views id v d K at is = let A = of_first n W views id v d K at is in whole v.journal v.told (A.seats.each id v at).told
 
+-- it did all that it was told of its trail
+own_told : (n : ℕ) (W : Words) (views : List View) (id : ℕ) (v : View) (d : Desk) → Kept n W views → get_elem? views id ≡ some v → v.desk ≡ Some d → IsPrefix v.told_trail v.trail
+own_told n W views id v d K at is = let A = of_first n W views id v d K at is in (A.seats.each id v at).told_trail
+
 first_settles : (n : ℕ) (W : Words) (views : List View) (id : ℕ) (v : View) (d : Desk) (found : ℕ) → Kept n W views → get_elem? views id ≡ some v → v.desk ≡ Some d → Kept n W (set views id (settled v found))
 first_settles n W views id v d found K at is =
     let w = settled v found in
@@ -132,8 +136,17 @@ pub settles_kept : (n : ℕ) (W : Words) (views : List View) (id : ℕ) (v : Vie
 settles_kept n W views id v found K at =
     let m = K.own.seats.each id v at in
     let j = either v.journal v.told K.log m.prefix m.told in
-    let t = either v.desk_trail v.told_trail K.trail m.desk_trail m.told_trail in
-    (go v.desk refl, record { journal = j.1.0; told = j.1.1; desk_trail = t.1.0; told_trail = t.1.1; first = λ d is. all_seen n W views id v d K at is })
+    let t = either v.desk_trail v.told_trail K.trail m.desk_trail m.told_trail in (
+      go v.desk refl,
+      record {
+        journal = j.1.0;
+        told = j.1.1;
+        desk_trail = t.1.0;
+        told_trail = t.1.1;
+        first = λ d is. all_seen n W views id v d K at is;
+        own = λ d is. own_told n W views id v d K at is;
+      },
+    )
   where
     go : (x : Option Desk) → v.desk ≡ x → Kept n W (set views id (settled v found))
     go None is = other_settles n W views id v found K at is

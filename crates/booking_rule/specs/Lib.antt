@@ -13,3 +13,4 @@ pub mod Seats
 pub mod Kept
 pub mod Placing
 pub mod Splits
+pub mod Alone

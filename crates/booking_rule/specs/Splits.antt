@@ -123,13 +123,15 @@ settled v found =
       trail = v.trail ++ look_at 0 found ∷ [];
     }
 
--- what was seen and what was told are beginnings of one journal, which the recorder's seat has whole
+-- What was seen and what was told are beginnings of one journal, which the recorder's seat has whole. What that seat was
+-- told of its trail is a beginning of it.
 pub record Settles (v w : View) : Type 0 where
   pub journal : IsPrefix v.journal w.journal
   pub told : IsPrefix v.told w.journal
   pub desk_trail : IsPrefix v.desk_trail w.desk_trail
   pub told_trail : IsPrefix v.told_trail w.desk_trail
   pub first : (d : Desk) → v.desk ≡ Some d → w.journal ≡ v.journal
+  pub own : (d : Desk) → v.desk ≡ Some d → IsPrefix v.told_trail v.trail
 
 abbrev pub sees : Step (Unit {0}) → Sat → ℕ → Sat → Type 0
 sees st m r m' = (m' ≡ (settled m.0 r, m.1)) × Settles m.0 m'.0

@@ -1,10 +1,11 @@
 -- .. and of a slot: a look at its words, a claim, and the end of one.
-use Rattle.std.proofs.Common.{◌≡◌, ℕ, ◌<◌, ◌==◌, if◌then◌else◌, refl, ◌∙◌, inr}
+use Rattle.std.proofs.Common.{◌≡◌, ℕ, ◌<◌, ◌==◌, if◌then◌else◌, [], ◌∷◌, refl, ◌∙◌, inr}
 use prog.Atomic.{either}
 use Rattle.std.specs.Prelude.{Option}
 use Rattle.frame_words.specs.Bits.{frame_bits}
 use Rattle.booking_rule.specs.declared.view.View.{View}
-use Rattle.booking_rule.specs.Words.{frame_place, amount_place}
+use Rattle.booking_rule.specs.Words.{frame_place, amount_place, words_of}
+use Rattle.booking_rule.proofs.Alone.{amount_shown, claim_shown, slot_shown, unnumbered}
 use Rattle.booking_core.specs.Kinds.{loaded, tried_claim, tried_drop, waiting_for, setup_for}
 use Rattle.booking_core.specs.Kinds.Kind.{loads, claims, drops}
 use Rattle.booking_core.specs.Machine.{Table, word, Asks}
@@ -20,7 +21,14 @@ module _ (law : KeepsRule) (v : View) (id : ℕ) where
       let n = word s (frame_place slot) in (
         loaded v (frame_place slot) n,
         on_kind law s id v h at (loads (frame_place slot)) (loaded v (frame_place slot) n) n (asks s) refl refl,
-        (refl, λ used. h.1.own.ranged.cores slot lt used),
+        (
+          refl,
+          λ used. h.1.own.ranged.cores slot lt used,
+          λ alone. (
+            slot_shown (word s 0) (words_of s.words) s.views id v [] h.1 at alone refl slot lt,
+            unnumbered (word s 0) (words_of s.words) s.views id v [] h.1 at alone,
+          ),
+        ),
       )
 
   pub may_load_amount : (slot : ℕ) → slot < 65536 → ((s : Table) → Asks s id v (loads (amount_place slot)))
@@ -29,7 +37,11 @@ module _ (law : KeepsRule) (v : View) (id : ℕ) where
       let n = word s (amount_place slot) in (
         loaded v (amount_place slot) n,
         on_kind law s id v h at (loads (amount_place slot)) (loaded v (amount_place slot) n) n (asks s) refl refl,
-        (refl, λ used. h.1.own.ranged.memory slot lt (inr (id, v, at, used))),
+        (
+          refl,
+          λ used. h.1.own.ranged.memory slot lt (inr (id, v, at, used)),
+          λ alone. amount_shown (word s 0) (words_of s.words) s.views id v [] h.1 at alone slot lt,
+        ),
       )
 
   pub may_claim : (slot version host sub cores : ℕ) (limit : Option ℕ) (memory old new : ℕ)
@@ -44,7 +56,7 @@ module _ (law : KeepsRule) (v : View) (id : ℕ) where
         w,
         on_kind law s id v h at (claims c) w (either (n == old) new n) (asks s) refl
             (either_if (n == old) new n ∙ λ i. if n == was i then is i else n),
-        refl,
+        (refl, λ alone. slot_shown (word s 0) (words_of s.words) s.views id v [] h.1 at alone refl slot (asks s).2.0),
       )
 
   pub may_drop : (slot version host sub cores : ℕ) (limit : Option ℕ) (memory old new : ℕ)
@@ -59,5 +71,8 @@ module _ (law : KeepsRule) (v : View) (id : ℕ) where
         w,
         on_kind law s id v h at (drops c) w (either (n == old) new n) (asks s) refl
             (either_if (n == old) new n ∙ λ i. if n == was i then is i else n),
-        refl,
+        (
+          refl,
+          λ alone next. claim_shown (word s 0) (words_of s.words) s.views id v (c ∷ []) h.1 at alone c refl (asks s).1.0 next,
+        ),
       )

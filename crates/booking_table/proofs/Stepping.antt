@@ -1,5 +1,5 @@
 -- Each kind of a claimant's step is one that its seat may do, by the law of steps: of a subscription, a limit and a host.
-use Rattle.std.proofs.Common.{◌≡◌, ℕ, ◌+◌, ◌-◌, ◌%◌, ◌^◌, ◌==◌, Bool, true, false, if◌then◌else◌, List, [], ◌∷◌, slice_index, slice_set, sym, refl, ap, ◌∙◌, subst}
+use Rattle.std.proofs.Common.{◌≡◌, ℕ, ◌+◌, ◌-◌, ◌%◌, ◌^◌, ◌<◌, ◌==◌, Bool, true, false, if◌then◌else◌, List, [], ◌∷◌, slice_index, slice_set, sym, refl, ap, ◌∙◌, subst}
 use prog.Atomic.{either}
 use mathlib.Core.Option.{some}
 use lib.ListN.{get_elem?}
@@ -13,6 +13,7 @@ use Rattle.booking_core.specs.Machine.{Table, word, Asks, acts, on_word, Move, R
 use Rattle.booking_core.proofs.Wrapping.{takes_burst_writes, gives_burst_writes, retracts_burst_writes, takes_limit_writes, gives_limit_writes, retracts_limit_writes, gives_host_writes}
 use Rattle.booking_table.specs.declared.doing.Doing.TheVariants as doing
 use Rattle.booking_table.specs.Steps.{MayStep, tells_of}
+use Rattle.booking_table.proofs.Shown.{shows_burst, shows_limit, shows_room}
 
 -- what the law of steps says
 abbrev pub KeepsRule : Type 0
@@ -36,11 +37,14 @@ module _ (law : KeepsRule) (s : Table) (id : ℕ) (v : View) (h : Holds s) (at :
   on_kind k w m asks is writes = subst (λ (n : ℕ). Holds (with_word s (place k) n id w)) (sym writes) (subst Holds is (by_law k asks))
 
 module _ (law : KeepsRule) (v : View) (id : ℕ) where
-  pub may_load_host : (host : ℕ) → ((s : Table) → Asks s id v (loads (host_place host)))
+  pub may_load_host : (host : ℕ) → host < 4096 → ((s : Table) → Asks s id v (loads (host_place host)))
       → MayStep (tells_of (doing.LoadHost host)) v id (host_place host) (λ n. n)
-  may_load_host host asks s h at fits =
-      let n = word s (host_place host) in
-      (loaded v (host_place host) n, on_kind law s id v h at (loads (host_place host)) (loaded v (host_place host) n) n (asks s) refl refl, refl)
+  may_load_host host lt asks s h at fits =
+      let n = word s (host_place host) in (
+        loaded v (host_place host) n,
+        on_kind law s id v h at (loads (host_place host)) (loaded v (host_place host) n) n (asks s) refl refl,
+        (refl, λ alone. shows_room (slice_index s.words 0) (words_of s.words) s.views id v h.1 at alone host lt),
+      )
 
   -- ---- a subscription
 
@@ -57,7 +61,11 @@ module _ (law : KeepsRule) (v : View) (id : ℕ) where
       let w = tried_burst v sub cores n in (
         w,
         on_kind law s id v h at (takes_burst sub cores) w ((n + cores) % 2 ^ 64) (asks s) refl (takes_burst_writes s id v h at sub cores (asks s) fits),
-        (refl, booked_fits (slice_index s.words 0) (words_of s.words) s.views h.1 sub (asks s).1),
+        (
+          refl,
+          booked_fits (slice_index s.words 0) (words_of s.words) s.views h.1 sub (asks s).1,
+          λ alone. shows_burst (slice_index s.words 0) (words_of s.words) s.views id v h.1 at alone sub (asks s).1,
+        ),
       )
 
   pub may_give_burst : (sub cores : ℕ) → ((s : Table) → Asks s id v (gives_burst sub cores))
@@ -95,7 +103,11 @@ module _ (law : KeepsRule) (v : View) (id : ℕ) where
       let w = tried_limit v limit n in (
         w,
         on_kind law s id v h at (takes_limit limit) w ((n + 1) % 2 ^ 64) (asks s) refl (takes_limit_writes s id v h at limit (asks s) fits),
-        (refl, running_fits (slice_index s.words 0) (words_of s.words) s.views h.1 limit (asks s).1),
+        (
+          refl,
+          running_fits (slice_index s.words 0) (words_of s.words) s.views h.1 limit (asks s).1,
+          λ alone. shows_limit (slice_index s.words 0) (words_of s.words) s.views id v h.1 at alone limit (asks s).1,
+        ),
       )
 
   pub may_give_limit : (limit : ℕ) → ((s : Table) → Asks s id v (gives_limit limit))
@@ -129,7 +141,7 @@ module _ (law : KeepsRule) (v : View) (id : ℕ) where
         w,
         on_kind law s id v h at (takes_host host cores memory free) w (either (n == free) wanted n) (asks s) refl
             (either_if (n == free) wanted n ∙ ap (λ (x : ℕ). if n == free then x else n) is),
-        refl,
+        (refl, λ alone. shows_room (slice_index s.words 0) (words_of s.words) s.views id v h.1 at alone host (asks s).1),
       )
 
   pub may_give_room : (host cores memory amounts : ℕ) → amounts ≡ host_amounts cores memory

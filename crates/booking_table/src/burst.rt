@@ -1,12 +1,14 @@
 //! Cores of a subscription's burst: taken, and given back.
 
-ghost use Rattle.std.specs.Prelude.{◌≡◌, ◌<◌, ℕ, MatchResult};
+ghost use Rattle.std.specs.Prelude.{◌≡◌, ◌<◌, ℕ, [], IfErr, MatchResult};
 ghost use Rattle.farm_types.specs.Limits.{IsBetween};
 ghost use Rattle.farm_types.specs.declared.limits.TheConstants.{LEAST_CORES, MOST_CORES};
+ghost use Rattle.booking_rule.specs.Alone.{IsAlone};
 ghost use Rattle.booking_core.specs.Kinds.{gave_burst};
 ghost use Rattle.booking_core.specs.Machine.{CanTake, MayGive};
 ghost use Rattle.booking_table.specs.Seats.{view, IsSeatOf, IsSameSeat};
 ghost use Rattle.booking_table.specs.Holds.{burst_hold, HasBurst};
+ghost use Rattle.booking_table.specs.Alone.{ShowsFull};
 ghost use Rattle.booking_table.specs.Calls.{IsBurstTaken, IsBurstFull, place_given};
 
 use crate::holds::BurstHold;
@@ -36,6 +38,7 @@ impl Table {
         ensures answer { MatchResult result
             (λ b. (b ≡ burst_hold sub cores) × IsBurstTaken (view seat.old) sub cores (view seat.new))
             (λ full. IsBurstFull (view seat.old) sub cores full (view seat.new)) }
+        ensures alone { IsAlone [] (view seat.old) → IfErr result (λ full. ShowsFull (view seat.old) sub full) }
     {
         let found = self.add_booked(seat, sub, cores);
         let SubWord { burst, booked } = SubWord::unpack(found);

@@ -1,12 +1,17 @@
 //! A claim of a waiting frame, and the end of one that isn't booked.
 
-ghost use Rattle.std.specs.Prelude.{◌≡◌, ◌-◌, ◌<◌, ◌^◌, MatchResult};
+ghost use Rattle.std.specs.Prelude.{◌≡◌, ◌+◌, ◌-◌, ◌<◌, ◌^◌, [], ◌∷◌, IsOk, MatchResult};
 ghost use Rattle.frame_words.specs.Bits.{frame_bits};
+ghost use Rattle.booking_rule.specs.Alone.{IsAlone};
+ghost use Rattle.booking_rule.specs.Kept.{farm_in};
+ghost use Rattle.booking_rule.specs.Link.{stand_at};
 ghost use Rattle.booking_rule.specs.Looks.{HasLook};
 ghost use Rattle.booking_rule.specs.Seats.{seats};
 ghost use Rattle.booking_core.specs.Machine.{IsIdle, MayGive, MayGiveRoom};
 ghost use Rattle.booking_table.specs.Seats.{view, IsSeatOf, IsSameSeat};
-ghost use Rattle.booking_table.specs.Holds.{HasHold, HasClaim};
+ghost use Rattle.booking_table.specs.declared.claiming.Dropped.TheVariants as dropping;
+ghost use Rattle.booking_table.specs.Alone.{ShowsSeen};
+ghost use Rattle.booking_table.specs.Holds.{HasHold, HasClaim, claim_of};
 ghost use Rattle.booking_table.specs.Calls.{look_by, IsSeenFor, SuitsAt, claim_by, IsClaimed, IsTaken, IsDropped};
 
 use crate::holds::{Claim, Hold};
@@ -73,6 +78,7 @@ impl Table {
         ensures answer { MatchResult result
             (λ c. (c ≡ claim_by hold seen) × IsClaimed (view seat.old) (claim_by hold seen) (view seat.new))
             (λ e. (e.0 ≡ hold) × IsTaken (view seat.old) (claim_by hold seen) e.1 (view seat.new)) }
+        ensures alone { IsAlone [] (view seat.old) → ShowsSeen (view seat.old) seen → IsOk result }
     {
         let slot = seen.slot;
         let cores = hold.burst().cores();
@@ -99,6 +105,8 @@ impl Table {
         requires room { MayGiveRoom (view seat.old) claim.hold.host }
         ensures same { IsSameSeat seat.old seat.new }
         ensures answer { IsDropped (view seat.old) claim result (view seat.new) }
+        ensures alone { IsAlone (claim_of claim ∷ []) (view seat.old) → (stand_at (farm_in (view seat.old)) claim.slot).version + 1 ≡ claim.version
+            → result ≡ dropping.Back }
     {
         let Claim {
             slot,

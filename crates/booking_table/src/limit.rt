@@ -1,9 +1,11 @@
 //! A place in a limit: taken, and given back.
 
-ghost use Rattle.std.specs.Prelude.{◌≡◌, ◌<◌, ℕ, None, MatchResult};
+ghost use Rattle.std.specs.Prelude.{◌≡◌, ◌<◌, ℕ, [], None, IfErr, MatchResult};
+ghost use Rattle.booking_rule.specs.Alone.{IsAlone};
 ghost use Rattle.booking_core.specs.Machine.{CanTake, MayGive};
 ghost use Rattle.booking_table.specs.Seats.{view, IsSeatOf, IsSameSeat};
 ghost use Rattle.booking_table.specs.Holds.{HasBurst, with_place, without_place};
+ghost use Rattle.booking_table.specs.Alone.{ShowsNoPlace};
 ghost use Rattle.booking_table.specs.Calls.{IsLimitTaken, IsLimitFull, place_given};
 
 use crate::holds::BurstHold;
@@ -35,6 +37,7 @@ impl Table {
         ensures answer { MatchResult result
             (λ b. (b ≡ with_place burst limit) × IsLimitTaken (view seat.old) limit (view seat.new))
             (λ e. (e.0 ≡ burst) × IsLimitFull (view seat.old) limit e.1 (view seat.new)) }
+        ensures alone { IsAlone [] (view seat.old) → IfErr result (λ e. ShowsNoPlace (view seat.old) limit e.1) }
     {
         let found = self.add_running(seat, limit);
         let LimitWord { most, running } = LimitWord::unpack(found);

@@ -1,15 +1,17 @@
 //! Room on a host: taken, and given back.
 
-ghost use Rattle.std.specs.Prelude.{◌≡◌, ◌<◌, ◌≤◌, ℕ, true, MatchResult};
+ghost use Rattle.std.specs.Prelude.{◌≡◌, ◌<◌, ◌≤◌, ℕ, true, [], IfErr, MatchResult};
 ghost use Rattle.farm_types.specs.Limits.{IsBetween};
 ghost use Rattle.farm_types.specs.declared.limits.TheConstants.{LEAST_MEMORY, MOST_CORES, MOST_MEMORY};
 ghost use Rattle.frame_words.specs.Bits.{FitsHost};
+ghost use Rattle.booking_rule.specs.Alone.{IsAlone, ShowsRoom};
 ghost use Rattle.booking_rule.specs.Seats.{IsSeated};
 ghost use Rattle.booking_rule.specs.Views.{holds, room_of, same_room};
 ghost use Rattle.booking_core.specs.Kinds.{gave_host};
 ghost use Rattle.booking_core.specs.Machine.{MayGive, MayGiveRoom};
 ghost use Rattle.booking_table.specs.Seats.{view, IsSeatOf, IsSameSeat};
 ghost use Rattle.booking_table.specs.Holds.{IsBurst, hold_of, HasHold};
+ghost use Rattle.booking_table.specs.Alone.{ShowsShort};
 ghost use Rattle.booking_table.specs.Calls.{IsRoomTaken, IsShort, IsWholeTaken, IsOtherFree, hold_given};
 
 use crate::holds::{BurstHold, Hold};
@@ -42,6 +44,7 @@ impl Table {
         ensures answer { MatchResult result
             (λ h. (h ≡ hold_of burst host memory) × IsRoomTaken (view seat.old) host burst.cores memory (view seat.new))
             (λ e. (e.0 ≡ burst) × (e.1 ≡ host) × IsShort (view seat.old) host burst.cores memory e.2 (view seat.new)) }
+        ensures alone { IsAlone [] (view seat.old) → IfErr result (λ e. ShowsShort (view seat.old) host e.2) }
     {
         let expected = self.load_host(seat, host);
         let free = HostWord::unpack(expected);
@@ -91,6 +94,7 @@ impl Table {
         ensures answer { MatchResult result
             (λ _. IsWholeTaken (view seat.old) host free (view seat.new))
             (λ found. IsOtherFree (view seat.old) host free found (view seat.new)) }
+        ensures alone { IsAlone [] (view seat.old) → IfErr result (λ found. ShowsRoom (view seat.old) host found) }
     {
         let HostWord { cores, memory } = free;
         let expected = free.pack();

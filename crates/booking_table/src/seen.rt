@@ -1,11 +1,14 @@
 //! A look at a slot.
 
-ghost use Rattle.std.specs.Prelude.{◌≡◌, ◌<◌, ℕ};
+ghost use Rattle.std.specs.Prelude.{◌≡◌, ◌<◌, ◌^◌, ℕ, [], None};
 ghost use Rattle.farm_types.specs.Limits.{IsBetween};
 ghost use Rattle.farm_types.specs.declared.limits.TheConstants.{LEAST_CORES, LEAST_MEMORY, MOST_CORES, MOST_MEMORY};
+ghost use Rattle.booking_rule.specs.Alone.{IsAlone};
 ghost use Rattle.booking_rule.specs.Looks.{HasLook};
 ghost use Rattle.booking_rule.specs.Seats.{IsSeated};
 ghost use Rattle.booking_table.specs.Seats.{view, IsSeatOf, IsSameSeat};
+ghost use Rattle.booking_table.specs.Alone.{ShowsSeen};
+ghost use Rattle.booking_table.specs.Holds.{IsLimit};
 ghost use Rattle.booking_table.specs.Calls.{seen_of, seen_in, limit_in, looked, look_by};
 
 use crate::table::{Seat, Table};
@@ -37,6 +40,8 @@ impl Table {
         ensures cores { result.phase ≡ 1 → IsBetween LEAST_CORES MOST_CORES result.cores }
         ensures memory { result.phase ≡ 1 → IsBetween LEAST_MEMORY MOST_MEMORY result.memory }
         ensures look { result.phase ≡ 1 → result.version < 16777215 → HasLook (view seat.new).trail (look_by result) }
+        ensures fits { (result.phase < 16) × (result.version < 2 ^ 24) × (result.cores < 2 ^ 20) × IsLimit result.limit }
+        ensures alone { IsAlone [] (view seat.old) → ShowsSeen (view seat.old) result × ((view seat.old).number ≡ None) }
     {
         let frame = self.load_frame(seat, slot);
         let amount = self.load_amount(seat, slot);

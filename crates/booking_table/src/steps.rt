@@ -1,12 +1,15 @@
 //! Each kind of a claimant's step on one word.
 
-ghost use Rattle.std.specs.Prelude.{◌≡◌, ◌≤◌, ◌<◌, ◌==◌, true, false, Some};
+ghost use Rattle.std.specs.Prelude.{◌≡◌, ◌≤◌, ◌<◌, ◌==◌, true, false, [], None, Some};
 ghost use Rattle.farm_types.specs.Limits.{IsBetween};
 ghost use Rattle.farm_types.specs.declared.limits.TheConstants.{LEAST_CORES, LEAST_MEMORY, MOST_CORES, MOST_MEMORY};
 ghost use Rattle.frame_words.specs.Bits.{frame_of, frame_bits, amount_of, host_of, sub_of, limit_of};
 ghost use Rattle.booking_rule.specs.Words.{frame_place, amount_place, host_place, sub_place, limit_place};
 ghost use Rattle.booking_rule.specs.Views.{take_of, room_of, same_take, same_limit, same_room, same_claim, holds};
-ghost use Rattle.booking_rule.specs.Link.{farm_of};
+ghost use Rattle.booking_rule.specs.Link.{farm_of, stand_at};
+ghost use Rattle.booking_rule.specs.Alone.{IsAlone, ShowsBurst, ShowsLimit, ShowsRoom, ShowsSlot};
+ghost use Rattle.booking_rule.specs.Kept.{farm_in};
+ghost use Rattle.booking_rule.specs.Rule.{ShowsAmount};
 ghost use Rattle.booking_rule.specs.Suits.{SuitsOnce};
 ghost use Rattle.booking_rule.specs.Seats.{IsSeated, seats};
 ghost use Rattle.booking_rule.specs.Ranges.{found_used};
@@ -14,6 +17,7 @@ ghost use Rattle.booking_core.specs.Kinds.{loaded, tried_burst, gave_burst, retr
 ghost use Rattle.booking_core.specs.Machine.{CanTake, MayGive, MayGiveRoom, IsIdle, IsFormedClaim, HasSeen};
 ghost use Rattle.booking_table.specs.Seats.{view, IsSeatOf, IsSameSeat};
 ghost use Rattle.booking_table.specs.Holds.{HasHold, claim_at};
+ghost use Rattle.booking_table.specs.Steps.{FindsOwn};
 
 use crate::doing::Doing;
 use crate::holds::Hold;
@@ -42,6 +46,7 @@ impl Table {
         ensures same { IsSameSeat seat.old seat.new }
         ensures loaded { view seat.new ≡ loaded (view seat.old) (frame_place slot) result }
         ensures layer { ((frame_of result).phase == 0) ≡ false → IsBetween LEAST_CORES MOST_CORES (frame_of result).cores }
+        ensures alone { IsAlone [] (view seat.old) → ShowsSlot (view seat.old) slot (frame_of result) × ((view seat.old).number ≡ None) }
     {
         steps_keep_the_rule();
         self.load(seat, slot.0 as usize + FRAMES, Doing::LoadFrame { slot })
@@ -55,6 +60,7 @@ impl Table {
         ensures same { IsSameSeat seat.old seat.new }
         ensures loaded { view seat.new ≡ loaded (view seat.old) (amount_place slot) result }
         ensures layer { found_used slot (view seat.old).trail ≡ true → IsBetween LEAST_MEMORY MOST_MEMORY (amount_of result).memory }
+        ensures alone { IsAlone [] (view seat.old) → ShowsAmount (stand_at (farm_in (view seat.old)) slot) (amount_of result) }
     {
         steps_keep_the_rule();
         self.load(seat, slot.0 as usize + AMOUNTS, Doing::LoadAmount { slot })
@@ -67,6 +73,7 @@ impl Table {
         requires within { host < 4096 }
         ensures same { IsSameSeat seat.old seat.new }
         ensures loaded { view seat.new ≡ loaded (view seat.old) (host_place host) result }
+        ensures alone { IsAlone [] (view seat.old) → ShowsRoom (view seat.old) host (host_of result) }
     {
         steps_keep_the_rule();
         self.load(seat, usize::from(host.0) + HOSTS, Doing::LoadHost { host })
@@ -108,6 +115,7 @@ impl Table {
         ensures same { IsSameSeat seat.old seat.new }
         ensures tried { view seat.new ≡ tried_burst (view seat.old) sub cores result }
         ensures bound { (sub_of result).booked ≤ 4160000000 }
+        ensures alone { IsAlone [] (view seat.old) → ShowsBurst (view seat.old) sub (sub_of result) }
     {
         steps_keep_the_rule();
         self.add(
@@ -162,6 +170,7 @@ impl Table {
         ensures same { IsSameSeat seat.old seat.new }
         ensures tried { view seat.new ≡ tried_limit (view seat.old) limit result }
         ensures bound { (limit_of result).running ≤ 65600 }
+        ensures alone { IsAlone [] (view seat.old) → ShowsLimit (view seat.old) limit (limit_of result) }
     {
         steps_keep_the_rule();
         self.add(
@@ -223,6 +232,7 @@ impl Table {
         requires fits { (cores ≤ (host_of free).cores) × (memory ≤ (host_of free).memory) }
         ensures same { IsSameSeat seat.old seat.new }
         ensures tried { view seat.new ≡ tried_host (view seat.old) host cores memory free result }
+        ensures alone { IsAlone [] (view seat.old) → ShowsRoom (view seat.old) host (host_of result) }
     {
         steps_keep_the_rule();
         let HostWord {
@@ -282,6 +292,7 @@ impl Table {
         requires new_word { new ≡ frame_bits (setup_for (claim_at slot version hold.now)) }
         ensures same { IsSameSeat seat.old seat.new }
         ensures tried { view seat.new ≡ tried_claim (view seat.old) (claim_at slot version hold.now) result }
+        ensures alone { IsAlone [] (view seat.old) → ShowsSlot (view seat.old) slot (frame_of result) }
     {
         steps_keep_the_rule();
         let doing = Doing::Claims {
@@ -314,6 +325,7 @@ impl Table {
         requires new_word { new ≡ frame_bits (waiting_for (claim_at slot version hold.now)) }
         ensures same { IsSameSeat seat.old seat.new }
         ensures tried { view seat.new ≡ tried_drop (view seat.old) (claim_at slot version hold.now) result }
+        ensures alone { FindsOwn (view seat.old) (claim_at slot version hold.now) (frame_of result) }
     {
         steps_keep_the_rule();
         let doing = Doing::Drops {

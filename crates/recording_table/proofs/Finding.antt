@@ -1,5 +1,5 @@
 -- What the word of a step is found to be, by the rule.
-use Rattle.std.proofs.Common.{◌≡◌, ◌≢◌, ℕ, ◌+◌, ◌<◌, ◌/◌, ◌%◌, ◌^◌, ◌==◌, if◌then◌else◌, Bool, List, false, true, length, slice_index, sym, refl, ap, ◌∙◌, subst, arith}
+use Rattle.std.proofs.Common.{◌≡◌, ◌≢◌, ℕ, ◌+◌, ◌<◌, ◌/◌, ◌%◌, ◌^◌, ◌==◌, if◌then◌else◌, Bool, List, [], ◌∷◌, false, true, length, slice_index, sym, refl, ap, ◌∙◌, subst, arith}
 use Rattle.std.specs.Prelude.{Option, Some, None}
 use Rattle.std.proofs.lemmas.Bool.Decides.{nat_tests}
 use mathlib.Core.Option.{some}
@@ -15,6 +15,7 @@ use Rattle.booking_rule.specs.Link.{recorded_in, farm_before, stand_at}
 use Rattle.booking_rule.specs.Recorded.{Stand, free_at}
 use Rattle.booking_rule.specs.Rule.{ShowsFrame, is_pending, word_of}
 use Rattle.booking_rule.specs.Kept.{Holds, IsBefore, KeptAs, farm_in}
+use Rattle.booking_rule.proofs.Alone.{claim_shown}
 use Rattle.booking_rule.proofs.Own.{of_first}
 use Rattle.booking_core.specs.Kinds.{setup_for}
 use Rattle.booking_core.specs.Machine.{Table, word}
@@ -105,9 +106,12 @@ module _ (s : Table) (id : ℕ) (v : View) (h : Holds s) (at : get_elem? s.views
       o.journal ∙ ap (λ (l : List Entry). length l) (subst (λ (x : Option (List Entry)). IsBefore x v.journal) asks.3 o.before)
   finds (records e) asks small = (own asks.0.0 asks.0.1).journal
   finds (books c e) asks small = (own asks.0.0 asks.0.1).journal
-  finds (confirms c) asks small = λ e.
-      can_book (slice_index s.words 0) (words_of s.words) s.views id v asks.0.0 c h.1 at asks.0.1 asks.1.0 asks.0.3
-      (ap frame_of e ∙ frame_back (setup_for c) asks.1.1)
+  finds (confirms c) asks small = (
+    λ e.
+        can_book (slice_index s.words 0) (words_of s.words) s.views id v asks.0.0 c h.1 at asks.0.1 asks.1.0 asks.0.3
+        (ap frame_of e ∙ frame_back (setup_for c) asks.1.1),
+    λ alone next. claim_shown (slice_index s.words 0) (words_of s.words) s.views id v (c ∷ []) h.1 at alone c refl asks.1.0 next,
+  )
   finds (withdraws c) asks small =
       let S : Option Desk → Stand = λ o. (recorded_in v.opening v.journal (desk_in o)).slot c.slot in
       let version = subst (λ (o : Option Desk). c.version ≡ (S o).version + 1) asks.0.1 asks.2 in

@@ -14,6 +14,7 @@ use Rattle.recording_core.specs.Records.{RecorderKind, place, wrote, knows, reco
 use Rattle.recording_core.specs.Records.RecorderKind.{opens, closes, records, books, confirms, withdraws, leaves, ends, turns, sets_amount, sets_burst, sets_most, sets_size}
 use Rattle.recording_core.specs.Records.RecorderKind.{places, places_size, places_burst, places_most}
 use Rattle.booking_table.specs.Holds.{claim_with}
+use Rattle.booking_table.specs.Steps.{FindsOwn}
 use Rattle.recording_table.specs.declared.doing.Doing.{Doing}
 use Rattle.recording_table.specs.declared.doing.Doing.TheVariants as doing
 use Rattle.recording_core.specs.Machine.{Asks, stand_recorded}
@@ -50,15 +51,15 @@ IsOnRecorded v f = is_booked f.phase ≡ true → (f.host < 4096) × ((records_i
 
 -- What the word is found to be. Where a farm is opened the journal's word is 0, and at the end of its placing too; so is
 -- each word that is placed for the first time, and that of a host which gets a size. Else the journal's word counts its
--- entries. Where a claim's word is found, the claim can be booked; a word that runs ahead is that of the claim's running
--- frame. The word of a frame that is recorded as waiting is that, or a claim of it on a recorded host; the word of any
+-- entries. Where a claim's word is found, the claim can be booked, and a seat that is alone finds that of its only claim; a
+-- word that runs ahead is that of the claim's running frame. The word of a frame that is recorded as waiting is that, or a claim of it on a recorded host; the word of any
 -- other slot is what is recorded. The upper half of a subscription's word, and of a limit's, is the old one.
 abbrev pub Finds : View → RecorderKind → ℕ → Type 0
 Finds v (opens f) found = found ≡ 0
 Finds v closes found = found ≡ 0
 Finds v (records e) found = found ≡ length v.journal
 Finds v (books c e) found = found ≡ length v.journal
-Finds v (confirms c) found = found ≡ frame_bits (setup_for c) → CanBook v c
+Finds v (confirms c) found = (found ≡ frame_bits (setup_for c) → CanBook v c) × FindsOwn v c (frame_of found)
 Finds v (withdraws c) found = found ≡ frame_bits (running_for c)
 Finds v (leaves slot bits) found = ShowsFrame true false (stand_recorded v slot) (frame_of found) × IsOnRecorded v (frame_of found)
 Finds v (ends slot bits) found = frame_of found ≡ word_of (stand_recorded v slot)

@@ -1,7 +1,10 @@
 //! A claim's word runs ahead of its booking, and comes back.
 
-ghost use Rattle.std.specs.Prelude.{◌≡◌, ◌<◌, ◌^◌, IfOk};
+ghost use Rattle.std.specs.Prelude.{◌≡◌, ◌+◌, ◌<◌, ◌^◌, [], ◌∷◌, IfOk, IsOk};
 ghost use Rattle.frame_words.specs.Bits.{frame_bits};
+ghost use Rattle.booking_rule.specs.Alone.{IsAlone};
+ghost use Rattle.booking_rule.specs.Kept.{farm_in};
+ghost use Rattle.booking_rule.specs.Link.{stand_at};
 ghost use Rattle.recording_core.specs.Machine.{IsFormed};
 ghost use Rattle.recording_core.specs.Records.RecorderKind.{confirms, withdraws};
 ghost use Rattle.booking_table.specs.Seats.{view, IsSeatOf, IsSameSeat};
@@ -34,7 +37,7 @@ fn word_in(phase: u8, version: Version, host: HostNo, cores: Cores) -> u64
 }
 
 /// The word of a claim becomes that of its running frame, ahead of the booking's entry, which can be recorded if the farm
-/// allows it still; or another one is found, which it tells.
+/// allows it still; or another one is found, which it tells. A seat that is alone finds that of its only claim.
 pub fn confirm_claim(table: &Table, seat: &mut Seat, claim: &Claim) -> Result<(), u64>
     requires table { IsSeatOf table.now seat.old }
     requires formed { IsFormed (claim_of claim.now) }
@@ -42,6 +45,8 @@ pub fn confirm_claim(table: &Table, seat: &mut Seat, claim: &Claim) -> Result<()
     ensures same { IsSameSeat seat.old seat.new }
     ensures answer { IsConfirmed (view seat.old) (claim_of claim.now) result (view seat.new) }
     ensures can { IfOk result (λ _. CanBook (view seat.old) (claim_of claim.now)) }
+    ensures alone { IsAlone (claim_of claim.now ∷ []) (view seat.old) → (stand_at (farm_in (view seat.old)) claim.now.slot).version + 1 ≡ claim.now.version
+        → IsOk result }
 {
     let slot = claim.slot();
     let version = claim.version();

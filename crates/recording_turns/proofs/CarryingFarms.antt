@@ -74,7 +74,7 @@ alloc_row f host kept h =
     let one = list_all-at _ f.hosts host h.row kept.rows.hosts.allocated h.there in
     grind (arith, nat_tests)
 
-alloc_below : (f : Farm) (host : ℕ) → IsKeptFarm f → HasHost f host → host_alloc f host < 16
+pub alloc_below : (f : Farm) (host : ℕ) → IsKeptFarm f → HasHost f host → host_alloc f host < 16
 alloc_below f host kept h = let row = alloc_row f host kept h in let is = alloc_is f host h.row h.there in omega (arith, row, is)
 
 -- ---- a frame's amounts

@@ -1,3 +1,4 @@
+pub mod RestingAlone
 pub mod SizesResized
 pub mod SizesTaken
 pub mod PlacingDesk

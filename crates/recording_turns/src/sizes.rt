@@ -1,6 +1,6 @@
 //! The size of a host that boots with another one.
 
-ghost use Rattle.std.specs.Prelude.{◌≡◌, ◌<◌, length, MatchResult};
+ghost use Rattle.std.specs.Prelude.{◌≡◌, ◌<◌, length, IsOk, MatchResult};
 ghost use Rattle.farm_types.specs.declared.entry.Entry.{Entry};
 ghost use Rattle.farm_types.specs.Run.{IsLegalStep};
 ghost use Rattle.farm_types.specs.Step.{after};
@@ -8,7 +8,7 @@ ghost use Rattle.farm_rows.specs.Changes.{NamesExactly};
 ghost use Rattle.booking_rule.specs.Kept.{farm_in};
 ghost use Rattle.booking_table.specs.Seats.{view, IsSeatOf, IsSameSeat};
 ghost use Rattle.recording_turns.specs.Owing.{Resizes};
-ghost use Rattle.recording_turns.specs.Resting.{IsAtRest, IsSettled};
+ghost use Rattle.recording_turns.specs.Resting.{IsAtRest, IsSettled, split_in};
 ghost use Rattle.recording_turns.specs.Sizes.{first_resized, free_of, is_resized, resized_by, resized_row, HasGivenSize, HasSize, HoldsRoom, IsStillHeld};
 
 use crate::free::free_word;
@@ -86,7 +86,7 @@ fn is_resized(farm: &Farm, host: HostNo, row: &HostRow) -> bool
 }
 
 /// Takes all that is free of a host's word, where that is the host's size less what its frames use; else it tells what was
-/// found to be free.
+/// found to be free, which comes only once a seat was split off.
 pub fn take_size(
     table: &Table,
     seat: &mut Seat,
@@ -101,6 +101,7 @@ pub fn take_size(
     ensures answer { MatchResult result
         (λ room. (room ≡ free_of farm.now host) × HasSize (view seat.old) host room (view seat.new))
         (λ found. IsStillHeld (view seat.old) farm.now host found (view seat.new)) }
+    ensures alone { split_in (view seat.old).desk ≡ 0 → IsOk result }
 {
     used_is_running();
     farm.kept();

@@ -20,5 +20,5 @@ load-requires-clause-may c =
     let amount : ◌≡◌ {A = ℕ} 0 0 = refl in (
       omega (arith, place, r.within),
       moved (tells_of d) v id (λ (x n : ℕ). n) (c.from.result + 131073) (host_place c.args.host) 0 0 place amount
-          (may_load_host law v id c.args.host (λ s. (r.seated, omega (arith, r.within)))),
+          (may_load_host law v id c.args.host r.within (λ s. (r.seated, omega (arith, r.within)))),
     )
