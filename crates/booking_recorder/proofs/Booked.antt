@@ -1,9 +1,8 @@
 -- Bookings that the farm lets be, and what stops them.
-use Rattle.std.proofs.Common.{◌≡◌, ℕ, ◌+◌, ◌<◌, ◌^◌, ◌==◌, true, false, length, Result, Ok, Err, IsErrAnd, inl, inr, refl, sym, ap, ◌∙◌, subst, arith}
+use Rattle.std.proofs.Common.{◌≡◌, ℕ, ◌+◌, ◌<◌, ◌^◌, ◌==◌, true, false, length, [], ◌∷◌, Result, Ok, Err, IsErrAnd, refl, sym, ap, ◌∙◌, subst, arith}
 use Rattle.std.specs.Prelude.{Option, Some, None, IfOk, MatchResult, option_and_then, slice_get}
 use Rattle.std.proofs.lemmas.Bool.Decides.{nat_tests}
 use Rattle.std.proofs.lemmas.Result.{err_from_is_err_and}
-use Rattle.farm_types.specs.declared.answer.Answer.{Answer}
 use Rattle.farm_types.specs.declared.attempt.ProcRow.{ProcRow}
 use Rattle.farm_types.specs.declared.entry.Entry.{Entry}
 use Rattle.farm_types.specs.declared.slot_row.Frame.{Frame}
@@ -21,8 +20,8 @@ use Rattle.booking_rule.specs.Kept.{farm_in}
 use Rattle.booking_rule.specs.Link.{frame_stand, phase_of, slot_stand, stand_at}
 use Rattle.booking_table.specs.declared.holds.Claim.{Claim}
 use Rattle.booking_table.specs.Holds.{claim_of}
-use Rattle.recorder.specs.declared.refusal.CommitRefusal as plain
-use Rattle.recorder.specs.declared.refusal.CommitRefusal.TheVariants as plain_refusal
+use Rattle.recorder.specs.declared.refusal.RecordFault as plain
+use Rattle.recorder.specs.declared.refusal.RecordFault.TheVariants as plain_fault
 use Rattle.recorder.specs.Faults as plain_faults
 use Rattle.recorder.specs.Recording as plain_records
 use Rattle.recorder.specs.Recording.{booking}
@@ -32,7 +31,7 @@ use Rattle.recording_table.specs.Booking.{CanBook}
 use Rattle.recording_table.specs.Calls.{IsConfirmed}
 use Rattle.booking_recorder.specs.declared.refusal.ConfirmRefusal.{ConfirmRefusal}
 use Rattle.booking_recorder.specs.declared.refusal.ConfirmRefusal.TheVariants as refusal
-use Rattle.booking_recorder.specs.Claims.{BooksAhead, BooksNow, CanStill, Confirms, IsCause, IsWithdrawn, IsNoStop, IsStop, IsUnrefused, MayStill, RunsAhead, TellsAhead, TellsAtStop, TellsConfirm, entry_for, left_with, stopped_by}
+use Rattle.booking_recorder.specs.Claims.{BooksAhead, BooksNow, CanStill, Confirms, IsCause, IsWithdrawn, IsNoStop, IsStop, MayStill, RunsAhead, TellsAhead, TellsAtStop, TellsConfirm, entry_for, left_with, stopped_by}
 use Rattle.booking_recorder.specs.Faults.{is_at_store, is_store_left, is_store_stop}
 use Rattle.booking_recorder.specs.Recording.{most_entries}
 use Rattle.booking_recorder.specs.Views.{Entered, Enters, Stays}
@@ -44,28 +43,16 @@ use Rattle.booking_recorder.proofs.Rests.{farm_entered, farm_stays}
 pub booking_legal : (f : Farm) (slot host moment : ℕ) → moment < 2 ^ 64 → may_record f slot host ≡ true → IsLegalStep f (booking slot host moment)
 booking_legal f slot host moment lt may = record { formed = record { moment_within = lt; act_formed = tt }; accepted = refl; condition = may }
 
-pub unrefused : (f g : Farm) (slot host moment : ℕ) (r : Result Answer plain.CommitRefusal) → plain_records.Commits f (booking slot host moment) r g
-    → IsUnrefused r
-unrefused f g slot host moment (Ok said) is = tt
-unrefused f g slot host moment (Err (plain_refusal.Refused why)) is = none_some is.0
-  where
-    none_some : {X : Type 0} {x : X} → None ≡ Some x → ⊥
-    none_some q = cc
-unrefused f g slot host moment (Err plain_refusal.Store) is = tt
-unrefused f g slot host moment (Err plain_refusal.NoMemory) is = tt
+pub books_now : (f g : Farm) (slot host moment : ℕ) (r : Result (Unit {0}) plain.RecordFault)
+    → plain_records.Records f (after f (booking slot host moment)) r g → BooksNow f slot host moment (stopped_by r) g
+books_now f g slot host moment (Ok done) is = is
+books_now f g slot host moment (Err plain_fault.Store) is = (is.0, tt)
+books_now f g slot host moment (Err plain_fault.NoMemory) is = (is, tt)
 
-pub books_now : (f g : Farm) (slot host moment : ℕ) (r : Result Answer plain.CommitRefusal) → IsUnrefused r
-    → plain_records.Commits f (booking slot host moment) r g → BooksNow f slot host moment (stopped_by r) g
-books_now f g slot host moment (Ok said) ok is = is.2
-books_now f g slot host moment (Err (plain_refusal.Refused why)) ok is = absurd ok
-books_now f g slot host moment (Err plain_refusal.Store) ok is = (is.2, tt)
-books_now f g slot host moment (Err plain_refusal.NoMemory) ok is = (is, tt)
-
-pub store_now : (r : Result Answer plain.CommitRefusal) → plain_faults.is_store_refusal r ≡ is_store_stop (stopped_by r)
-store_now (Ok said) = refl
-store_now (Err (plain_refusal.Refused why)) = refl
-store_now (Err plain_refusal.Store) = refl
-store_now (Err plain_refusal.NoMemory) = refl
+pub store_now : (r : Result (Unit {0}) plain.RecordFault) → plain_faults.is_store_fault r ≡ is_store_stop (stopped_by r)
+store_now (Ok done) = refl
+store_now (Err plain_fault.Store) = refl
+store_now (Err plain_fault.NoMemory) = refl
 
 no_stop_store : (why : ConfirmRefusal) → IsNoStop why → is_at_store why ≡ false
 no_stop_store (refusal.Withdrawn found) no_stop = refl
@@ -88,13 +75,11 @@ store_passed why r err =
     sym (ap is_store_stop p.1 ∙ ap is_at_store p.2)
 
 module _ {K : Type 0} (commits : Committing K) where
-  pub told_now : (f : Farm) (slot host moment : ℕ) (r : Result Answer plain.CommitRefusal) (before now : K) → IsUnrefused r
-      → plain_telling.TellsCommit commits f (booking slot host moment) r before now → TellsAhead commits f slot host moment (stopped_by r) before now
-  told_now f slot host moment (Ok said) before now ok told = told
-  told_now f slot host moment (Err (plain_refusal.Refused why)) before now ok told = absurd ok
-  told_now f slot host moment (Err plain_refusal.Store) before now ok told = told
-  told_now f slot host moment (Err plain_refusal.NoMemory) before now ok (inl same) = inl same
-  told_now f slot host moment (Err plain_refusal.NoMemory) before now ok (inr told) = inr told.1
+  pub told_now : (f : Farm) (slot host moment : ℕ) (r : Result (Unit {0}) plain.RecordFault) (before now : K)
+      → plain_telling.TellsOf commits f (booking slot host moment ∷ []) r before now → TellsAhead commits f slot host moment (stopped_by r) before now
+  told_now f slot host moment (Ok done) before now told = told
+  told_now f slot host moment (Err plain_fault.Store) before now told = told
+  told_now f slot host moment (Err plain_fault.NoMemory) before now told = told
 
   untold : (f : Farm) (slot host moment : ℕ) (why : ConfirmRefusal) (k : K) → IsNoStop why → TellsAtStop commits f slot host moment why k k
   untold f slot host moment (refusal.Withdrawn found) k no_stop = refl

@@ -7,3 +7,9 @@ pub mod Confirmed
 pub mod Held
 pub mod Reasons
 pub mod Homes
+pub mod AloneViews
+pub mod AloneFarms
+pub mod AloneClaims
+pub mod AloneBooked
+pub mod Journaled
+pub mod Passed

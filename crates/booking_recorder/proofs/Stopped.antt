@@ -33,7 +33,7 @@ use Rattle.booking_recorder.specs.declared.refusal.CommitRefusal.TheVariants as 
 use Rattle.booking_recorder.specs.declared.refusal.RecordFault.{RecordFault}
 use Rattle.booking_recorder.specs.declared.refusal.RecordFault.TheVariants as fault
 use Rattle.booking_recorder.specs.Entries.{Commits, FailsToRecord, HeldAtFault, IsHeldBy, IsHeldIn, IsSpentAt, Records, RecordsAnswered, TellsAtFault, TellsCommit, TellsRecord}
-use Rattle.booking_recorder.specs.Faults.{is_by_store, is_of_store, is_spent, is_spent_fault, is_store_fault, is_store_refusal, of_farm, of_plain, of_record}
+use Rattle.booking_recorder.specs.Faults.{is_by_held, is_by_store, is_held_fault, is_held_refusal, is_of_held, is_of_store, is_spent, is_spent_fault, is_store_fault, is_store_refusal, of_farm, of_plain, of_record}
 use Rattle.booking_recorder.specs.Recording.{most_entries}
 use Rattle.booking_recorder.specs.Views.{Enters, Stays}
 use Rattle.booking_recorder.proofs.Rests.{farm_entered, farm_stays, stays_same}
@@ -69,6 +69,16 @@ pub unspent_plain : {T : Type 0} (why : plain.RecordFault) (r : Result T RecordF
 unspent_plain why r err =
     let p = err_from_is_err_and r err in
     ap is_spent p.1 ∙ ap is_spent_fault p.2 ∙ spent_of_plain why
+
+held_of_plain : (why : plain.RecordFault) → is_of_held (of_plain why) ≡ false
+held_of_plain plain_fault.Store = refl
+held_of_plain plain_fault.NoMemory = refl
+
+pub never_held_plain : {T : Type 0} (why : plain.RecordFault) (r : Result T RecordFault) → IsErrAnd r (λ told. told ≡ of_plain why)
+    → is_held_fault r ≡ false
+never_held_plain why r err =
+    let p = err_from_is_err_and r err in
+    ap is_held_fault p.1 ∙ ap is_of_held p.2 ∙ held_of_plain why
 
 unheld_of_plain : (f : Farm) (e : Entry) (v w : View) (why : plain.RecordFault) → HeldAtFault f e v (of_plain why) w
 unheld_of_plain f e v w plain_fault.Store = tt
@@ -130,6 +140,18 @@ pub store_answer : (why : RecordFault) (r : Result Answer CommitRefusal) → IsE
 store_answer why r err =
     let p = err_from_is_err_and r err in
     store_of_record why ∙ sym (ap is_store_refusal p.1 ∙ ap is_by_store p.2)
+
+same_held : (why : RecordFault) → is_by_held (of_record why) ≡ is_of_held why
+same_held fault.Spent = refl
+same_held (fault.Held cores memory) = refl
+same_held fault.Store = refl
+same_held fault.NoMemory = refl
+
+pub alone_answer : (why : RecordFault) (r : Result Answer CommitRefusal) → IsErrAnd r (λ told. told ≡ of_record why) → is_of_held why ≡ false
+    → is_held_refusal r ≡ false
+alone_answer why r err none =
+    let p = err_from_is_err_and r err in
+    ap is_held_refusal p.1 ∙ ap is_by_held p.2 ∙ same_held why ∙ none
 
 fails_answer : (old changed new : Farm) (answer : Answer) (why : RecordFault) → FailsToRecord old changed why new
     → RecordsAnswered old changed answer (Err (of_record why)) new
@@ -199,6 +221,15 @@ pub never_store : (why : FarmFault) (r : Result Answer CommitRefusal) → IsErrA
 never_store why r err =
     let p = err_from_is_err_and r err in
     ap is_store_refusal p.1 ∙ (ap is_by_store p.2 ∙ not_store why)
+
+not_held : (why : FarmFault) → is_by_held (of_farm why) ≡ false
+not_held (farm_fault.Refused why) = refl
+not_held farm_fault.NoMemory = refl
+
+pub alone_farm : (why : FarmFault) (r : Result Answer CommitRefusal) → IsErrAnd r (λ told. told ≡ of_farm why) → is_held_refusal r ≡ false
+alone_farm why r err =
+    let p = err_from_is_err_and r err in
+    ap is_held_refusal p.1 ∙ (ap is_by_held p.2 ∙ not_held why)
 
 never_held : (f : Farm) (e : Entry) (v w : View) (n : ℕ) (why : FarmFault)
     → IsHeldIn {T = Answer} f e v (Err (of_farm why)) w × IsSpentAt {T = Answer} n (Err (of_farm why))

@@ -21,8 +21,8 @@ use Rattle.booking_reasons.specs.declared.not_booked.NotBooked.{NotBooked}
 use Rattle.booking_reasons.specs.declared.not_booked.NotBooked.TheVariants as reason
 use Rattle.recording_table.specs.Booking.{CanBook, IsWhyLeft, burst_left, paused_at, place_left, takes_at}
 use Rattle.recording_turns.specs.Resting.{IsAtRest}
-use Rattle.recorder.specs.declared.refusal.CommitRefusal as plain
-use Rattle.recorder.specs.declared.refusal.CommitRefusal.TheVariants as plain_refusal
+use Rattle.recorder.specs.declared.refusal.RecordFault as plain
+use Rattle.recorder.specs.declared.refusal.RecordFault.TheVariants as plain_fault
 use Rattle.booking_recorder.specs.declared.refusal.ConfirmRefusal.{ConfirmRefusal}
 use Rattle.booking_recorder.specs.declared.refusal.ConfirmRefusal.TheVariants as refusal
 use Rattle.booking_recorder.specs.Readers.{booked_by, burst_by, limit_for, lock_at, most_by, running_by, state_at, sub_for}
@@ -39,13 +39,12 @@ MayStill f slot host = (paused_at f slot ≡ false) × (takes_at f host ≡ true
 abbrev pub CanStill : Farm → ℕ → ℕ → Type 0
 CanStill f slot host = (MayStill f slot host → may_record f slot host ≡ true) × IsWhyLeft f slot host
 
--- what a reason says of the four. Tags are none: they were compared before the claim
+-- what a reason says of the four
 abbrev pub Decides : Bool → Bool → Bool → Bool → NotBooked → Type 0
 Decides paused takes burst place reason.JobPaused = paused ≡ true
 Decides paused takes burst place reason.HostClosed = (paused ≡ false) × (takes ≡ false)
 Decides paused takes burst place reason.PastBurst = (paused ≡ false) × (takes ≡ true) × (burst ≡ false)
 Decides paused takes burst place reason.AtLimit = (paused ≡ false) × (takes ≡ true) × (burst ≡ true) × (place ≡ false)
-Decides paused takes burst place reason.NoSharedTag = (paused ≡ false) × (takes ≡ true) × (burst ≡ true) × (place ≡ true)
 Decides paused takes burst place other = ⊥
 
 abbrev pub IsAgainst : Farm → ℕ → ℕ → NotBooked → Type 0
@@ -144,23 +143,13 @@ WasAhead c w = (v : View) × IsAtRest v × RunsAhead v c w
 
 -- ---- the booking in the farm and in the keeper
 
-abbrev pub stop_of : plain.CommitRefusal → ConfirmRefusal
-stop_of (plain_refusal.Refused why) = refusal.Memory
-stop_of plain_refusal.Store = refusal.Store
-stop_of plain_refusal.NoMemory = refusal.Memory
+abbrev pub stop_of : plain.RecordFault → ConfirmRefusal
+stop_of plain_fault.Store = refusal.Store
+stop_of plain_fault.NoMemory = refusal.Memory
 
-abbrev pub stopped_by : {T : Type 0} → Result T plain.CommitRefusal → Result (Unit {0}) ConfirmRefusal
-stopped_by (Ok said) = Ok tt
+abbrev pub stopped_by : {T : Type 0} → Result T plain.RecordFault → Result (Unit {0}) ConfirmRefusal
+stopped_by (Ok done) = Ok tt
 stopped_by (Err why) = Err (stop_of why)
-
-abbrev pub IsNoRefusal : plain.CommitRefusal → Type 0
-IsNoRefusal (plain_refusal.Refused why) = ⊥
-IsNoRefusal plain_refusal.Store = Unit {0}
-IsNoRefusal plain_refusal.NoMemory = Unit {0}
-
-abbrev pub IsUnrefused : {T : Type 0} → Result T plain.CommitRefusal → Type 0
-IsUnrefused (Ok said) = Unit {0}
-IsUnrefused (Err why) = IsNoRefusal why
 
 -- only the store and want of memory stop it
 abbrev pub IsStop : ConfirmRefusal → Type 0

@@ -77,3 +77,25 @@ is_spent_fault fault.NoMemory = false
 abbrev pub is_spent : {T : Type 0} → Result T RecordFault → Bool
 is_spent (Ok done) = false
 is_spent (Err why) = is_spent_fault why
+
+-- a host is held
+abbrev pub is_of_held : RecordFault → Bool
+is_of_held fault.Spent = false
+is_of_held (fault.Held cores memory) = true
+is_of_held fault.Store = false
+is_of_held fault.NoMemory = false
+
+abbrev pub is_by_held : CommitRefusal → Bool
+is_by_held (refusal.Refused why) = false
+is_by_held refusal.Spent = false
+is_by_held (refusal.Held cores memory) = true
+is_by_held refusal.Store = false
+is_by_held refusal.NoMemory = false
+
+abbrev pub is_held_fault : {T : Type 0} → Result T RecordFault → Bool
+is_held_fault (Ok done) = false
+is_held_fault (Err why) = is_of_held why
+
+abbrev pub is_held_refusal : {T : Type 0} → Result T CommitRefusal → Bool
+is_held_refusal (Ok done) = false
+is_held_refusal (Err why) = is_by_held why

@@ -1,6 +1,9 @@
+pub mod Alone
 pub mod Claims
 pub mod Entries
 pub mod Faults
+pub mod Going
+pub mod Passing
 pub mod Readers
 pub mod Recording
 pub mod Views

@@ -1,10 +1,12 @@
 //! The booking of a claim, in the farm, in the keeper and on the words, or in none of them.
 
-ghost use Rattle.std.specs.Prelude.{◌≡◌, ◌<◌, ◌^◌, true, length, MatchResult, Some};
+ghost use Rattle.std.specs.Prelude.{ℕ, ◌≡◌, ◌<◌, ◌^◌, true, length, MatchResult, Some};
 ghost use Rattle.farm_types.specs.Booking.{may_record};
 ghost use Rattle.farm_types.specs.Run.{live_at};
 ghost use Rattle.farm_types.specs.Step.{after};
 ghost use Rattle.farm_keeper.specs.Keeping.{Continues};
+ghost use Rattle.farm_books.specs.Bookings.{IsAsked};
+ghost use Rattle.farm_core.specs.Bookings.{IsBookingOf};
 ghost use Rattle.booking_rule.specs.declared.view.View.{View};
 ghost use Rattle.booking_rule.specs.Kept.{farm_in};
 ghost use Rattle.booking_rule.specs.Link.{stand_at};
@@ -13,25 +15,25 @@ ghost use Rattle.booking_table.specs.Seats.{view, IsSeatOf, IsSameSeat};
 ghost use Rattle.recorder.specs.Recording.{HasSameRows, booking};
 ghost use Rattle.recording_core.specs.Machine.{IsFormed, MayEnter};
 ghost use Rattle.recording_turns.specs.Resting.{IsAtRest};
-ghost use Rattle.booking_recorder.specs.Claims.{BooksAhead, BooksNow, CanStill, Confirms, IsUnrefused, IsWithdrawn, RunsAhead, TellsAhead, TellsConfirm, WasAhead, entry_for, left_with, stopped_by};
+ghost use Rattle.booking_recorder.specs.Claims.{BooksAhead, BooksNow, CanStill, Confirms, IsWithdrawn, RunsAhead, TellsAhead, TellsConfirm, WasAhead, entry_for, left_with, stopped_by};
 ghost use Rattle.booking_recorder.specs.Faults.{is_store_left, is_store_stop};
 ghost use Rattle.booking_recorder.specs.Views.{Entered, Enters, Stays};
 
-use crate::reading::allows;
+use crate::reading::decide;
 use crate::refusal::ConfirmRefusal;
 use booking_table::{Claim, Seat, Table};
 use entry_law::books_alone;
-use farm_core::Farm;
+use farm_core::{Booking, Farm};
 use farm_keeper::Keeper;
-use farm_types::{Act, Answer, Entry, HostNo, ProcRow, Slot};
-use recorder::{CommitRefusal, PlainRecorder};
+use farm_types::{Act, Entry, HostNo, ProcRow, Slot};
+use recorder::{RecordFault, RecordedFarm};
 use recording_table::{claims_can_be_booked, confirm_claim, record_booking, withdraw_claim};
 use std::alloc::Global;
 
 /// Books the frame of a claim, of a journal with so many entries.
 pub(crate) fn confirm_in<K: Keeper>(
     alloc: Global,
-    plain: &mut PlainRecorder<K>,
+    plain: &mut RecordedFarm<K>,
     table: &Table,
     seat: &mut Seat,
     count: u64,
@@ -148,10 +150,10 @@ fn take_back(table: &Table, seat: &mut Seat, claim: &Claim)
     withdraw_claim(table, seat, claim);
 }
 
-// Books the slot's frame on the host in the keeper and in the farm, where the farm lets it still.
-fn book_ahead<K: Keeper>(
+/// Books the slot's frame on the host in the keeper and in the farm, where the farm lets it still.
+pub(crate) fn book_ahead<K: Keeper>(
     alloc: Global,
-    plain: &mut PlainRecorder<K>,
+    plain: &mut RecordedFarm<K>,
     count: u64,
     slot: Slot,
     host: HostNo,
@@ -164,42 +166,36 @@ fn book_ahead<K: Keeper>(
     ensures told { TellsAhead K.commits plain.old.farm slot host moment result plain.old.keeper plain.new.keeper }
 {
     books_alone();
-    allows(plain.read(), count, slot, host, moment)?;
-    book_now(alloc, plain, slot, host, moment)?;
+    let booking = decide(plain.read(), count, slot, host, moment)?;
+    book_now(alloc, plain, &booking)?;
     Ok(live_row(plain.read(), slot))
 }
 
-// Books it, where that may be recorded.
+// Puts in a booking that was decided.
 fn book_now<K: Keeper>(
     alloc: Global,
-    plain: &mut PlainRecorder<K>,
-    slot: Slot,
-    host: HostNo,
-    moment: u64,
+    plain: &mut RecordedFarm<K>,
+    decided: &Booking,
 ) -> Result<(), ConfirmRefusal>
-    requires may { may_record plain.old.farm slot host ≡ true }
-    ensures farm { BooksNow plain.old.farm slot host moment result plain.new.farm }
-    ensures same { HasSameRows plain.old.farm (after plain.old.farm (booking slot host moment)) → plain.new.keeper ≡ plain.old.keeper }
+    requires { IsBookingOf plain.old.farm decided.now }
+    ensures farm { (slot host moment : ℕ) → IsAsked slot host moment decided.now.booked → BooksNow plain.old.farm slot host moment result plain.new.farm }
+    ensures same { (slot host moment : ℕ) → IsAsked slot host moment decided.now.booked
+        → HasSameRows plain.old.farm (after plain.old.farm (booking slot host moment)) → plain.new.keeper ≡ plain.old.keeper }
     ensures keeper { Continues K.tells K.faults plain.old.keeper plain.new.keeper (is_store_stop result) }
-    ensures told { TellsAhead K.commits plain.old.farm slot host moment result plain.old.keeper plain.new.keeper }
+    ensures told { (slot host moment : ℕ) → IsAsked slot host moment decided.now.booked
+        → TellsAhead K.commits plain.old.farm slot host moment result plain.old.keeper plain.new.keeper }
 {
-    let entry = Entry {
-        moment,
-        act: Act::Book { slot, host },
-    };
-    stopped(plain.commit(alloc, &entry))
+    stopped(plain.record_booking(alloc, decided))
 }
 
-// What stopped a booking that the farm doesn't refuse.
-fn stopped(committed: Result<Answer, CommitRefusal>) -> Result<(), ConfirmRefusal>
-    requires { IsUnrefused committed }
-    ensures { result ≡ stopped_by committed }
+// What stopped a booking that was decided.
+fn stopped(recorded: Result<(), RecordFault>) -> Result<(), ConfirmRefusal>
+    ensures { result ≡ stopped_by recorded }
 {
-    match committed {
-        Ok(_answer) => Ok(()),
-        Err(CommitRefusal::Store) => Err(ConfirmRefusal::Store),
-        Err(CommitRefusal::NoMemory) => Err(ConfirmRefusal::Memory),
-        Err(CommitRefusal::Refused { .. }) => unreachable!(),
+    match recorded {
+        Ok(()) => Ok(()),
+        Err(RecordFault::Store) => Err(ConfirmRefusal::Store),
+        Err(RecordFault::NoMemory) => Err(ConfirmRefusal::Memory),
     }
 }
 

@@ -1,10 +1,10 @@
 //! An entry on the words.
 
-ghost use Rattle.std.specs.Prelude.{◌≡◌, MatchResult, OnOk};
+ghost use Rattle.std.specs.Prelude.{◌≡◌, IsOk, MatchResult, OnOk};
 ghost use Rattle.booking_rule.specs.Kept.{farm_in};
 ghost use Rattle.booking_rule.specs.declared.view.View.{View};
 ghost use Rattle.booking_table.specs.Seats.{view, IsSeatOf, IsSameSeat};
-ghost use Rattle.recording_turns.specs.Resting.{IsAtRest};
+ghost use Rattle.recording_turns.specs.Resting.{IsAtRest, split_in};
 ghost use Rattle.booking_recorder.specs.Views.{Entered, Enters, HadRoom, HasRoom, IsHeldOn, IsReadyFor, ResizesIn, ResizesSome, Stays};
 
 use crate::refusal::RecordFault;
@@ -52,6 +52,7 @@ pub(crate) fn take_room(
     ensures answer { MatchResult result
         (λ room. HasRoom (view seat.old) resized.now room (view seat.new))
         (λ found. IsHeldOn (view seat.old) farm.now resized.now found (view seat.new)) }
+    ensures alone { split_in (view seat.old).desk ≡ 0 → IsOk result }
 {
     match resized {
         None => Ok(HostWord {

@@ -1,6 +1,6 @@
 //! The recorder.
 
-ghost use Rattle.std.specs.Prelude.{◌≡◌, ◌==◌, ◌<◌, ◌+◌, true, length, MatchResult, if◌then◌else◌};
+ghost use Rattle.std.specs.Prelude.{◌≡◌, ◌==◌, ◌<◌, ◌+◌, true, false, length, MatchResult, if◌then◌else◌};
 ghost use Rattle.farm_types.specs.Formed.{IsFormed};
 ghost use Rattle.farm_types.specs.Step.{HasCondition, after};
 ghost use Rattle.farm_keeper.specs.Keeping.{Continues};
@@ -16,7 +16,7 @@ ghost use Rattle.recording_core.specs.Machine as machine;
 ghost use Rattle.recording_turns.specs.Resting.{IsAtRest, IsPlaced, IsUnplaced, split_in};
 ghost use Rattle.booking_recorder.specs.Claims.{Confirms, TellsConfirm, entry_for};
 ghost use Rattle.booking_recorder.specs.Entries.{Commits, IsHeldBy, IsHeldIn, IsSpentAt, Records, RecordsAnswered, TellsCommit, TellsRecord};
-ghost use Rattle.booking_recorder.specs.Faults.{is_spent, is_store_fault, is_store_left, is_store_refusal};
+ghost use Rattle.booking_recorder.specs.Faults.{is_held_fault, is_held_refusal, is_spent, is_store_fault, is_store_left, is_store_refusal};
 ghost use Rattle.booking_recorder.specs.Recording.{most_entries, most_seats};
 ghost use Rattle.booking_recorder.specs.Views.{Enters};
 
@@ -29,7 +29,7 @@ use booking_table::{Claim, Seat, Table};
 use farm_core::{Change, Farm};
 use farm_keeper::Keeper;
 use farm_types::{Answer, Entry, FarmFault, ProcRow};
-use recorder::PlainRecorder;
+use recorder::RecordedFarm;
 use recording_turns::place_farm;
 use std::alloc::Global;
 use std::marker::{Model, PhantomData};
@@ -41,11 +41,11 @@ const MOST_SEATS: u32 = 64;
 /// no word is left to change, and the seat holds nothing.
 #[derive(Drop)]
 pub struct Recorder<K: Keeper, N: Naming> {
-    plain: PlainRecorder<K>,
-    seat: Seat,
-    count: u64,
+    pub(crate) plain: RecordedFarm<K>,
+    pub(crate) seat: Seat,
+    pub(crate) count: u64,
     split: u32,
-    faults: u64,
+    pub(crate) faults: u64,
     of: PhantomData<N>,
 }
 
@@ -74,7 +74,7 @@ impl<K: Keeper, N: Naming> Recorder<K, N> {
         let mut seat = seat;
         place_farm(table, &mut seat, &farm);
         Recorder {
-            plain: PlainRecorder::make(alloc, farm, keeper),
+            plain: RecordedFarm::make(alloc, farm, keeper),
             seat,
             count: 0,
             split: 0,
@@ -157,6 +157,7 @@ impl<K: Keeper, N: Naming> Recorder<K, N> {
         ensures journal { Enters self.old.view entry.now result self.new.view }
         ensures spent { is_spent result ≡ (length self.old.view.journal == most_entries) }
         ensures held { IsHeldBy self.old.farm entry.now self.old.view result self.new.view }
+        ensures alone { split_in self.old.view.desk ≡ 0 → is_held_fault result ≡ false }
         ensures same { HasSameRows self.old.farm (after self.old.farm entry.now) → self.new.keeper ≡ self.old.keeper }
         ensures keeper { Continues K.tells K.faults self.old.keeper self.new.keeper (is_store_fault result) }
         ensures told { TellsRecord K.commits self.old.farm entry.now result self.old.keeper self.new.keeper }
@@ -185,6 +186,7 @@ impl<K: Keeper, N: Naming> Recorder<K, N> {
         ensures journal { Enters self.old.view entry.now result self.new.view }
         ensures spent { IsSpentAt (length self.old.view.journal) result }
         ensures held { IsHeldIn self.old.farm entry.now self.old.view result self.new.view }
+        ensures alone { split_in self.old.view.desk ≡ 0 → is_held_refusal result ≡ false }
         ensures same { IsUnstored self.old.farm entry.now → self.new.keeper ≡ self.old.keeper }
         ensures keeper { Continues K.tells K.faults self.old.keeper self.new.keeper (is_store_refusal result) }
         ensures told { TellsCommit K.commits self.old.farm entry.now result self.old.keeper self.new.keeper }
@@ -209,6 +211,7 @@ impl<K: Keeper, N: Naming> Recorder<K, N> {
         ensures journal { Enters self.old.view entry.now result self.new.view }
         ensures spent { IsSpentAt (length self.old.view.journal) result }
         ensures held { IsHeldIn self.old.farm entry.now self.old.view result self.new.view }
+        ensures alone { split_in self.old.view.desk ≡ 0 → is_held_refusal result ≡ false }
         ensures same { HasSameRows self.old.farm (after self.old.farm entry.now) → self.new.keeper ≡ self.old.keeper }
         ensures keeper { Continues K.tells K.faults self.old.keeper self.new.keeper (is_store_refusal result) }
         ensures told { TellsCommit K.commits self.old.farm entry.now result self.old.keeper self.new.keeper }
@@ -251,8 +254,8 @@ impl<K: Keeper, N: Naming> Recorder<K, N> {
     }
 }
 
-// How many entries there are after one more was recorded, or none.
-fn counted(count: u64, more: bool) -> u64
+/// How many entries there are after one more was recorded, or none.
+pub(crate) fn counted(count: u64, more: bool) -> u64
     requires { more ≡ true → count < most_entries }
     ensures { result ≡ (if more then count + 1 else count) }
 {
@@ -262,8 +265,8 @@ fn counted(count: u64, more: bool) -> u64
     count
 }
 
-// How often the store failed, once it did so again or didn't. The count stays at its last number.
-fn faults_after(faults: u64, failed: bool) -> u64
+/// How often the store failed, once it did so again or didn't. The count stays at its last number.
+pub(crate) fn faults_after(faults: u64, failed: bool) -> u64
     ensures { result ≡ incremented_if failed faults }
 {
     if failed {

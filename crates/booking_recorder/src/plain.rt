@@ -10,14 +10,14 @@ ghost use Rattle.farm_stands.specs.Turns.{Covers};
 ghost use Rattle.recorder.specs.Recording.{HasSameRows, IsOfEntry};
 ghost use Rattle.recording_turns.specs.Owing.{Resizes};
 ghost use Rattle.booking_recorder.specs.Entries.{IsHeldBy, Records, TellsRecord};
-ghost use Rattle.booking_recorder.specs.Faults.{is_spent, is_store_fault};
+ghost use Rattle.booking_recorder.specs.Faults.{is_held_fault, is_spent, is_store_fault};
 
 use crate::refusal::RecordFault;
 use farm_core::{Change, Farm};
 use farm_keeper::Keeper;
 use farm_stands::{Turn, turns_cover, turns_of};
 use farm_types::{Entry, HostNo, Items};
-use recorder::PlainRecorder;
+use recorder::RecordedFarm;
 use recording_turns::resized_in;
 use std::alloc::{AllocError, Global};
 
@@ -57,7 +57,7 @@ pub(crate) fn unrecorded(_change: Change, fault: RecordFault) -> Result<(), Reco
 /// Records the entry's change in the keeper and in the farm, or in neither.
 pub(crate) fn record_plain<K: Keeper>(
     alloc: Global,
-    plain: &mut PlainRecorder<K>,
+    plain: &mut RecordedFarm<K>,
     entry: &Entry,
     change: Change,
 ) -> Result<(), RecordFault>
@@ -67,6 +67,7 @@ pub(crate) fn record_plain<K: Keeper>(
     ensures keeper { Continues K.tells K.faults plain.old.keeper plain.new.keeper (is_store_fault result) }
     ensures told { TellsRecord K.commits plain.old.farm entry.now result plain.old.keeper plain.new.keeper }
     ensures unspent { is_spent result ≡ false }
+    ensures never_held { is_held_fault result ≡ false }
     ensures unheld { (v : View) → (w : View) → IsHeldBy plain.old.farm entry.now v result w }
 {
     plain.record(alloc, entry, change)?;

@@ -1,72 +1,76 @@
 //! Whether the farm lets a claim be booked that has its word.
 
-ghost use Rattle.std.specs.Prelude.{◌≡◌, ◌==◌, false, option_and_then, slice_get};
+ghost use Rattle.std.specs.Prelude.{◌≡◌, ◌==◌, false, option_and_then, slice_get, IfOk};
 ghost use Rattle.farm_types.specs.Run.{limit_at};
 ghost use Rattle.recording_table.specs.Booking.{IsWhyLeft};
-ghost use Rattle.booking_recorder.specs.Claims.{Allows, IsAgainst};
+ghost use Rattle.farm_books.specs.Bookings.{IsAsked};
+ghost use Rattle.farm_core.specs.Bookings.{IsBookingOf};
+ghost use Rattle.booking_recorder.specs.Claims.{Allows, IsAgainst, IsCause, IsNoStop};
 ghost use Rattle.booking_recorder.specs.Readers.{booked_by, burst_by, limit_for, lock_at, most_by, running_by, state_at, sub_for};
 ghost use Rattle.booking_recorder.specs.Recording.{most_entries};
 
 use crate::refusal::ConfirmRefusal;
 use booking_reasons::NotBooked;
 use farm_books::Books;
-use farm_core::Farm;
+use farm_core::{Booking, Farm};
 use farm_types::{Cores, HostNo, HostState, LimitNo, LockState, Slot, SubRow};
 
-/// Why the farm doesn't let the slot's frame, which has its place on the host, be booked there at the moment (seconds), or that the journal has no room, by
-/// the number of its entries.
-pub(crate) fn allows(
+/// The booking of the slot's frame, which has its place on the host, at the moment (seconds); or why it isn't booked: the journal has no room, by the number
+/// of its entries, or the farm doesn't let it.
+pub(crate) fn decide(
     farm: &Farm,
     count: u64,
     slot: Slot,
     host: HostNo,
     moment: u64,
-) -> Result<(), ConfirmRefusal>
+) -> Result<Booking, ConfirmRefusal>
     requires left { IsWhyLeft farm.now slot host }
-    ensures { Allows farm.now count slot host result }
+    ensures allows { Allows farm.now count slot host result }
+    ensures asked { IfOk result (λ b. IsAsked slot host moment b.booked) }
+    ensures booking { IfOk result (IsBookingOf farm.now) }
 {
     if count == u64::MAX {
         return Err(ConfirmRefusal::EntriesSpent);
     }
-    match farm.booking(slot, host, moment) {
-        Ok(_booking) => Ok(()),
-        Err(why) => stands_against(farm.books(), count, slot, host, why),
+    match farm.recordable(slot, host, moment) {
+        Ok(booking) => Ok(booking),
+        Err(why) => Err(stands_against(farm.books(), count, slot, host, why)),
     }
 }
 
-// What stands against the booking of a frame that has its place. The tags were compared before the claim.
+// What stands against the booking of a frame that has its place.
 fn stands_against(
     books: &Books,
     count: u64,
     slot: Slot,
     host: HostNo,
     why: NotBooked,
-) -> Result<(), ConfirmRefusal>
+) -> ConfirmRefusal
     requires room { (count == most_entries) ≡ false }
     requires why { IsAgainst books.now.farm slot host why }
-    ensures { Allows books.now.farm count slot host result }
+    ensures no_stop { IsNoStop result }
+    ensures cause { IsCause (λ found. ⊥) books.now.farm count slot host result }
 {
     match why {
-        NotBooked::JobPaused => Err(ConfirmRefusal::Paused),
-        NotBooked::HostClosed => Err(ConfirmRefusal::HostClosed {
+        NotBooked::JobPaused => ConfirmRefusal::Paused,
+        NotBooked::HostClosed => ConfirmRefusal::HostClosed {
             state: state_of(books, host),
             lock: lock_of(books, host),
-        }),
+        },
         NotBooked::PastBurst => {
             let sub = sub_for(books, slot, host);
-            Err(ConfirmRefusal::BurstLowered {
+            ConfirmRefusal::BurstLowered {
                 booked: booked_of(books, &sub),
                 burst: burst_of(&sub),
-            })
+            }
         }
         NotBooked::AtLimit => {
             let limit = limit_of(books, slot);
-            Err(ConfirmRefusal::LimitLowered {
+            ConfirmRefusal::LimitLowered {
                 running: running_in(books, &limit),
                 most: most_in(books, &limit),
-            })
+            }
         }
-        NotBooked::NoSharedTag => Ok(()),
         NotBooked::NoFrame
         | NotBooked::NotWaiting
         | NotBooked::NoJob
@@ -76,7 +80,8 @@ fn stands_against(
         | NotBooked::JobFinished
         | NotBooked::NotOpen
         | NotBooked::OtherFacility
-        | NotBooked::NoCapacity => unreachable!(),
+        | NotBooked::NoCapacity
+        | NotBooked::NoSharedTag => unreachable!(),
     }
 }
 

@@ -8,9 +8,9 @@ ghost use Rattle.booking_rule.specs.Kept.{farm_in};
 ghost use Rattle.booking_table.specs.Seats.{view, IsSeatOf, IsSameSeat};
 ghost use Rattle.recorder.specs.Recording.{HasSameRows, IsOfEntry};
 ghost use Rattle.recording_core.specs.Machine.{IsBooking};
-ghost use Rattle.recording_turns.specs.Resting.{IsAtRest};
+ghost use Rattle.recording_turns.specs.Resting.{IsAtRest, split_in};
 ghost use Rattle.booking_recorder.specs.Entries.{IsHeldBy, Records, TellsRecord};
-ghost use Rattle.booking_recorder.specs.Faults.{is_spent, is_store_fault};
+ghost use Rattle.booking_recorder.specs.Faults.{is_held_fault, is_spent, is_store_fault};
 ghost use Rattle.booking_recorder.specs.Views.{Enters};
 
 use crate::entering::{carry_on, take_room};
@@ -20,13 +20,13 @@ use booking_table::{Seat, Table};
 use farm_core::Change;
 use farm_keeper::Keeper;
 use farm_types::Entry;
-use recorder::PlainRecorder;
+use recorder::RecordedFarm;
 use std::alloc::Global;
 
 /// Records an entry that is no booking, for which the journal has room: all that can fail comes before the journal's word is changed.
 pub(crate) fn record_in<K: Keeper>(
     alloc: Global,
-    plain: &mut PlainRecorder<K>,
+    plain: &mut RecordedFarm<K>,
     table: &Table,
     seat: &mut Seat,
     entry: &Entry,
@@ -44,6 +44,7 @@ pub(crate) fn record_in<K: Keeper>(
     ensures entered { Enters (view seat.old) entry.now result (view seat.new) }
     ensures held { IsHeldBy plain.old.farm entry.now (view seat.old) result (view seat.new) }
     ensures unspent { is_spent result ≡ false }
+    ensures alone { split_in (view seat.old).desk ≡ 0 → is_held_fault result ≡ false }
     ensures farm { Records plain.old.farm (after_change plain.old.farm change) result plain.new.farm }
     ensures same { HasSameRows plain.old.farm (after plain.old.farm entry.now) → plain.new.keeper ≡ plain.old.keeper }
     ensures keeper { Continues K.tells K.faults plain.old.keeper plain.new.keeper (is_store_fault result) }

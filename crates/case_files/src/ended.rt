@@ -78,7 +78,14 @@ fn run_over(
 ) -> Result<Ended, AllocError> {
     let mut clock = clock_of(alloc, case)?;
     let keeper = keeper_of(alloc, words, rows, failing)?;
-    let (status, keeper) = run_cuebot(alloc, words, &mut source, &mut sink, keeper, &mut clock);
+    let (status, keeper, _seat) = run_cuebot(
+        alloc,
+        words,
+        &mut source,
+        &mut sink,
+        keeper,
+        &mut clock,
+    );
     Ok(Ended {
         status,
         source,

@@ -22,7 +22,7 @@ pub fn answer<K: Keeper>(rt: &HostRuntime, words: &[Text], keeper: K) -> (Status
     let mut sink = OutputSink::make(io::writer(rt));
     let mut errors = OutputSink::make(rt.stderr());
     let mut clock = SystemClock::make(clock_rt);
-    run_program(
+    let (status, keeper, _seat) = run_program(
         rt.alloc(),
         words,
         rt.stdin().is_terminal(),
@@ -31,5 +31,6 @@ pub fn answer<K: Keeper>(rt: &HostRuntime, words: &[Text], keeper: K) -> (Status
         &mut errors,
         keeper,
         &mut clock,
-    )
+    );
+    (status, keeper)
 }

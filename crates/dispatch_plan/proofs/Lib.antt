@@ -1,5 +1,4 @@
 mod AllFits
-mod Booked
 mod JobSteps
 mod NoneFits
 mod Offered
@@ -8,7 +7,5 @@ mod Plans
 mod Ranks
 mod Steps
 mod SubList
-mod Told
-mod UnderWay
 mod Views
 mod Waiting

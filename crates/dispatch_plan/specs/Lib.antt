@@ -1,3 +1,2 @@
 pub mod Offers
 pub mod Order
-pub mod Rounds

@@ -1,11 +1,16 @@
 -- Report by report, a load's run is that of its marks.
-use Rattle.std.proofs.Common.{◌≡◌, ◌≤◌, ◌<◌, ◌+◌, ◌*◌, inl, ℕ, cond, Bool, true, false, List, [], ◌∷◌, ◌++◌, arith, refl, sym, ap, ◌∙◌, subst, Result, Ok, append_assoc, length, length-append}
+use Rattle.std.proofs.Common.{◌≡◌, ◌≤◌, ◌<◌, ◌+◌, ◌*◌, ◌^◌, inl, ℕ, cond, Bool, true, false, List, [], ◌∷◌, ◌++◌, arith, refl, sym, ap, ◌∙◌, subst, Result, Ok, append_assoc, length, length-append}
 use Rattle.std.specs.Prelude.{count_by}
 use Rattle.std.specs.List.{All}
 use Rattle.std.proofs.lemmas.List.Elements.{All-nil, All-push}
 use Rattle.std.proofs.lemmas.List.Sums.{sum_by-append, sum_by_push}
 use Rattle.fault_counts.specs.Counts.{HasRisenBy, incremented_if}
 use Rattle.fault_counts.proofs.CountLaws.{HasRisenBy-push}
+use Rattle.booking_recorder.specs.Going.{Journals}
+use Rattle.booking_recorder.proofs.Journaled.{journals_none, journals_then}
+use Rattle.booking_rule.specs.declared.view.View.{View}
+use Rattle.line_answers.specs.declared.limits.TheConstants.{ENTRIES_EACH}
+use Rattle.line_answers.proofs.FewEntries.{reported_few}
 use Rattle.farm_types.specs.declared.attempt.Attempt.{Attempt}
 use Rattle.farm_types.specs.declared.entry.Entry.{Entry}
 use Rattle.farm_types.specs.declared.limits.TheConstants.{BOOKINGS_EACH}
@@ -18,9 +23,9 @@ use Rattle.line_answers.specs.LineAnswers.{bookings_in, is_booking, is_calm}
 use Rattle.farm_load.specs.declared.counts.Counts.{Counts}
 use Rattle.farm_load.specs.declared.load_end.LoadEnd.TheVariants.{NoMemory}
 use Rattle.farm_load.specs.declared.load_host.LoadHost.{LoadHost}
-use Rattle.farm_load.specs.Loads.{AreCalm, AreMarks, HaveCause, Load, MayStandAt, failed_in, fails, has_finished, load_after, load_hosts, load_next, load_run, load_start, most_reports, turn_of}
+use Rattle.farm_load.specs.Loads.{AreCalm, AreMarks, HaveCause, Load, MayStandAt, failed_in, fails, has_finished, load_after, load_hosts, load_next, load_report, load_run, load_start, most_reports, round_after, turn_of}
 use Rattle.farm_load.specs.Summaries.{RunsLoad}
-use Rattle.farm_load.specs.Turns.{IsFormedHost, TakesTurn}
+use Rattle.farm_load.specs.Turns.{GoesSo, IsFormedHost, TakesTurn}
 use Rattle.farm_load.proofs.LegalLemmas.{hosts_formed, load_farm}
 
 -- ---- one mark more
@@ -64,8 +69,9 @@ bookings_append xs ys = sum_by-append (λ (e : Entry). cond (is_booking e.act) 1
 
 -- ---- where a run stands
 
--- After a report for each mark, none of which met the end of memory, the load is over this farm, with these hosts, and these are its counts.
-pub record IsRunning (n : ℕ) (old f : Farm) (reports : ℕ) (hosts : List LoadHost) (counts : Counts) (faults faults_now : ℕ) : Type 0 where
+-- After a report for each mark, none of which met the end of memory, the load is over this farm, with these hosts, and these are its counts. The journal
+-- has what was recorded, which is as much as so many reports can make.
+pub record IsRunning (n : ℕ) (old f : Farm) (reports : ℕ) (hosts : List LoadHost) (counts : Counts) (faults faults_now : ℕ) (view now : View) : Type 0 where
   pub marks : List Mark
   pub recorded : List Entry
   pub load_is : load_run n old marks ≡ record { farm = f; reports = reports; hosts = hosts; recorded = recorded }
@@ -79,10 +85,12 @@ pub record IsRunning (n : ℕ) (old f : Farm) (reports : ℕ) (hosts : List Load
   pub failed : counts.failed ≡ failed_in n old recorded
   pub attempts_within : counts.attempts ≤ BOOKINGS_EACH * reports
   pub failed_within : counts.failed ≤ LAUNCHES_EACH * reports
+  pub words : Journals view now recorded
+  pub few : length recorded ≤ ENTRIES_EACH * reports
 
-pub begins : (n : ℕ) (old : Farm) (hosts : List LoadHost) (faults : ℕ) → hosts ≡ load_hosts → IsRunning n old old 0 hosts (record { attempts = 0; failed = 0 }) faults faults
-begins n old hosts faults is =
-    subst (λ (hs : List LoadHost). IsRunning n old old 0 hs (record { attempts = 0; failed = 0 }) faults faults) (sym is)
+pub begins : (n : ℕ) (old : Farm) (hosts : List LoadHost) (faults : ℕ) (view : View) → hosts ≡ load_hosts → IsRunning n old old 0 hosts (record { attempts = 0; failed = 0 }) faults faults view view
+begins n old hosts faults view is =
+    subst (λ (hs : List LoadHost). IsRunning n old old 0 hs (record { attempts = 0; failed = 0 }) faults faults view view) (sym is)
     (record {
       marks = [];
       recorded = [];
@@ -97,6 +105,8 @@ begins n old hosts faults is =
       failed = refl;
       attempts_within = omega arith;
       failed_within = omega arith;
+      words = journals_none view;
+      few = omega arith;
     })
 
 some_behind : (others : List LoadHost) (h : LoadHost) → 0 < length (others ++ h ∷ [])
@@ -105,7 +115,7 @@ some_behind others h = omega (arith, length-append others (h ∷ []))
 -- ---- one report more
 
 module _ (n : ℕ) (old f : Farm) (reports : ℕ) (h : LoadHost) (others : List LoadHost) (counts : Counts) (faults mid now : ℕ)
-    (r : IsRunning n old f reports (h ∷ others) counts faults mid) (going : has_finished f ≡ false) (left : reports < most_reports) (mark : Mark) where
+    (view seen : View) (r : IsRunning n old f reports (h ∷ others) counts faults mid view seen) (going : has_finished f ≡ false) (left : reports < most_reports) (mark : Mark) where
   abbrev here : Load
   here = record { farm = f; reports = reports; hosts = h ∷ others; recorded = r.recorded }
 
@@ -132,46 +142,72 @@ module _ (n : ℕ) (old f : Farm) (reports : ℕ) (h : LoadHost) (others : List 
   attempts_more : (attempts : ℕ) → attempts ≡ counts.attempts + bookings_in made → attempts ≡ bookings_in (r.recorded ++ made)
   attempts_more attempts is = is ∙ ap (λ (k : ℕ). k + bookings_in made) r.attempts ∙ sym (bookings_append r.recorded made)
 
-pub goes_on : {T E : Type 0} (n : ℕ) (old f : Farm) (reports : ℕ) (hosts : List LoadHost) (counts : Counts) (faults mid now : ℕ) (goes : Bool → Type 0) (x : T) (new : Farm) (hosts_now : List LoadHost)
-    (counts_now : Counts) → IsRunning n old f reports hosts counts faults mid → has_finished f ≡ false → reports < most_reports
-    → TakesTurn {T = T} {E = E} n f reports hosts counts (Ok x) new hosts_now counts_now goes → ((b : Bool) → goes b → now ≡ incremented_if b mid) → IsRunning n old new (reports + 1) hosts_now counts_now faults now
-goes_on n old f reports [] counts faults mid now goes x new hosts_now counts_now r going left t told = absurd t.may_stand
-goes_on n old f reports (h ∷ others) counts faults mid now goes x new hosts_now counts_now r going left t told =
-    let entries = made n old f reports h others counts faults mid now r going left t.mark in
+  few_more : length (r.recorded ++ made) ≤ ENTRIES_EACH * (reports + 1)
+  few_more = omega (arith, r.few, reported_few f (load_report n (round_after reports) h) (round_after reports) mark, length-append r.recorded made)
+
+-- what a recorder that went on so did: its count of faults, and its journal
+abbrev Told : GoesSo → ℕ → ℕ → View → View → Type 0
+Told goes mid now seen view_now = (done : List Entry) (failed : Bool) → goes done failed → (now ≡ incremented_if failed mid) × Journals seen view_now done
+
+pub goes_on : {T E : Type 0} (n : ℕ) (old f : Farm) (reports : ℕ) (hosts : List LoadHost) (counts : Counts) (faults mid now : ℕ) (view seen view_now : View) (goes : GoesSo) (x : T) (new : Farm)
+    (hosts_now : List LoadHost) (counts_now : Counts) → IsRunning n old f reports hosts counts faults mid view seen → has_finished f ≡ false → reports < most_reports
+    → TakesTurn {T = T} {E = E} n f reports hosts counts (Ok x) new hosts_now counts_now goes → Told goes mid now seen view_now
+    → IsRunning n old new (reports + 1) hosts_now counts_now faults now view view_now
+goes_on n old f reports [] counts faults mid now view seen view_now goes x new hosts_now counts_now r going left t told = absurd t.may_stand
+goes_on n old f reports (h ∷ others) counts faults mid now view seen view_now goes x new hosts_now counts_now r going left t told =
+    let entries = made n old f reports h others counts faults mid now view seen r going left t.mark in
+    let went = told entries (is_store_mark t.mark) t.recorder in
     record {
       marks = r.marks ++ t.mark ∷ [];
       recorded = r.recorded ++ entries;
       load_is =
-          load_more n old f reports h others counts faults mid now r going left t.mark
+          load_more n old f reports h others counts faults mid now view seen r going left t.mark
           ∙ λ i. record { farm = sym t.farm_is i; reports = reports + 1; hosts = sym t.turns.hosts_are i; recorded = r.recorded ++ entries };
-      are_marks = are_more n old f reports h others counts faults mid now r going left t.mark t.may_stand;
+      are_marks = are_more n old f reports h others counts faults mid now view seen r going left t.mark t.may_stand;
       long = omega (arith, r.long, length-append r.marks (t.mark ∷ []));
       calm = All-push (λ (mark : Mark). is_calm mark ≡ true) r.marks t.mark r.calm t.turns.calm;
-      cause = causes n old f reports h others counts faults mid now r going left t.mark (told (is_store_mark t.mark) t.keeper);
+      cause = causes n old f reports h others counts faults mid now view seen r going left t.mark went.0;
       some = subst (λ (hs : List LoadHost). 0 < length hs) (sym t.turns.hosts_are) (some_behind others _);
       formed = t.turns.formed;
-      attempts = attempts_more n old f reports h others counts faults mid now r going left t.mark counts_now.attempts t.turns.counted.attempts;
-      failed = failed_more n old f reports h others counts faults mid now r going left t.mark counts_now.failed t.turns.counted.failed;
+      attempts = attempts_more n old f reports h others counts faults mid now view seen r going left t.mark counts_now.attempts t.turns.counted.attempts;
+      failed = failed_more n old f reports h others counts faults mid now view seen r going left t.mark counts_now.failed t.turns.counted.failed;
       attempts_within = omega (arith, r.attempts_within, t.turns.counted.attempts_few);
       failed_within = omega (arith, r.failed_within, t.turns.counted.failed_few);
+      words = journals_then view seen view_now r.recorded entries r.words went.1;
+      few = few_more n old f reports h others counts faults mid now view seen r going left t.mark;
     }
+
+-- ---- room in the journal
+
+-- before each report there is room for what one can make
+pub has_room : (n : ℕ) (old f : Farm) (reports : ℕ) (hosts : List LoadHost) (counts : Counts) (faults mid : ℕ) (view seen : View)
+    → IsRunning n old f reports hosts counts faults mid view seen → length view.journal + ENTRIES_EACH * most_reports < 2 ^ 64 → reports < most_reports
+    → length seen.journal + ENTRIES_EACH < 2 ^ 64
+has_room n old f reports hosts counts faults mid view seen r room left =
+    let long : length seen.journal ≡ length view.journal + length r.recorded = ap length r.words.journal ∙ length-append view.journal r.recorded in
+    omega (arith, long, r.few, room, left)
 
 -- ---- how a run ends
 
 -- memory ran out before the first report
-pub nothing_run : (n : ℕ) (f : Farm) (faults : ℕ) → RunsLoad n f NoMemory f faults faults
-nothing_run n f faults = record { marks = []; are_marks = tt; farm_is = refl; cause = inl (omega arith); ends = tt }
+pub nothing_run : (n : ℕ) (f : Farm) (faults : ℕ) (view : View) → RunsLoad n f NoMemory f faults faults (Journals view view)
+nothing_run n f faults view = record { marks = []; are_marks = tt; farm_is = refl; cause = inl (omega arith); words = journals_none view; ends = tt }
 
 -- memory ran out at a report
-pub breaks_off : {T E : Type 0} (n : ℕ) (old f : Farm) (reports : ℕ) (hosts : List LoadHost) (counts : Counts) (faults mid now : ℕ) (goes : Bool → Type 0) (result : Result T E) (new : Farm)
-    (hosts_now : List LoadHost) (counts_now : Counts) → IsRunning n old f reports hosts counts faults mid → has_finished f ≡ false → reports < most_reports
-    → TakesTurn {T = T} {E = E} n f reports hosts counts result new hosts_now counts_now goes → ((b : Bool) → goes b → now ≡ incremented_if b mid) → RunsLoad n old NoMemory new faults now
-breaks_off n old f reports [] counts faults mid now goes result new hosts_now counts_now r going left t told = absurd t.may_stand
-breaks_off n old f reports (h ∷ others) counts faults mid now goes result new hosts_now counts_now r going left t told =
+pub breaks_off : {T E : Type 0} (n : ℕ) (old f : Farm) (reports : ℕ) (hosts : List LoadHost) (counts : Counts) (faults mid now : ℕ) (view seen view_now : View) (goes : GoesSo)
+    (result : Result T E) (new : Farm) (hosts_now : List LoadHost) (counts_now : Counts) → IsRunning n old f reports hosts counts faults mid view seen → has_finished f ≡ false
+    → reports < most_reports → TakesTurn {T = T} {E = E} n f reports hosts counts result new hosts_now counts_now goes → Told goes mid now seen view_now
+    → RunsLoad n old NoMemory new faults now (Journals view view_now)
+breaks_off n old f reports [] counts faults mid now view seen view_now goes result new hosts_now counts_now r going left t told = absurd t.may_stand
+breaks_off n old f reports (h ∷ others) counts faults mid now view seen view_now goes result new hosts_now counts_now r going left t told =
+    let entries = made n old f reports h others counts faults mid now view seen r going left t.mark in
+    let went = told entries (is_store_mark t.mark) t.recorder in
+    let more = load_more n old f reports h others counts faults mid now view seen r going left t.mark in
     record {
       marks = r.marks ++ t.mark ∷ [];
-      are_marks = are_more n old f reports h others counts faults mid now r going left t.mark t.may_stand;
-      farm_is = t.farm_is ∙ sym (ap (λ (l : Load). l.farm) (load_more n old f reports h others counts faults mid now r going left t.mark));
-      cause = causes n old f reports h others counts faults mid now r going left t.mark (told (is_store_mark t.mark) t.keeper);
+      are_marks = are_more n old f reports h others counts faults mid now view seen r going left t.mark t.may_stand;
+      farm_is = t.farm_is ∙ sym (ap (λ (l : Load). l.farm) more);
+      cause = causes n old f reports h others counts faults mid now view seen r going left t.mark went.0;
+      words = subst (λ (l : Load). Journals view view_now l.recorded) (sym more) (journals_then view seen view_now r.recorded entries r.words went.1);
       ends = tt;
     }

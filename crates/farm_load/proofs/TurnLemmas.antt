@@ -27,7 +27,7 @@ use Rattle.line_answers.specs.Told.{Tells}
 use Rattle.farm_load.specs.declared.counts.Counts.{Counts}
 use Rattle.farm_load.specs.declared.load_host.LoadHost.{LoadHost}
 use Rattle.farm_load.specs.Loads.{failed_in, fails, launched_by, load_report, round_after}
-use Rattle.farm_load.specs.Turns.{GoesOn, HasReported, IsFormedHost, TakesTurn, failures_told}
+use Rattle.farm_load.specs.Turns.{GoesOn, GoesSo, HasReported, IsFormedHost, TakesTurn, failures_told}
 use Rattle.farm_load.proofs.LaunchLemmas.{AreLaunched, reported_launches}
 
 -- ---- bookings have no completions
@@ -136,7 +136,7 @@ module _ (n : ℕ) (f : Farm) (report : Report) (moment : ℕ) (new : Farm) (tak
       }
   goes_on (Err e) failing_is few booked_few keeps attempts failed launched_is tells_none = tt
 
-  pub has_reported : {E : Type 0} (since : Bool → Type 0) → ((all done : List Entry) (failed : Bool) → goes all done failed → since failed)
+  pub has_reported : {E : Type 0} (since : GoesSo) → ((all done : List Entry) (failed : Bool) → goes all done failed → since done failed)
       → (result : Result (List Attempt) E) → failing ≡ failed_in n f (heard_entry report moment ∷ [])
       → failing ≤ LAUNCHES_EACH → taken.booked ≤ BOOKINGS_EACH → KeepsRows new → counts.attempts ≡ old.attempts + taken.booked
       → counts.failed ≡ old.failed + told_failing → IfOk result (λ launched. (reply : Reply) → Tells taken.told reply → launched ≡ launched_by reply)
@@ -146,21 +146,21 @@ module _ (n : ℕ) (f : Farm) (report : Report) (moment : ℕ) (new : Farm) (tak
         mark = takes.mark;
         may_stand = takes.may_stand;
         farm_is = takes.farm;
-        keeper = on _ _ _ takes.keeper;
+        recorder = on _ _ _ takes.keeper;
         goes_on = goes_on result failing_is few booked_few keeps attempts failed launched_is tells_none;
       }
 
 -- memory ran out before anything was recorded
-pub not_reported : {E : Type 0} (Q : E → Type 0) (n : ℕ) (f : Farm) (report : Report) (moment : ℕ) (old : Counts) (result : Result (List Attempt) E) (goes : Bool → Type 0) → IsErrAnd result Q
-    → goes false → HasReported n f report moment old result f old goes
+pub not_reported : {E : Type 0} (Q : E → Type 0) (n : ℕ) (f : Farm) (report : Report) (moment : ℕ) (old : Counts) (result : Result (List Attempt) E) (goes : GoesSo) → IsErrAnd result Q
+    → goes [] false → HasReported n f report moment old result f old goes
 not_reported Q n f report moment old (Ok launched) goes is stays = absurd is
 not_reported Q n f report moment old (Err e) goes is stays =
-    record { mark = Memory; may_stand = tt; farm_is = refl; keeper = stays; goes_on = tt }
+    record { mark = Memory; may_stand = tt; farm_is = refl; recorder = stays; goes_on = tt }
 
 -- ---- a turn
 
 module _ {E T : Type 0} (n : ℕ) (f : Farm) (reports : ℕ) (h : LoadHost) (others : List LoadHost) (old counts : Counts) (launched : List Attempt) (x : T) (new : Farm)
-    (hosts_now : List LoadHost) (goes : Bool → Type 0)
+    (hosts_now : List LoadHost) (goes : GoesSo)
     (r : HasReported {E = E} n f (load_report n (round_after reports) h) (round_after reports) old (Ok launched) new counts goes)
     (now : hosts_now ≡ others ++ record { name = h.name; launched = launched } ∷ []) where
   turned : All IsFormedHost (h ∷ others) → TakesTurn {T = T} {E = E} n f reports (h ∷ others) old (Ok x) new hosts_now counts goes
@@ -169,7 +169,7 @@ module _ {E T : Type 0} (n : ℕ) (f : Farm) (reports : ℕ) (h : LoadHost) (oth
         mark = r.mark;
         may_stand = r.may_stand;
         farm_is = r.farm_is;
-        keeper = r.keeper;
+        recorder = r.recorder;
         turns =
             record {
               calm = r.goes_on.calm;

@@ -1,5 +1,6 @@
 -- What a load tells at its end, and how a call of it ends.
 use Rattle.std.specs.Prelude.{ℕ, ◌≡◌, ◌+◌, ◌*◌, ◌/◌, ◌-◌, true, false, List, ◌++◌, codes, decimal, length}
+use Rattle.farm_types.specs.declared.entry.Entry.{Entry}
 use Rattle.farm_types.specs.Farm.{Farm}
 use Rattle.farm_lines.specs.Transcript.{Mark}
 use Rattle.line_answers.specs.LineAnswers.{bookings_in}
@@ -33,10 +34,11 @@ EndsBy n f marks (load_end.Finished summary) = AreCalm marks × (has_finished (l
 EndsBy n f marks load_end.Spent = AreCalm marks × (has_finished (load_run n f marks).farm ≡ false) × (length marks ≡ most_reports)
 EndsBy n f marks load_end.NoMemory = Unit {0}
 
--- a load was run over a farm, with these marks, and ended so
-pub record RunsLoad (n : ℕ) (old : Farm) (ended : LoadEnd) (new : Farm) (faults faults_now : ℕ) : Type 0 where
+-- a load was run over a farm, with these marks, and ended so; the journal has exactly its entries more
+pub record RunsLoad (n : ℕ) (old : Farm) (ended : LoadEnd) (new : Farm) (faults faults_now : ℕ) (journals : List Entry → Type 0) : Type 0 where
   pub marks : List Mark
   pub are_marks : AreMarks n (load_start old) marks
   pub farm_is : new ≡ (load_run n old marks).farm
   pub cause : HaveCause marks faults faults_now
+  pub words : journals (load_run n old marks).recorded
   pub ends : EndsBy n old marks ended

@@ -1,5 +1,8 @@
 -- What one report of a load does to the hosts that wait for their turn and to the counts.
 use Rattle.std.specs.Prelude.{ℕ, Bool, ◌≡◌, ◌≤◌, ◌<◌, ◌+◌, ◌*◌, ◌^◌, List, [], true, length, Result, Ok, Err}
+use Rattle.booking_recorder.specs.Going.{Journals}
+use Rattle.booking_recorder.specs.Recording.{Recording}
+use Rattle.farm_keeper.specs.Keeping.{Continues}
 use Rattle.std.specs.List.{All}
 use Rattle.farm_types.specs.declared.attempt.Attempt.{Attempt}
 use Rattle.farm_types.specs.declared.entry.Entry.{Entry}
@@ -43,6 +46,17 @@ pub record IsReady (hosts : List LoadHost) (counts : Counts) (reports : ℕ) : T
   pub failed_within : counts.failed ≤ LAUNCHES_EACH * reports
   pub left : reports < most_reports
 
+-- ---- what is recorded
+
+-- how a recorder goes on, by the entries that it recorded and whether its store failed then
+abbrev pub GoesSo : Type 1
+GoesSo = List Entry → Bool → Type 0
+
+-- the keeper went on so, and the journal has exactly these entries more
+pub record Recorded {K : Type 0} (tells : K → Type 0) (faults : K → ℕ) (before now : Recording K) (done : List Entry) (failed : Bool) : Type 0 where
+  pub keeper : Continues tells faults before.keeper now.keeper failed
+  pub journals : Journals before.view now.view done
+
 -- ---- a report
 
 -- of so many failing completions of a report: none where it wasn't taken
@@ -69,14 +83,13 @@ abbrev pub GoesOn : ℕ → Farm → Counts → Mark → Answered → {E : Type 
 GoesOn n f old mark answered (Ok launched) new = HasGoneOn n f old mark answered launched new
 GoesOn n f old mark answered (Err _) new = Unit {0}
 
--- The report was answered by one of the marks, the farm is the one after that, and the keeper went on as the mark says.
+-- The report was answered by one of the marks, the farm is the one after that, and the recorder went on as the mark says.
 pub record HasReported {E : Type 0} (n : ℕ) (f : Farm) (report : Report) (moment : ℕ) (counts : Counts) (result : Result (List Attempt) E) (new : Farm)
-    (counts_now : Counts)
-    (goes : Bool → Type 0) : Type 0 where
+    (counts_now : Counts) (goes : GoesSo) : Type 0 where
   pub mark : Mark
   pub may_stand : MayStore f moment (asked.Report report) mark
   pub farm_is : new ≡ run_of f (reported f report moment mark).entries
-  pub keeper : goes (is_store_mark mark)
+  pub recorder : goes (reported f report moment mark).entries (is_store_mark mark)
   pub goes_on : GoesOn n f counts mark (reported f report moment mark) result counts_now
 
 -- ---- a turn
@@ -96,12 +109,12 @@ abbrev pub TurnsTo : ℕ → Farm → Counts → Mark → Load → {T E : Type 0
 TurnsTo n f old mark next (Ok _) hosts new = HasTurned n f old mark next hosts new
 TurnsTo n f old mark next (Err _) hosts new = Unit {0}
 
--- The host whose turn it is reported, by one of the marks, the farm is the one after that, and the keeper went on as the mark says.
+-- The host whose turn it is reported, by one of the marks, the farm is the one after that, and the recorder went on as the mark says.
 pub record TakesTurn {T E : Type 0} (n : ℕ) (f : Farm) (reports : ℕ) (hosts : List LoadHost) (counts : Counts) (result : Result T E) (new : Farm)
     (hosts_now : List LoadHost)
-    (counts_now : Counts) (goes : Bool → Type 0) : Type 0 where
+    (counts_now : Counts) (goes : GoesSo) : Type 0 where
   pub mark : Mark
   pub may_stand : MayStandAt n (standing f reports hosts) hosts mark
   pub farm_is : new ≡ (load_next n (standing f reports hosts) mark).farm
-  pub keeper : goes (is_store_mark mark)
+  pub recorder : goes (load_next n (standing f reports hosts) mark).recorded (is_store_mark mark)
   pub turns : TurnsTo n f counts mark (load_next n (standing f reports hosts) mark) result hosts_now counts_now

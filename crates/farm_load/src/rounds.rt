@@ -1,10 +1,13 @@
 //! The rounds of a load.
 
-ghost use Rattle.std.specs.Prelude.{◌≡◌, ◌≤◌, ◌*◌, IfOk};
+ghost use Rattle.std.specs.Prelude.{◌≡◌, ◌≤◌, ◌<◌, ◌+◌, ◌*◌, ◌^◌, IfOk, length};
+ghost use Rattle.booking_recorder.specs.Going.{Journals};
 ghost use Rattle.farm_gen.specs.Load.{IsLoad};
-ghost use Rattle.farm_load.specs.Loads.{has_finished, load_hosts, new_host};
+ghost use Rattle.farm_load.specs.Loads.{has_finished, load_hosts, most_reports, new_host};
 ghost use Rattle.farm_load.specs.Summaries.{RunsLoad, rounds_of};
 ghost use Rattle.farm_load.specs.declared.load_end.LoadEnd.TheVariants.{Finished};
+ghost use Rattle.line_answers.specs.declared.limits.TheConstants.{ENTRIES_EACH};
+ghost use Rattle.recording_turns.specs.Resting.{split_in};
 
 use crate::counts::Counts;
 use crate::limits::{HOSTS, LOAD_JOB, MOST_ROUNDS};
@@ -12,37 +15,53 @@ use crate::load_end::LoadEnd;
 use crate::load_host::LoadHost;
 use crate::summary::Summary;
 use crate::turns::take_turn;
+use booking_recorder::{Naming, Recorder};
+use booking_table::Table;
 use farm_core::Farm;
 use farm_keeper::Keeper;
 use farm_types::{Items, JobNo, JobState, Text};
-use recorder::PlainRecorder;
 use std::alloc::{AllocError, Global};
 use std::collections::VecDeque;
 
 /// Runs a load of n frames a layer over its farm: round after round each host reports in turn, at the moment that is the round's number, and is answered as a
-/// line would be, until the job is finished. Each report says that all that the reply before it launched is done.
+/// line would be, until the job is finished. Each report says that all that the reply before it launched is done. What is recorded is shown on the words,
+/// from which no seat was split off, so that no host is held.
 #[tactic(auto, using(crate::proofs::RunLemmas::nothing_run))]
-pub fn run_load<K: Keeper>(alloc: Global, recorder: &mut PlainRecorder<K>, n: u32) -> LoadEnd
-    requires { IsLoad n }
-    ensures run { RunsLoad n recorder.old.farm result recorder.new.farm (K.faults recorder.old.keeper) (K.faults recorder.new.keeper) }
+pub fn run_load<K: Keeper, N: Naming>(
+    alloc: Global,
+    table: &Table,
+    recorder: &mut Recorder<K, N>,
+    n: u32,
+) -> LoadEnd
+    requires load { IsLoad n }
+    requires table { table.now ≡ N.table }
+    requires alone { split_in recorder.old.view.desk ≡ 0 }
+    requires room { length recorder.old.view.journal + ENTRIES_EACH * most_reports < 2 ^ 64 }
+    ensures run { RunsLoad n recorder.old.farm result recorder.new.farm (K.faults recorder.old.keeper) (K.faults recorder.new.keeper)
+        (Journals recorder.old.view recorder.new.view) }
     ensures told { K.tells recorder.new.keeper → K.tells recorder.old.keeper }
 {
     match load_hosts(alloc) {
-        Ok(hosts) => run_rounds(alloc, recorder, n, hosts),
+        Ok(hosts) => run_rounds(alloc, table, recorder, n, hosts),
         Err(_) => LoadEnd::NoMemory,
     }
 }
 
 // Runs it from its first round on.
-fn run_rounds<K: Keeper>(
+fn run_rounds<K: Keeper, N: Naming>(
     alloc: Global,
-    recorder: &mut PlainRecorder<K>,
+    table: &Table,
+    recorder: &mut Recorder<K, N>,
     n: u32,
     hosts: VecDeque<LoadHost>,
 ) -> LoadEnd
     requires load { IsLoad n }
     requires hosts { hosts.items ≡ load_hosts }
-    ensures run { RunsLoad n recorder.old.farm result recorder.new.farm (K.faults recorder.old.keeper) (K.faults recorder.new.keeper) }
+    requires table { table.now ≡ N.table }
+    requires alone { split_in recorder.old.view.desk ≡ 0 }
+    requires room { length recorder.old.view.journal + ENTRIES_EACH * most_reports < 2 ^ 64 }
+    ensures run { RunsLoad n recorder.old.farm result recorder.new.farm (K.faults recorder.old.keeper) (K.faults recorder.new.keeper)
+        (Journals recorder.old.view recorder.new.view) }
     ensures told { K.tells recorder.new.keeper → K.tells recorder.old.keeper }
 {
     let mut hosts = hosts;
@@ -54,7 +73,7 @@ fn run_rounds<K: Keeper>(
         if has_finished(recorder.read()) {
             return finished(n, reports, counts);
         }
-        let Ok(()) = take_turn(alloc, recorder, n, reports, &mut hosts, &mut counts) else {
+        let Ok(()) = take_turn(alloc, table, recorder, n, reports, &mut hosts, &mut counts) else {
             return LoadEnd::NoMemory;
         };
     }

@@ -1,47 +1,53 @@
 //! One report of a load.
 
-ghost use Rattle.std.specs.Prelude.{◌≡◌, ◌≤◌, ◌<◌, IfOk, false, length};
+ghost use Rattle.std.specs.Prelude.{◌≡◌, ◌≤◌, ◌<◌, ◌+◌, ◌^◌, IfOk, false, length};
 ghost use Rattle.farm_types.specs.Formed.{IsFormed};
-ghost use Rattle.farm_keeper.specs.Keeping.{Continues};
 ghost use Rattle.farm_lines.specs.Asked.{heard_entry};
 ghost use Rattle.farm_lines.specs.declared.limits.TheConstants.{LAUNCHES_EACH};
 ghost use Rattle.farm_lines.specs.declared.reply.Reply.{Reply};
 ghost use Rattle.line_answers.specs.LineAnswers.{is_short, tells_memory};
 ghost use Rattle.line_answers.specs.Told.{Tells};
 ghost use Rattle.farm_load.specs.Loads.{launched_by, load_done, load_report, most_reports, round_after};
-ghost use Rattle.farm_load.specs.Turns.{HasReported, HasRoom, IsFormedHost, IsReady, TakesTurn, failures_told};
+ghost use Rattle.farm_load.specs.Turns.{HasReported, HasRoom, IsFormedHost, IsReady, Recorded, TakesTurn, failures_told};
+ghost use Rattle.line_answers.specs.declared.limits.TheConstants.{ENTRIES_EACH};
+ghost use Rattle.recording_turns.specs.Resting.{split_in};
 
 use crate::counts::Counts;
 use crate::failures::failures;
 use crate::limits::HOSTS;
 use crate::load_host::LoadHost;
+use booking_recorder::{Naming, Recorder};
+use booking_table::Table;
 use farm_gen::load_exit;
 use farm_keeper::Keeper;
 use farm_lines::{Reply, Report};
 use farm_types::{Attempt, Cut, DoneItem, HeardAct, Items};
 use line_answers::{ReportLine, Told, take_report};
-use recorder::PlainRecorder;
 use std::alloc::{AllocError, Global};
 use std::collections::VecDeque;
 
 /// The host whose turn it is reports, and waits behind the others then, with what the reply launches. The counts are those of the run so far. The only error is
 /// that memory ran out.
-pub(crate) fn take_turn<K: Keeper>(
+pub(crate) fn take_turn<K: Keeper, N: Naming>(
     alloc: Global,
-    recorder: &mut PlainRecorder<K>,
+    table: &Table,
+    recorder: &mut Recorder<K, N>,
     n: u32,
     reports: u32,
     hosts: &mut VecDeque<LoadHost>,
     counts: &mut Counts,
 ) -> Result<(), AllocError>
-    requires { IsReady hosts.old.items counts.old reports }
+    requires ready { IsReady hosts.old.items counts.old reports }
+    requires table { table.now ≡ N.table }
+    requires alone { split_in recorder.old.view.desk ≡ 0 }
+    requires journal { length recorder.old.view.journal + ENTRIES_EACH < 2 ^ 64 }
     ensures { TakesTurn n recorder.old.farm reports hosts.old.items counts.old result recorder.new.farm hosts.new.items counts.new
-        (Continues K.tells K.faults recorder.old.keeper recorder.new.keeper) }
+        (Recorded K.tells K.faults recorder.old recorder.new) }
 {
     let Some(host) = hosts.pop_front() else {
         unreachable!()
     };
-    let launched = host_turn(alloc, recorder, n, reports, &host, counts)?;
+    let launched = host_turn(alloc, table, recorder, n, reports, &host, counts)?;
     hosts.push_back_reserved(LoadHost {
         name: host.name,
         launched,
@@ -50,9 +56,10 @@ pub(crate) fn take_turn<K: Keeper>(
 }
 
 // The host reports, and what the reply launches is told.
-fn host_turn<K: Keeper>(
+fn host_turn<K: Keeper, N: Naming>(
     alloc: Global,
-    recorder: &mut PlainRecorder<K>,
+    table: &Table,
+    recorder: &mut Recorder<K, N>,
     n: u32,
     reports: u32,
     host: &LoadHost,
@@ -61,19 +68,23 @@ fn host_turn<K: Keeper>(
     requires left { reports < most_reports }
     requires formed { IsFormedHost host.now }
     requires room { HasRoom counts.old }
+    requires table { table.now ≡ N.table }
+    requires alone { split_in recorder.old.view.desk ≡ 0 }
+    requires journal { length recorder.old.view.journal + ENTRIES_EACH < 2 ^ 64 }
     ensures { HasReported n recorder.old.farm (load_report n (round_after reports) host.now) (round_after reports) counts.old result
         recorder.new.farm counts.new
-        (Continues K.tells K.faults recorder.old.keeper recorder.new.keeper) }
+        (Recorded K.tells K.faults recorder.old recorder.new) }
 {
     let round = reports / HOSTS + 1;
     let report = report_of(alloc, n, round, host)?;
-    take_counted(alloc, recorder, n, u64::from(round), report, counts)
+    take_counted(alloc, table, recorder, n, u64::from(round), report, counts)
 }
 
 // The report is taken at the moment and counted, and what the reply launches is told.
-fn take_counted<K: Keeper>(
+fn take_counted<K: Keeper, N: Naming>(
     alloc: Global,
-    recorder: &mut PlainRecorder<K>,
+    table: &Table,
+    recorder: &mut Recorder<K, N>,
     n: u32,
     moment: u64,
     report: Report,
@@ -82,11 +93,14 @@ fn take_counted<K: Keeper>(
     requires formed { IsFormed (heard_entry report moment) }
     requires few { length report.heard.done ≤ LAUNCHES_EACH }
     requires room { HasRoom counts.old }
+    requires table { table.now ≡ N.table }
+    requires alone { split_in recorder.old.view.desk ≡ 0 }
+    requires journal { length recorder.old.view.journal + ENTRIES_EACH < 2 ^ 64 }
     ensures { HasReported n recorder.old.farm report moment counts.old result recorder.new.farm counts.new
-        (Continues K.tells K.faults recorder.old.keeper recorder.new.keeper) }
+        (Recorded K.tells K.faults recorder.old recorder.new) }
 {
     let failing = failures(recorder.read(), n, &report.heard, moment);
-    let taken = take_report(alloc, recorder, report, moment);
+    let taken = take_report(alloc, table, recorder, report, moment);
     recorder.read().kept();
     counts.attempts += u64::from(taken.booked);
     counts.failed += failures_told(&taken.told, failing);

@@ -1,5 +1,5 @@
 -- The answer to a line, by cases.
-use Rattle.std.proofs.Common.{◌≡◌, ℕ, true, false, ◌<◌, ◌≤◌, ◌^◌, cond, List, [], ◌∷◌, ◌++◌, length, refl, sym, ap, ◌∙◌, subst, Option, None, Result, Ok, Err, inl, inr}
+use Rattle.std.proofs.Common.{◌≡◌, ℕ, true, false, ◌<◌, ◌≤◌, ◌^◌, cond, List, [], ◌∷◌, ◌++◌, length, refl, sym, ap, ◌∙◌, subst, Option, None, Result, Ok, Err, IfOk, inl, inr}
 use Rattle.std.proofs.lemmas.Bool.{le-ltb, lt-ltb, false≢true}
 use Rattle.farm_types.specs.declared.entry.Act.{Act}
 use Rattle.farm_types.specs.declared.entry.Act.TheVariants as act
@@ -32,7 +32,8 @@ use Rattle.farm_lines.specs.Asked.{IsFormedAsked, asked_of, entry_at, heard_entr
 use Rattle.farm_lines.specs.Transcript.{Mark, Plain, Memory, Store, Answered, answer_to, asked_answer, entry_answer, is_store_mark, list_reply, only_reply, request_answer, unless_memory}
 use Rattle.report_codec.specs.Reads.{Fails}
 use Rattle.recorder.specs.Recording.{ChangesNone, ChangesRows, IsOfEntry, IsUnstored}
-use Rattle.line_answers.specs.Asking.{IsNoBooking, IsUnbooked}
+use Rattle.line_answers.specs.Asking.{Asks, IsNoBooking, IsUnbooked}
+use Rattle.line_answers.specs.declared.hindered.Hindered.{Hindered}
 use Rattle.line_answers.specs.LineAnswers.{AnswersAsked, AnswersEntry, AnswersLine, AnswersReport, Going, IsAnswer, IsMarked, IsMarkedAnswer, IsRecorded, IsUnprepared, MayStore, MayStoreEntry, fault_reply, reported}
 use Rattle.line_answers.specs.declared.reply_line.ReplyLine.{ReplyLine}
 use Rattle.line_answers.specs.declared.reply_line.ReplyLine.TheVariants as reply_line
@@ -65,7 +66,7 @@ retold f new text goes one other may later same stands answered = record {
 }
 
 -- a line is answered by what is asked
-pub answered_line : (f : Farm) (line : List ℕ) (moment : ℕ) (new : Farm) (text : List ℕ) (goes : Going) (what : Request) → length line ≤ LINE_LIMIT
+answered_line : (f : Farm) (line : List ℕ) (moment : ℕ) (new : Farm) (text : List ℕ) (goes : Going) (what : Request) → length line ≤ LINE_LIMIT
     → request_of line ≡ Ok what → AnswersAsked f (asked_of what) moment new text goes → AnswersLine f line moment new text goes
 answered_line f line moment new text goes what fits asks answered =
     retold f new text goes (λ mark. unless_memory mark (asked_answer f moment mark (asked_of what))) (answer_to f line moment) (MayStore f moment (asked_of what))
@@ -114,12 +115,23 @@ faulted f moment fault.NoMemory read text goes still may plain memory fails line
     unreplied f text goes still (λ mark. request_answer f moment mark read) may memory (no_memory text line)
 
 -- its reply tells the fault, or that memory ran out
-pub faulted_line : (f : Farm) (line : List ℕ) (moment : ℕ) (found : RequestFault) (text : List ℕ) (goes : Going) → ((all : List Entry) → goes all [] false) → length line ≤ LINE_LIMIT
+faulted_line : (f : Farm) (line : List ℕ) (moment : ℕ) (found : RequestFault) (text : List ℕ) (goes : Going) → ((all : List Entry) → goes all [] false) → length line ≤ LINE_LIMIT
     → Fails found (request_of line) → IsLineOf (fault_reply found) text → AnswersLine f line moment f text goes
 faulted_line f line moment found text goes still fits fails told =
     retold f f text goes (λ mark. unless_memory mark (request_answer f moment mark (request_of line))) (answer_to f line moment) (IsMarked f line moment) (IsMarked f line moment)
     (λ mark. sym (line_within f line moment mark fits)) (λ mark may. may)
     (faulted f moment found (request_of line) text goes still (IsMarked f line moment) (λ is. absurd (false≢true is)) (λ is. absurd (false≢true is)) fails told)
+
+-- ---- what is asked
+
+pub asked_line : (f : Farm) (line : List ℕ) (moment : ℕ) (new : Farm) (text : List ℕ) (goes : Going) (what : Asked) → length line ≤ LINE_LIMIT
+    → Asks line (Ok what) → AnswersAsked f what moment new text goes → AnswersLine f line moment new text goes
+asked_line f line moment new text goes what fits asks answered =
+    answered_line f line moment new text goes asks.0 fits asks.1 (subst (λ (a : Asked). AnswersAsked f a moment new text goes) asks.2 answered)
+
+pub unasked_line : (f : Farm) (line : List ℕ) (moment : ℕ) (told : ReplyLine) (goes : Going) → ((all : List Entry) → goes all [] false)
+    → length line ≤ LINE_LIMIT → Asks line (Err told) → AnswersLine f line moment f (shown told) goes
+unasked_line f line moment told goes still fits asks = faulted_line f line moment asks.0 (shown told) goes still fits asks.1 asks.2
 
 -- ---- a request of one entry
 
@@ -150,8 +162,8 @@ answered_act f new moment text goes what does is answered = subst (λ (a : Asked
 pub act_formed : (moment : ℕ) (what : Asked) (does : Act) → moment < 2 ^ 64 → what ≡ asked.Act does → IsFormedAsked what → IsFormed (entry_at moment does)
 act_formed moment what does low is formed = record { moment_within = low; act_formed = subst IsFormedAsked is formed }
 
-pub act_condition : (f : Farm) (what : Asked) (does : Act) → what ≡ asked.Act does → IsUnbooked what → HasCondition f does
-act_condition f what does is none = no_booking f does (subst IsUnbooked is none)
+pub act_unbooked : (what : Asked) (does : Act) → what ≡ asked.Act does → IsUnbooked what → IsNoBooking does
+act_unbooked what does is none = subst IsUnbooked is none
 
 -- the line of a list, or of its refusal
 pub listed_page : (listed : Result ListReply Refusal) (page : ListReply) (text : List ℕ) → listed ≡ Ok page → IsLineOf (reply.List page) text → IsLineOf (list_reply listed) text
@@ -222,6 +234,13 @@ recorded_entry f new e change written reply_line.TooLong goes makes is recorded 
 pub entry_made : (f : Farm) (e : Entry) (change : Change) → HasCondition f e.act → IsFormed e → Makes f e change → IsOfEntry f e change
 entry_made f e change condition formed makes = record { legal = record { formed = formed; accepted = makes.planned.accepted; condition = condition }; makes = makes }
 
+-- what came of it, where nothing hindered it
+pub recorded_answer : (f new : Farm) (e : Entry) (change : Change) (written : List ℕ) (came : Result ReplyLine Hindered) (goes : Going) → Makes f e change
+    → written ≡ reply_text (ok_reply e.act (answer_of f e)) ++ 10 ∷ [] → IfOk came (λ told. IsRecorded f (after_change f change) written new told)
+    → IfOk came (λ told. goes (e ∷ []) (recorded_by e told) (is_store_line told)) → IfOk came (λ told. AnswersEntry f e new (shown told) goes)
+recorded_answer f new e change written (Ok told) goes makes is recorded keeper = recorded_entry f new e change written told goes makes is recorded keeper
+recorded_answer f new e change written (Err why) goes makes is recorded keeper = tt
+
 -- ---- what changes no row
 
 -- an entry that the farm takes is all that is recorded for it, so that it leaves each row
@@ -239,7 +258,12 @@ pub unstored_report : (f : Farm) (moment : ℕ) (what : Asked) (report : Report)
 unstored_report f moment what report is none = subst (λ (a : Asked). ChangesNone f (asked_answer f moment Plain a).entries) is none
 
 -- a line that changes none
-pub unstored_line : (f : Farm) (line : List ℕ) (moment : ℕ) (what : Request) → length line ≤ LINE_LIMIT → request_of line ≡ Ok what
+unstored_line : (f : Farm) (line : List ℕ) (moment : ℕ) (what : Request) → length line ≤ LINE_LIMIT → request_of line ≡ Ok what
     → ChangesNone f (answer_to f line moment Plain).entries → ChangesNone f (asked_answer f moment Plain (asked_of what)).entries
 unstored_line f line moment what fits asks none =
     subst (λ (a : Answered). ChangesNone f a.entries) (line_within f line moment Plain fits ∙ ap (request_answer f moment Plain) asks) none
+
+pub unstored_asked : (f : Farm) (line : List ℕ) (moment : ℕ) (what : Asked) → length line ≤ LINE_LIMIT → Asks line (Ok what)
+    → ChangesNone f (answer_to f line moment Plain).entries → ChangesNone f (asked_answer f moment Plain what).entries
+unstored_asked f line moment what fits asks none =
+    subst (λ (a : Asked). ChangesNone f (asked_answer f moment Plain a).entries) (sym asks.2) (unstored_line f line moment asks.0 fits asks.1 none)

@@ -1,5 +1,8 @@
 mod AnswerLemmas
 mod BookingLemmas
+mod EntryLemmas
+mod HearLemmas
+pub mod FewEntries
 mod LegalLemmas
 mod LineLemmas
 mod OutcomeLemmas

@@ -1,12 +1,11 @@
 -- The answer to a report, by cases.
-use Rattle.std.proofs.Common.{◌≡◌, ℕ, ◌<◌, arith, Bool, true, false, List, [], ◌∷◌, ◌++◌, length, take, refl, sym, ap, ◌∙◌, subst, Option, None, Some, Result, Ok, Err, IfOk, IsErrAnd, inl, inr}
+use Rattle.std.proofs.Common.{◌≡◌, ℕ, ◌<◌, arith, Bool, true, false, List, [], ◌∷◌, ◌++◌, length, take, refl, sym, ap, ◌∙◌, subst, Option, None, Some, Result, Ok, Err, IfOk, inl, inr}
 use Rattle.std.proofs.Common.{true≢false}
 use Rattle.std.proofs.lemmas.Bool.{false≢true}
 use Rattle.std.proofs.lemmas.List.{take_all}
-use Rattle.std.proofs.lemmas.Result.{err_from_is_err_and}
 use Rattle.std.specs.Prelude.{is_some, ◌⊎◌}
-use Rattle.dispatch_plan.specs.declared.walked.Walked.{Walked}
-use Rattle.dispatch_plan.specs.Rounds.{EndsBy, IsRound, is_store_cut}
+use Rattle.dispatcher.specs.declared.walked.Walked.{Walked}
+use Rattle.dispatcher.specs.Rounds.{EndsBy, IsRound, is_store_cut}
 use Rattle.farm_types.specs.declared.entry.Act.{Act}
 use Rattle.farm_types.specs.declared.entry.Act.TheVariants as act
 use Rattle.farm_types.specs.declared.entry.Entry.{Entry}
@@ -18,11 +17,6 @@ use Rattle.farm_lines.specs.declared.reply.Reply.{Reply}
 use Rattle.farm_lines.specs.declared.reply.Reply.TheVariants as reply
 use Rattle.farm_lines.specs.declared.report.Report.{Report}
 use Rattle.farm_lines.specs.declared.asked.Asked.TheVariants as asked
-use Rattle.farm_core.specs.Change.{Makes, Prepares, after_change}
-use Rattle.farm_core.specs.declared.change.Change.{Change}
-use Rattle.farm_changes.specs.Change.{HasHeard}
-use Rattle.farm_types.specs.declared.fault.FarmFault.{FarmFault}
-use Rattle.farm_types.specs.declared.fault.FarmFault.TheVariants as prepare
 use Rattle.farm_types.specs.DependActs.{or_else}
 use Rattle.farm_types.specs.Dispatch.{round_for}
 use Rattle.farm_types.specs.Farm.{Farm, host_named}
@@ -31,12 +25,11 @@ use Rattle.farm_types.specs.Run.{run_of}
 use Rattle.farm_types.specs.Step.{refusal_of, after, host_refusal}
 use Rattle.farm_lines.specs.Asked.{heard_entry}
 use Rattle.farm_lines.specs.Transcript.{Mark, Plain, Memory, Store, CutAfter, StoreAfter, LatePlain, LateCut, LateStore, Answered, accepted_answer, is_store_mark, marked_answer, only_reply, report_answer, unless_memory}
-use Rattle.recorder.specs.declared.refusal.CommitRefusal.{CommitRefusal}
-use Rattle.recorder.specs.declared.refusal.CommitRefusal.TheVariants as refusal
-use Rattle.recorder.specs.declared.refusal.RecordFault.{RecordFault}
-use Rattle.recorder.specs.declared.refusal.RecordFault.TheVariants as fault
-use Rattle.recorder.specs.Faults.{is_by_store, is_of_store, is_store_refusal, of_farm, of_record}
-use Rattle.recorder.specs.Recording.{ChangesNone, ChangesRows, FailsToRecord, IsUnstored}
+use Rattle.booking_recorder.specs.declared.refusal.CommitRefusal.{CommitRefusal}
+use Rattle.booking_recorder.specs.declared.refusal.CommitRefusal.TheVariants as refusal
+use Rattle.booking_recorder.specs.Faults.{is_by_store}
+use Rattle.recorder.specs.Recording.{ChangesNone, IsUnstored}
+use Rattle.line_answers.specs.Entering.{is_hindrance}
 use Rattle.line_answers.specs.LineAnswers.{AnswersReport, Going, Hears, MayCutRound, MayStore, TakesReport, TakesRound, bookings_in, is_calm, reported, tells_memory, unrecorded_reply}
 use Rattle.line_answers.specs.Lines.{IsLineOf, IsLineOfOther, is_store_reply}
 use Rattle.line_answers.specs.Told.{IsLineOfTold, Reports, Tells, is_report}
@@ -64,48 +57,6 @@ pub tells_host : (f new : Farm) (report : Report) (moment : ℕ) (r : Result (Op
 tells_host f new report moment (Ok None) heard = heard.1
 tells_host f new report moment (Ok (Some host)) heard = tt
 tells_host f new report moment (Err why) heard = tt
-
--- a fault that is told as another
-told_as : (found : CommitRefusal) (r : Result (Option ℕ) CommitRefusal) → IsErrAnd r (λ told. told ≡ found) → r ≡ Err found
-told_as found r err = let p = err_from_is_err_and r err in p.1 ∙ ap Err p.2
-
-refused_as : (f : Farm) (e : Entry) (why : FarmFault) → Prepares f e (Err why) → Hears f e (Err (of_farm why)) f
-refused_as f e (prepare.Refused why) refuses = (refuses, refl)
-refused_as f e prepare.NoMemory fails = refl
-
--- no change was prepared
-pub unprepared : (f : Farm) (e : Entry) (why : FarmFault) (r : Result (Option ℕ) CommitRefusal) → IsErrAnd r (λ told. told ≡ of_farm why) → Prepares f e (Err why) → Hears f e r f
-unprepared f e why r err is = subst (λ (q : Result (Option ℕ) CommitRefusal). Hears f e q f) (sym (told_as (of_farm why) r err)) (refused_as f e why is)
-
-prepared_not : (why : FarmFault) → is_by_store (of_farm why) ≡ false
-prepared_not (prepare.Refused why) = refl
-prepared_not prepare.NoMemory = refl
-
--- and preparing tells of no store
-pub never_store : (why : FarmFault) (r : Result (Option ℕ) CommitRefusal) → IsErrAnd r (λ told. told ≡ of_farm why) → is_store_refusal r ≡ false
-never_store why r err = ap is_store_refusal (told_as (of_farm why) r err) ∙ prepared_not why
-
--- the change was recorded
-pub was_heard : (f new : Farm) (e : Entry) (change : Change) (told : Option ℕ) → Makes f e change → told ≡ change.act.heard → new ≡ after_change f change → Hears f e (Ok told) new
-was_heard f new e change told makes is now = (makes.planned.accepted, subst (HasHeard f e.act) (sym is) makes.planned.heard, now ∙ makes.planned.farm)
-
-failed_as : (f new : Farm) (e : Entry) (change : Change) (why : RecordFault) → Makes f e change → FailsToRecord f (after_change f change) why new → Hears f e (Err (of_record why)) new
-failed_as f new e change fault.Store makes fails = (makes.planned.accepted, subst (ChangesRows f) makes.planned.farm fails.1, fails.0)
-failed_as f new e change fault.NoMemory makes fails = fails
-
--- the store failed or memory ran out
-pub unheard : (f new : Farm) (e : Entry) (change : Change) (why : RecordFault) (r : Result (Option ℕ) CommitRefusal) → IsErrAnd r (λ told. told ≡ of_record why) → Makes f e change
-    → FailsToRecord f (after_change f change) why new → Hears f e r new
-unheard f new e change why r err makes fails =
-    subst (λ (q : Result (Option ℕ) CommitRefusal). Hears f e q new) (sym (told_as (of_record why) r err)) (failed_as f new e change why makes fails)
-
-store_of : (why : RecordFault) → is_of_store why ≡ is_by_store (of_record why)
-store_of fault.Store = refl
-store_of fault.NoMemory = refl
-
--- the store failed where that is told, and only there
-pub store_told : (why : RecordFault) (r : Result (Option ℕ) CommitRefusal) → IsErrAnd r (λ told. told ≡ of_record why) → is_of_store why ≡ is_store_refusal r
-store_told why r err = store_of why ∙ sym (ap is_store_refusal (told_as (of_record why) r err))
 
 -- ---- what is answered to it
 
@@ -151,19 +102,21 @@ unchanged f report moment mark what taken goes is tells none calm may keeper = r
 other_tells : (taken : Taken) (what : Reply) → is_report what ≡ false → taken.told ≡ told.Other what → Tells taken.told what
 other_tells taken what other is = subst (λ (t : Told). Tells t what) (sym is) (refl, other)
 
--- it wasn't recorded
+-- it wasn't recorded, and nothing else hindered it
 pub unrecorded_report : (f new : Farm) (report : Report) (moment : ℕ) (why : CommitRefusal) (taken : Taken) (goes : Going)
-    → Hears f (heard_entry report moment) (Err why) new → taken.told ≡ told.Other (unrecorded_reply why) → taken.booked ≡ 0
+    → is_hindrance why ≡ false → Hears f (heard_entry report moment) (Err why) new → taken.told ≡ told.Other (unrecorded_reply why) → taken.booked ≡ 0
     → goes (reported f report moment Plain).entries [] (is_by_store why) → TakesReport f report moment new taken goes
-unrecorded_report f new report moment (refusal.Refused why) taken goes heard is none keeper =
+unrecorded_report f new report moment (refusal.Refused why) taken goes free heard is none keeper =
     subst (λ (g : Farm). TakesReport f report moment g taken goes) (sym heard.1)
     (unchanged f report moment Plain (reply.Refused why) taken goes (ap (report_answer f report moment Plain) heard.0) (other_tells taken (reply.Refused why) refl is) none (λ calm. refl) tt keeper)
-unrecorded_report f new report moment refusal.Store taken goes heard is none keeper =
+unrecorded_report f new report moment refusal.Spent taken goes free heard is none keeper = absurd (true≢false free)
+unrecorded_report f new report moment (refusal.Held cores memory) taken goes free heard is none keeper = absurd (true≢false free)
+unrecorded_report f new report moment refusal.Store taken goes free heard is none keeper =
     let found = host_of f report moment (host_named f report.heard.host) refl heard.0 in
     subst (λ (g : Farm). TakesReport f report moment g taken goes) (sym heard.2)
     (unchanged f report moment Store reply.Store taken goes (accepted_is f report moment found.0 Store heard.0 found.1) (other_tells taken reply.Store refl is) none (λ calm. refl)
     (record { accepted = heard.0; changes = heard.1 }) keeper)
-unrecorded_report f new report moment refusal.NoMemory taken goes heard is none keeper =
+unrecorded_report f new report moment refusal.NoMemory taken goes free heard is none keeper =
     subst (λ (g : Farm). TakesReport f report moment g taken goes) (sym heard)
     (unchanged f report moment Memory reply.NoMemory taken goes refl (other_tells taken reply.NoMemory refl is) none (λ calm. absurd (true≢false calm)) tt keeper)
 
@@ -414,7 +367,7 @@ other_told reply.Store text is = inl is
 other_told what text (inl is) = inl is
 other_told what text (inr memory) = inr (memory, refl)
 
-reports_text : (line : ReportLine) (what : Reply) → Reports line what → line.text ≡ reply_text what ++ 10 ∷ []
+pub reports_text : (line : ReportLine) (what : Reply) → Reports line what → line.text ≡ reply_text what ++ 10 ∷ []
 reports_text line (reply.Report made) is = is.text
 reports_text line other is = elim is [ ]
 

@@ -1,5 +1,6 @@
 pub mod LineAnswers
 pub mod Asking
+pub mod Entering
 pub mod Launches
 pub mod Lines
 pub mod Outcomes

@@ -21,8 +21,8 @@ use Rattle.line_answers.specs.declared.reply_line.ReplyLine.TheVariants as reply
 use Rattle.line_answers.specs.Lines.{IsLineOf}
 use Rattle.line_answers.specs.Told.{Tells}
 use Rattle.line_answers.specs.declared.told.Taken.{Taken}
-use Rattle.recorder.specs.declared.refusal.CommitRefusal.{CommitRefusal}
-use Rattle.recorder.specs.declared.refusal.CommitRefusal.TheVariants as commit
+use Rattle.booking_recorder.specs.declared.refusal.CommitRefusal.{CommitRefusal}
+use Rattle.booking_recorder.specs.declared.refusal.CommitRefusal.TheVariants as commit
 use Rattle.recorder.specs.Recording.{ChangesRows}
 use Rattle.farm_changes.specs.Change.{HasHeard}
 use Rattle.farm_lines.specs.Asked.{asked_of, entry_at, heard_entry}
@@ -156,17 +156,21 @@ IsRecorded old changed written new (Written line) = (new ≡ changed) × (line �
 IsRecorded old changed written new reply_line.Store = (new ≡ old) × ChangesRows old changed
 IsRecorded old changed written new line = (line ≡ reply_line.NoMemory) × (new ≡ old)
 
--- The entry was recorded, and a report's host is told; or the farm refuses it; or the store failed at a row that changes; or memory ran out. At each
--- fault the farm is as before.
+-- The entry was recorded, and a report's host is told; or the farm refuses it; or the journal is spent, a host held, the store failed at a row that
+-- changes, or memory ran out. At each fault the farm is as before.
 abbrev pub Hears : Farm → Entry → Result (Option ℕ) CommitRefusal → Farm → Type 0
 Hears old e (Ok host) new = (refusal_of old e ≡ None) × HasHeard old e.act host × (new ≡ after old e)
 Hears old e (Err (commit.Refused why)) new = (refusal_of old e ≡ Some why) × (new ≡ old)
+Hears old e (Err commit.Spent) new = (refusal_of old e ≡ None) × (new ≡ old)
+Hears old e (Err (commit.Held cores memory)) new = (refusal_of old e ≡ None) × (new ≡ old)
 Hears old e (Err commit.Store) new = (refusal_of old e ≡ None) × ChangesRows old (after old e) × (new ≡ old)
 Hears old e (Err commit.NoMemory) new = new ≡ old
 
--- what is replied where the report wasn't recorded: the refusal, that the store failed, or that memory ran out
+-- what is replied where the report wasn't recorded: the refusal, that the journal is spent or a host held, that the store failed, or that memory ran out
 abbrev pub unrecorded_reply : CommitRefusal → Reply
 unrecorded_reply (commit.Refused why) = reply.Refused why
+unrecorded_reply commit.Spent = reply.EntriesFull
+unrecorded_reply (commit.Held cores memory) = reply.StillHeld cores memory
 unrecorded_reply commit.Store = reply.Store
 unrecorded_reply commit.NoMemory = reply.NoMemory
 

@@ -2,19 +2,31 @@
 #![tactic(auto)]
 
 mod answer;
-mod answer_entry;
 mod answer_report;
+mod asking;
+mod hearing;
+mod hindered;
 mod launches;
 mod laws;
+mod limits;
+mod listing;
+mod one_entry;
 mod reply_line;
-mod report_line;
+mod reporting;
 mod told;
 
 pub use answer::answer_line;
 pub use answer_report::take_report;
+pub use asking::{ask, asked_of};
+pub use hearing::hear;
+pub use hindered::Hindered;
 pub use laws::{
     lines_are_answered_by_what_they_ask, reports_are_legal, sessions_are_legal,
     taken_reports_have_their_round,
 };
+pub use limits::ENTRIES_EACH;
+pub use listing::answer_list;
+pub use one_entry::answer_entry;
 pub use reply_line::ReplyLine;
+pub use reporting::report_line;
 pub use told::{ReportLine, Taken, Told};

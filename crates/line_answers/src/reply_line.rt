@@ -1,9 +1,9 @@
 //! Replies as lines, each with its newline.
 
-ghost use Rattle.std.specs.Prelude.{◌≡◌, ◌++◌, ◌∷◌, [], IfOk};
+ghost use Rattle.std.specs.Prelude.{◌≡◌, ◌++◌, ◌∷◌, [], IfOk, false};
 ghost use Rattle.farm_lines.specs.declared.reply.Reply.TheVariants.{Refused};
 ghost use Rattle.farm_lines.specs.Reply.{reply_text};
-ghost use Rattle.line_answers.specs.Lines.{IsLineOf, shown};
+ghost use Rattle.line_answers.specs.Lines.{IsLineOf, is_store_line, shown};
 
 use farm_lines::Reply;
 use farm_types::{Items, Refusal};
@@ -42,7 +42,8 @@ impl ReplyLine {
 
 /// The line of the reply, or that memory ran out.
 pub fn line_of(alloc: Global, reply: &Reply) -> ReplyLine
-    ensures { IsLineOf reply.now (shown result) }
+    ensures line { IsLineOf reply.now (shown result) }
+    ensures never_store { is_store_line result ≡ false }
 {
     match write_line(alloc, reply) {
         Ok(line) => ReplyLine::Written(line),
@@ -52,7 +53,8 @@ pub fn line_of(alloc: Global, reply: &Reply) -> ReplyLine
 
 /// The line of a refusal, or that memory ran out.
 pub fn refusal_line(alloc: Global, why: Refusal) -> ReplyLine
-    ensures { IsLineOf (Refused why) (shown result) }
+    ensures line { IsLineOf (Refused why) (shown result) }
+    ensures never_store { is_store_line result ≡ false }
 {
     line_of(alloc, &Reply::Refused(why))
 }

@@ -1,13 +1,9 @@
 -- What a change and an entry that were recorded, or weren't, leave.
-use Rattle.std.proofs.Common.{◌≡◌, ℕ, Bool, refl, sym, ap, subst, ◌∙◌, List, true, false, Result, Ok, Err, OnOk, IsErrAnd}
-use Rattle.std.specs.Prelude.{if◌then◌else◌}
+use Rattle.std.proofs.Common.{◌≡◌, ℕ, Bool, refl, sym, ap, subst, ◌∙◌, List, false, Result, Ok, Err, OnOk, IsErrAnd}
 use Rattle.std.proofs.lemmas.Result.{err_from_is_err_and}
-use Rattle.farm_types.specs.declared.answer.Answer.{Answer}
 use Rattle.farm_types.specs.declared.entry.Entry.{Entry}
-use Rattle.farm_types.specs.Booking.{may_book}
 use Rattle.farm_types.specs.Farm.{Farm}
-use Rattle.farm_types.specs.Formed.{IsFormed}
-use Rattle.farm_types.specs.Step.{HasCondition, after}
+use Rattle.farm_types.specs.Step.{after}
 use Rattle.farm_rows.specs.declared.row_change.RowChange.{RowChange}
 use Rattle.farm_rows.specs.Changes.{NamesExactly}
 use Rattle.farm_rows.specs.Rows.{rows_of}
@@ -17,18 +13,14 @@ use Rattle.farm_keeper.specs.Faults.{is_store_failure}
 use Rattle.farm_keeper.specs.Keeping.{Continues}
 use Rattle.farm_keeper.proofs.KeepingLaws.{Continues-as, Continues-same}
 use Rattle.farm_keeper.specs.Rows.{Rows}
-use Rattle.farm_types.specs.declared.fault.FarmFault.{FarmFault}
-use Rattle.farm_types.specs.declared.fault.FarmFault.TheVariants as farm_fault
 use Rattle.farm_books.specs.declared.begin.Booking.{Booking}
 use Rattle.farm_books.specs.Bookings.{IsAsked}
 use Rattle.farm_core.specs.declared.change.Change.{Change}
-use Rattle.farm_core.specs.Change.{IsReserved, Makes, Prepares, after_change, reserved_of}
-use Rattle.recorder.specs.declared.refusal.CommitRefusal.{CommitRefusal}
-use Rattle.recorder.specs.declared.refusal.CommitRefusal.TheVariants as refusal
+use Rattle.farm_core.specs.Change.{IsReserved, Makes, after_change, reserved_of}
 use Rattle.recorder.specs.declared.refusal.RecordFault.{RecordFault}
 use Rattle.recorder.specs.declared.refusal.RecordFault.TheVariants as fault
-use Rattle.recorder.specs.Faults.{is_by_store, is_of_store, is_store_fault, is_store_refusal, of_keeper, of_farm, of_record}
-use Rattle.recorder.specs.Recording.{Books, Commits, FailsToRecord, HasRecorded, HasSameRows, IsOfEntry, IsUnstoredBooking, Recording, Records, RecordsAnswered, StaysAtFault, StaysRecorded, booking}
+use Rattle.recorder.specs.Faults.{is_of_store, is_store_fault, of_keeper}
+use Rattle.recorder.specs.Recording.{FailsToRecord, HasRecorded, HasSameRows, Recording, Records, StaysAtFault, StaysRecorded}
 
 -- ---- the parts of a recorder
 
@@ -47,11 +39,6 @@ goes_of {K = K} tells faults k failed is goes = subst (λ (r : Recording K). Con
 pub same_entry : {K : Type 0} {a b : Recording K} (e : Entry) (k : K) → a ≡ b → (HasSameRows a.farm (after a.farm e) → k ≡ a.keeper)
     → HasSameRows b.farm (after b.farm e) → k ≡ b.keeper
 same_entry {K = K} e k is same = subst (λ (r : Recording K). HasSameRows r.farm (after r.farm e) → k ≡ r.keeper) is same
-
-pub same_booking : {K : Type 0} {a b : Recording K} (slot host moment : ℕ) (k : K) → a ≡ b → (IsUnstoredBooking a.farm slot host moment → k ≡ a.keeper)
-    → IsUnstoredBooking b.farm slot host moment → k ≡ b.keeper
-same_booking {K = K} slot host moment k is same =
-    subst (λ (r : Recording K). IsUnstoredBooking r.farm slot host moment → k ≡ r.keeper) is same
 
 -- ---- a keeper that isn't told
 
@@ -127,84 +114,21 @@ pub records_at_fault : {T : Type 0} (holds left holds' left' : Rows → Type 0) 
 records_at_fault {T = T} holds left holds' left' f new e change makes same r why is stays =
     subst (λ (q : Result T RecordFault). Records f (after_change f change) q new) (sym is) (fails holds left holds' left' f new e change makes same why stays)
 
--- ---- an answer
-
-answered : (old changed new : Farm) (answer : Answer) (why : RecordFault) → FailsToRecord old changed why new → RecordsAnswered old changed answer (Err (of_record why)) new
-answered old changed new answer fault.Store fails = fails
-answered old changed new answer fault.NoMemory fails = fails
-
-pub answered_at_fault : (old changed new : Farm) (answer : Answer) (why : RecordFault) (r : Result Answer CommitRefusal) → IsErrAnd r (λ told. told ≡ of_record why)
-    → FailsToRecord old changed why new → RecordsAnswered old changed answer r new
-answered_at_fault old changed new answer why r err fails =
-    let p = err_from_is_err_and r err in
-    subst (λ (q : Result Answer CommitRefusal). RecordsAnswered old changed answer q new) (sym (p.1 ∙ ap Err p.2)) (answered old changed new answer why fails)
-
-store_of : (why : RecordFault) → is_of_store why ≡ is_by_store (of_record why)
-store_of fault.Store = refl
-store_of fault.NoMemory = refl
-
--- the store failed where that is told, and only there
-pub store_told : (why : RecordFault) (r : Result Answer CommitRefusal) → IsErrAnd r (λ told. told ≡ of_record why) → is_of_store why ≡ is_store_refusal r
-store_told why r err =
-    let p = err_from_is_err_and r err in
-    store_of why ∙ sym (ap is_store_refusal p.1 ∙ ap is_by_store p.2)
-
--- ---- an entry
-
-refused_as : (f : Farm) (e : Entry) (why : FarmFault) → Prepares f e (Err why) → Commits f e (Err (of_farm why)) f
-refused_as f e (farm_fault.Refused why) is = (is, refl)
-refused_as f e farm_fault.NoMemory is = refl
-
-pub commits_nothing : (f : Farm) (e : Entry) (why : FarmFault) (r : Result Answer CommitRefusal) → IsErrAnd r (λ told. told ≡ of_farm why) → Prepares f e (Err why)
-    → Commits f e r f
-commits_nothing f e why r err is =
-    let p = err_from_is_err_and r err in
-    subst (λ (q : Result Answer CommitRefusal). Commits f e q f) (sym (p.1 ∙ ap Err p.2)) (refused_as f e why is)
-
-not_store : (why : FarmFault) → is_by_store (of_farm why) ≡ false
-not_store (farm_fault.Refused why) = refl
-not_store farm_fault.NoMemory = refl
-
--- preparing tells of no store
-pub never_store : (why : FarmFault) (r : Result Answer CommitRefusal) → IsErrAnd r (λ told. told ≡ of_farm why) → is_store_refusal r ≡ false
-never_store why r err =
-    let p = err_from_is_err_and r err in
-    ap is_store_refusal p.1 ∙ (ap is_by_store p.2 ∙ not_store why)
-
-pub of_entry : (f : Farm) (e : Entry) (change : Change) → IsFormed e → HasCondition f e.act → Makes f e change → IsOfEntry f e change
-of_entry f e change formed condition makes =
-    record { legal = record { formed = formed; accepted = makes.planned.accepted; condition = condition }; makes = makes }
-
-pub commits_made : (f new : Farm) (e : Entry) (change : Change) → Makes f e change → (r : Result Answer CommitRefusal)
-    → RecordsAnswered f (after_change f change) change.answer r new → Commits f e r new
-commits_made f new e change makes (Ok said) is = (makes.planned.accepted, is.0 ∙ makes.planned.answer, is.1 ∙ makes.planned.farm)
-commits_made f new e change makes (Err (refusal.Refused why)) is = absurd is
-commits_made f new e change makes (Err refusal.Store) is = (makes.planned.accepted, λ rows. is.1 (rows ∙ ap rows_of (sym makes.planned.farm)), is.0)
-commits_made f new e change makes (Err refusal.NoMemory) is = is
-
 -- ---- a booking
 
-pub books_none : (f : Farm) (slot host moment : ℕ) → may_book f slot host ≡ false → Books f slot host moment (Ok false) f
-books_none f slot host moment free = (sym free, ap (λ (b : Bool). if b then after f (booking slot host moment) else f) (sym free))
+-- the store failed at a booking that was decided, or memory ran out
+booking_fails : (holds left holds' left' : Rows → Type 0) (f : Farm) (e : Entry) (why : RecordFault) → StaysAtFault holds left holds' left' f e why
+    → FailsToRecord f (after f e) why f
+booking_fails holds left holds' left' f e fault.Store stays = (refl, stays.0)
+booking_fails holds left holds' left' f e fault.NoMemory stays = refl
 
-unbooked : (f : Farm) (slot host moment : ℕ) → may_book f slot host ≡ true → (why : RecordFault) → Books f slot host moment (Err why) f
-unbooked f slot host moment may fault.Store = (may, refl)
-unbooked f slot host moment may fault.NoMemory = refl
-
-pub books_at_fault : (f : Farm) (slot host moment : ℕ) → may_book f slot host ≡ true → (why : RecordFault) (r : Result Bool RecordFault) → IsErrAnd r (λ told. told ≡ why)
-    → Books f slot host moment r f
-books_at_fault f slot host moment may why r err =
+pub booking_at_fault : (holds left holds' left' : Rows → Type 0) (f : Farm) (e : Entry) (why : RecordFault) (r : Result (Unit {0}) RecordFault)
+    → IsErrAnd r (λ told. told ≡ why) → StaysAtFault holds left holds' left' f e why → Records f (after f e) r f
+booking_at_fault holds left holds' left' f e why r err stays =
     let p = err_from_is_err_and r err in
-    subst (λ (q : Result Bool RecordFault). Books f slot host moment q f) (sym p.1) (unbooked f slot host moment may p.0)
-
-pub books_there : (f new : Farm) (slot host moment : ℕ) → may_book f slot host ≡ true → new ≡ after f (booking slot host moment) → Books f slot host moment (Ok true) new
-books_there f new slot host moment may is = (sym may, is ∙ sym (ap (λ (b : Bool). if b then after f (booking slot host moment) else f) may))
+    subst (λ (q : Result (Unit {0}) RecordFault). Records f (after f e) q f) (sym (p.1 ∙ ap Err p.2)) (booking_fails holds left holds' left' f e why stays)
 
 -- what holds of the booking that was decided holds of the one that was asked for
 pub as_asked : (P : (slot host moment : ℕ) → Type 0) (slot host moment : ℕ) (b : Booking) → IsAsked slot host moment b → P b.slot b.host b.moment → P slot host moment
 as_asked P slot host moment b asked p =
     subst (λ (n : ℕ). P slot host n) asked.moment_is (subst (λ (n : ℕ). P slot n b.moment) asked.host_is (subst (λ (n : ℕ). P n b.host b.moment) asked.slot_is p))
-
--- it may be, as the one that was asked for
-pub may_asked : (f : Farm) (slot host moment : ℕ) (b : Booking) → IsAsked slot host moment b → may_book f slot host ≡ true → may_book f b.slot b.host ≡ true
-may_asked f slot host moment b asked may = ap (λ (n : ℕ). may_book f n b.host) asked.slot_is ∙ (ap (may_book f slot) asked.host_is ∙ may)

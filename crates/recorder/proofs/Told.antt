@@ -1,24 +1,19 @@
 -- What a keeper was told of an entry, by what came of its recording.
-use Rattle.std.proofs.Common.{◌≡◌, ℕ, Bool, true, false, List, [], ◌∷◌, ◌++◌, append-nil, None, Result, Err, IsErrAnd, inl, inr, refl, sym, ap, subst, ◌∙◌}
-use Rattle.std.specs.Prelude.{if◌then◌else◌}
+use Rattle.std.proofs.Common.{◌≡◌, Bool, false, List, [], ◌∷◌, ◌++◌, append-nil, Result, Err, IsErrAnd, inl, inr, refl, sym, ap, subst, ◌∙◌}
 use Rattle.std.proofs.lemmas.Result.{err_from_is_err_and}
 use Rattle.farm_types.specs.declared.entry.Entry.{Entry}
-use Rattle.farm_types.specs.declared.fault.FarmFault.{FarmFault}
-use Rattle.farm_types.specs.declared.fault.FarmFault.TheVariants as farm_fault
-use Rattle.farm_types.specs.Booking.{may_book}
 use Rattle.farm_types.specs.Farm.{Farm}
 use Rattle.farm_types.specs.Run.{run_of}
-use Rattle.farm_types.specs.Step.{after, refusal_of}
+use Rattle.farm_types.specs.Step.{after}
 use Rattle.farm_keeper.specs.declared.fault.KeeperFault.{KeeperFault}
 use Rattle.farm_keeper.specs.declared.fault.KeeperFault.TheVariants as keeper_fault
 use Rattle.farm_keeper.specs.declared.row.Batch.{Batch}
 use Rattle.farm_keeper.specs.Keeping.{Committing}
-use Rattle.recorder.specs.declared.refusal.CommitRefusal.{CommitRefusal}
 use Rattle.recorder.specs.declared.refusal.RecordFault.{RecordFault}
 use Rattle.recorder.specs.declared.refusal.RecordFault.TheVariants as fault
-use Rattle.recorder.specs.Faults.{of_keeper, of_farm, of_record}
-use Rattle.recorder.specs.Recording.{Recording, booking}
-use Rattle.recorder.specs.Telling.{EndsTelling, TakesEach, Tells, TellsBatch, TellsCommit, TellsOf, due_booking}
+use Rattle.recorder.specs.Faults.{of_keeper}
+use Rattle.recorder.specs.Recording.{Recording}
+use Rattle.recorder.specs.Telling.{EndsTelling, TakesEach, Tells, TellsBatch, TellsOf}
 
 module _ {K : Type 0} (commits : Committing K) where
   -- ---- a batch
@@ -61,47 +56,6 @@ module _ {K : Type 0} (commits : Committing K) where
   pub told_of : {T : Type 0} {a b : Recording K} (due : Farm → List Entry) (k : K) (r : Result T RecordFault) → a ≡ b → TellsOf commits a.farm (due a.farm) r a.keeper k
       → TellsOf commits b.farm (due b.farm) r b.keeper k
   told_of due k r is told = subst (λ (x : Recording K). TellsOf commits x.farm (due x.farm) r x.keeper k) is told
-
-  -- ---- an entry that the farm may refuse
-
-  at_fault : (T : Type 0) (f : Farm) (e : Entry) (before now : K) → refusal_of f e ≡ None → (why : RecordFault)
-      → TellsOf {T = Unit {0}} commits f (e ∷ []) (Err why) before now → TellsCommit {T = T} commits f e (Err (of_record why)) before now
-  at_fault T f e before now accepts fault.Store told = told
-  at_fault T f e before now accepts fault.NoMemory (inl same) = inl same
-  at_fault T f e before now accepts fault.NoMemory (inr told) = inr (accepts, told)
-
-  -- a fault that is told
-  pub told_at_fault : {T : Type 0} (f : Farm) (e : Entry) (before now : K) → refusal_of f e ≡ None → (why : RecordFault) (r : Result T CommitRefusal)
-      → IsErrAnd r (λ said. said ≡ of_record why) → TellsOf {T = Unit {0}} commits f (e ∷ []) (Err why) before now → TellsCommit commits f e r before now
-  told_at_fault {T = T} f e before now accepts why r err told =
-      let p = err_from_is_err_and r err in
-      subst (λ (q : Result T CommitRefusal). TellsCommit commits f e q before now) (sym (p.1 ∙ ap Err p.2)) (at_fault T f e before now accepts why told)
-
-  unprepared : (T : Type 0) (f : Farm) (e : Entry) (k : K) (why : FarmFault) → TellsCommit {T = T} commits f e (Err (of_farm why)) k k
-  unprepared T f e k (farm_fault.Refused why) = refl
-  unprepared T f e k farm_fault.NoMemory = inl refl
-
-  -- no change was prepared
-  pub never_told : {T : Type 0} (f : Farm) (e : Entry) (k : K) (why : FarmFault) (r : Result T CommitRefusal) → IsErrAnd r (λ said. said ≡ of_farm why)
-      → TellsCommit commits f e r k k
-  never_told {T = T} f e k why r err =
-      let p = err_from_is_err_and r err in
-      subst (λ (q : Result T CommitRefusal). TellsCommit commits f e q k k) (sym (p.1 ∙ ap Err p.2)) (unprepared T f e k why)
-
-  -- ---- a booking
-
-  due_by : (f : Farm) (slot host moment : ℕ) (b : Bool) → may_book f slot host ≡ b → due_booking f slot host moment ≡ (if b then booking slot host moment ∷ [] else [])
-  due_by f slot host moment b is = ap (λ (c : Bool). if c then booking slot host moment ∷ [] else []) is
-
-  -- it may be
-  pub told_due : {T : Type 0} (f : Farm) (slot host moment : ℕ) (r : Result T RecordFault) (before now : K) → may_book f slot host ≡ true
-      → TellsOf commits f (booking slot host moment ∷ []) r before now → TellsOf commits f (due_booking f slot host moment) r before now
-  told_due f slot host moment r before now may told =
-      subst (λ (es : List Entry). TellsOf commits f es r before now) (sym (due_by f slot host moment true may)) told
-
-  -- it may not be
-  pub none_due : (f : Farm) (slot host moment : ℕ) (k : K) → may_book f slot host ≡ false → TakesEach commits f (due_booking f slot host moment) k k
-  none_due f slot host moment k free = subst (λ (es : List Entry). TakesEach commits f es k k) (sym (due_by f slot host moment false free)) refl
 
   -- ---- entries in turn
 

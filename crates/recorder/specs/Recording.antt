@@ -1,10 +1,7 @@
 -- A farm with its keeper: the keeper holds the farm's rows, and a stop leaves them, or those of the farm one entry further.
-use Rattle.std.specs.Prelude.{ℕ, ◌≡◌, ◌≢◌, ◌⊎◌, Bool, true, List, [], ◌∷◌, None, Some, Result, Ok, Err, if◌then◌else◌}
-use Rattle.farm_types.specs.declared.answer.Answer.{Answer}
+use Rattle.std.specs.Prelude.{ℕ, ◌≡◌, ◌≢◌, ◌⊎◌, List, [], ◌∷◌, None, Result, Ok, Err}
 use Rattle.farm_types.specs.declared.entry.Act.TheVariants as act
 use Rattle.farm_types.specs.declared.entry.Entry.{Entry}
-use Rattle.farm_types.specs.Booking.{may_book}
-use Rattle.farm_types.specs.EntryAnswers.{answer_of}
 use Rattle.farm_types.specs.Farm.{Farm}
 use Rattle.farm_types.specs.Run.{IsLegalStep}
 use Rattle.farm_types.specs.Step.{after, refusal_of}
@@ -14,8 +11,6 @@ use Rattle.farm_keeper.specs.Rows.{Rows}
 use Rattle.farm_core.specs.Change.{Makes}
 use Rattle.farm_core.specs.declared.change.Change.{Change}
 use Rattle.store_law.specs.Stored.{stored}
-use Rattle.recorder.specs.declared.refusal.CommitRefusal.{CommitRefusal}
-use Rattle.recorder.specs.declared.refusal.CommitRefusal.TheVariants as refusal
 use Rattle.recorder.specs.declared.refusal.RecordFault.{RecordFault}
 use Rattle.recorder.specs.declared.refusal.RecordFault.TheVariants as fault
 
@@ -73,20 +68,6 @@ abbrev pub Records : {T : Type 0} → Farm → Farm → Result T RecordFault →
 Records old changed (Ok _) new = new ≡ changed
 Records old changed (Err why) new = FailsToRecord old changed why new
 
--- as a change is recorded, with its answer
-abbrev pub RecordsAnswered : Farm → Farm → Answer → Result Answer CommitRefusal → Farm → Type 0
-RecordsAnswered old changed answer (Ok said) new = (said ≡ answer) × (new ≡ changed)
-RecordsAnswered old changed answer (Err (refusal.Refused why)) new = ⊥
-RecordsAnswered old changed answer (Err refusal.Store) new = (new ≡ old) × ChangesRows old changed
-RecordsAnswered old changed answer (Err refusal.NoMemory) new = new ≡ old
-
--- the entry is recorded and answered, or refused as the farm refuses it; or the store failed or memory ran out. At each fault the farm is as before.
-abbrev pub Commits : Farm → Entry → Result Answer CommitRefusal → Farm → Type 0
-Commits old e (Ok said) new = (refusal_of old e ≡ None) × (said ≡ answer_of old e) × (new ≡ after old e)
-Commits old e (Err (refusal.Refused why)) new = (refusal_of old e ≡ Some why) × (new ≡ old)
-Commits old e (Err refusal.Store) new = (refusal_of old e ≡ None) × ChangesRows old (after old e) × (new ≡ old)
-Commits old e (Err refusal.NoMemory) new = new ≡ old
-
 -- a keeper that has recorded the farm has recorded it still: the store fails only where a row changes
 abbrev pub StaysAtFault : (holds left holds' left' : Rows → Type 0) → Farm → Entry → RecordFault → Type 0
 StaysAtFault holds left holds' left' f e fault.Store = ChangesRows f (after f e) × (HasRecorded holds left f → HasRecorded holds' left' f)
@@ -100,14 +81,3 @@ StaysRecorded holds left holds' left' f e (Err why) = StaysAtFault holds left ho
 -- an entry that books
 abbrev pub booking : ℕ → ℕ → ℕ → Entry
 booking slot host moment = record { moment = moment; act = act.Book slot host }
-
--- the booking may not be, or it leaves each row as it is
-abbrev pub IsUnstoredBooking : Farm → ℕ → ℕ → ℕ → Type 0
-IsUnstoredBooking f slot host moment = may_book f slot host ≡ true → HasSameRows f (after f (booking slot host moment))
-
--- the frame is booked where it may be, and it is said whether it was; or the store failed at a booking that may be, or memory ran out
-abbrev pub Books : Farm → ℕ → ℕ → ℕ → Result Bool RecordFault → Farm → Type 0
-Books old slot host moment (Ok said) new =
-    (said ≡ may_book old slot host) × (new ≡ (if may_book old slot host then after old (booking slot host moment) else old))
-Books old slot host moment (Err fault.Store) new = (may_book old slot host ≡ true) × (new ≡ old)
-Books old slot host moment (Err fault.NoMemory) new = new ≡ old

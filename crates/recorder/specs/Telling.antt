@@ -1,22 +1,19 @@
 -- What a keeper was told as entries were recorded in turn: the batch of each, and how it was answered.
-use Rattle.std.specs.Prelude.{ℕ, ◌≡◌, ◌⊎◌, ◌++◌, Bool, true, false, List, [], ◌∷◌, None, Result, Ok, Err, if◌then◌else◌}
+use Rattle.std.specs.Prelude.{◌≡◌, ◌⊎◌, ◌++◌, Bool, true, false, List, [], ◌∷◌, Result, Ok, Err}
 use Rattle.farm_types.specs.declared.entry.Entry.{Entry}
-use Rattle.farm_types.specs.Booking.{may_book}
 use Rattle.farm_types.specs.Farm.{Farm}
 use Rattle.farm_types.specs.Run.{run_of}
-use Rattle.farm_types.specs.Step.{after, refusal_of}
+use Rattle.farm_types.specs.Step.{after}
 use Rattle.farm_keeper.specs.declared.fault.KeeperFault.{KeeperFault}
 use Rattle.farm_keeper.specs.declared.fault.KeeperFault.TheVariants as keeper_fault
 use Rattle.farm_keeper.specs.declared.row.Batch.{Batch}
-use Rattle.farm_keeper.specs.Keeping.{Committing, Continues}
+use Rattle.farm_keeper.specs.Keeping.{Committing}
 use Rattle.farm_keeper.specs.Rows as batched
 use Rattle.store_law.specs.Stored.{stored}
-use Rattle.recorder.specs.declared.refusal.CommitRefusal.{CommitRefusal}
-use Rattle.recorder.specs.declared.refusal.CommitRefusal.TheVariants as refusal
 use Rattle.recorder.specs.declared.refusal.RecordFault.{RecordFault}
 use Rattle.recorder.specs.declared.refusal.RecordFault.TheVariants as fault
 use Rattle.recorder.specs.Faults.{is_of_store}
-use Rattle.recorder.specs.Recording.{ChangesRows, HasSameRows, booking}
+use Rattle.recorder.specs.Recording.{ChangesRows, HasSameRows}
 
 -- ---- one entry
 
@@ -57,12 +54,6 @@ pub record Tells {K : Type 0} (commits : Committing K) (f : Farm) (all done : Li
   pub taken : TakesEach commits f done before mid
   pub ends : EndsTelling commits (run_of f done) rest failed mid now
 
--- as the keeper went on, so it was told
-pub record GoesOn {K : Type 0} (commits : Committing K) (tells : K → Type 0) (faults : K → ℕ) (f : Farm) (before now : K) (all done : List Entry)
-    (failed : Bool) : Type 0 where
-  pub keeper : Continues tells faults before now failed
-  pub told : Tells commits f all done failed before now
-
 -- ---- what is recorded
 
 -- a batch was told and taken; or the store failed at it; or memory ran out before it was told, or at it
@@ -75,15 +66,3 @@ TellsBatch commits batch (Err fault.NoMemory) before now = (now ≡ before) ⊎ 
 abbrev pub TellsOf : {K T : Type 0} → Committing K → Farm → List Entry → Result T RecordFault → K → K → Type 0
 TellsOf commits f due (Ok _) before now = TakesEach commits f due before now
 TellsOf commits f due (Err why) before now = EndsTelling commits f due (is_of_store why) before now
-
--- as an entry is recorded, or refused by the farm
-abbrev pub TellsCommit : {K T : Type 0} → Committing K → Farm → Entry → Result T CommitRefusal → K → K → Type 0
-TellsCommit commits f e (Ok _) before now = TakesEach commits f (e ∷ []) before now
-TellsCommit commits f e (Err (refusal.Refused why)) before now = now ≡ before
-TellsCommit commits f e (Err refusal.Store) before now = EndsTelling commits f (e ∷ []) true before now
-TellsCommit commits f e (Err refusal.NoMemory) before now =
-    (now ≡ before) ⊎ ((refusal_of f e ≡ None) × IsTold commits f (after f e) (Err keeper_fault.NoMemory) before now)
-
--- the booking of a frame that may be booked, and none of another
-abbrev pub due_booking : Farm → ℕ → ℕ → ℕ → List Entry
-due_booking f slot host moment = if may_book f slot host then booking slot host moment ∷ [] else []

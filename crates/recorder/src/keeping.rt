@@ -1,8 +1,7 @@
 //! A farm and a keeper of its rows, changed together.
 
-ghost use Rattle.std.specs.Prelude.{◌≡◌, ◌∷◌, [], true, Err, OnErr, OnOk};
+ghost use Rattle.std.specs.Prelude.{◌≡◌, ◌∷◌, [], Err, OnErr, OnOk};
 ghost use Rattle.farm_types.specs.declared.entry.Entry.{Entry};
-ghost use Rattle.farm_types.specs.Booking.{may_book};
 ghost use Rattle.farm_types.specs.Farm as farms;
 ghost use Rattle.farm_types.specs.Kept.{IsKeptFarm};
 ghost use Rattle.farm_types.specs.Run.{IsLegalStep};
@@ -14,8 +13,8 @@ ghost use Rattle.farm_core.specs.Bookings.{IsBookingOf};
 ghost use Rattle.farm_core.specs.Change.{after_change, reserved_of};
 ghost use Rattle.store_law.specs.Stored.{batch_of as stored_batch};
 ghost use Rattle.recorder.specs.Faults.{is_store_fault};
-ghost use Rattle.recorder.specs.Recording.{Books, HasRecorded, IsOfEntry, IsUnstoredBooking, HasSameRows, Records, StaysRecorded};
-ghost use Rattle.recorder.specs.Telling.{TellsBatch, TellsOf, due_booking};
+ghost use Rattle.recorder.specs.Recording.{HasRecorded, IsOfEntry, HasSameRows, Records, StaysRecorded};
+ghost use Rattle.recorder.specs.Telling.{TellsBatch, TellsOf};
 
 use crate::batch::batch_of;
 use crate::refusal::RecordFault;
@@ -23,7 +22,7 @@ use depend_law::legal_runs_keep_farms;
 use farm_core::{Booking, Change, Farm};
 use farm_keeper::Keeper;
 use farm_rows::RowChange;
-use farm_types::{Entry, HostNo, Slot};
+use farm_types::Entry;
 use std::alloc::Global;
 use store_law::{batches_make_the_rows, farms_differ_in_their_stores};
 
@@ -82,40 +81,16 @@ fn make_ready<K: Keeper>(
     keep(alloc, keeper, room, change.batch())
 }
 
-/// Books the slot's frame on the host, where it may be, in the keeper and in the farm, or in neither. That it may be is decided once. Its rows
-/// are put together in the room.
-pub(crate) fn book_in<K: Keeper>(
-    alloc: Global,
-    farm: &mut Farm,
-    keeper: &mut K,
-    room: &mut Vec<u8>,
-    slot: Slot,
-    host: HostNo,
-    moment: u64,
-) -> Result<bool, RecordFault>
-    ensures farm { Books farm.old slot host moment result farm.new }
-    ensures kept { HasRecorded (K.holds keeper.old) (K.left keeper.old) farm.old → HasRecorded (K.holds keeper.new) (K.left keeper.new) farm.new }
-    ensures same { IsUnstoredBooking farm.old slot host moment → keeper.new ≡ keeper.old }
-    ensures keeper { Continues K.tells K.faults keeper.old keeper.new (is_store_fault result) }
-    ensures told { TellsOf K.commits farm.old (due_booking farm.old slot host moment) result keeper.old keeper.new }
-{
-    match farm.booking(slot, host, moment) {
-        Ok(booking) => record_booking(alloc, farm, keeper, room, &booking),
-        Err(_why) => Ok(false),
-    }
-}
-
-// Tells the keeper the rows of a booking that was decided, and puts it in.
-fn record_booking<K: Keeper>(
+/// Records a booking that was decided over this farm, in the keeper and in the farm, or in neither. Its rows are put together in the room.
+pub(crate) fn record_booking_in<K: Keeper>(
     alloc: Global,
     farm: &mut Farm,
     keeper: &mut K,
     room: &mut Vec<u8>,
     booking: &Booking,
-) -> Result<bool, RecordFault>
-    requires booking { IsBookingOf farm.old booking.now }
-    requires may { may_book farm.old booking.now.booked.slot booking.now.booked.host ≡ true }
-    ensures farm { Books farm.old booking.now.booked.slot booking.now.booked.host booking.now.booked.moment result farm.new }
+) -> Result<(), RecordFault>
+    requires { IsBookingOf farm.old booking.now }
+    ensures farm { Records farm.old (after farm.old (entry_of booking.now.booked)) result farm.new }
     ensures kept { HasRecorded (K.holds keeper.old) (K.left keeper.old) farm.old → HasRecorded (K.holds keeper.new) (K.left keeper.new) farm.new }
     ensures same { HasSameRows farm.old (after farm.old (entry_of booking.now.booked)) → keeper.new ≡ keeper.old }
     ensures keeper { Continues K.tells K.faults keeper.old keeper.new (is_store_fault result) }
@@ -124,7 +99,7 @@ fn record_booking<K: Keeper>(
     farm.kept();
     keep(alloc, keeper, room, booking.batch())?;
     farm.book(booking);
-    Ok(true)
+    Ok(())
 }
 
 // Tells the keeper the changes, where there are any.

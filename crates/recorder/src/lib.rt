@@ -3,8 +3,8 @@
 
 mod batch;
 mod keeping;
-mod recorder;
+mod recorded_farm;
 mod refusal;
 
-pub use recorder::PlainRecorder;
-pub use refusal::{CommitRefusal, RecordFault};
+pub use recorded_farm::RecordedFarm;
+pub use refusal::RecordFault;

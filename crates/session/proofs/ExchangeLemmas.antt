@@ -3,7 +3,7 @@ use Rattle.std.proofs.Common.{◌≡◌, ℕ, ◌<◌, ◌≤◌, ◌^◌, Bool,
 use Rattle.cue_io.specs.declared.line.Line.{Line}
 use Rattle.cue_io.specs.declared.line.LineFault.{LineFault}
 use Rattle.cue_io.specs.Input.{IsAtEnd}
-use Rattle.cue_io.specs.Reader.{Held, Given, Whole, Long, Goes, IsPending, given_by}
+use Rattle.cue_io.specs.Reader.{Held, Given, Whole, Long, AtEnd, Goes, IsLineGiven, IsPending, given_by, lines_left}
 use Rattle.farm_types.specs.declared.entry.Entry.{Entry}
 use Rattle.farm_types.specs.Farm.{Farm}
 use Rattle.farm_types.specs.Run.{run_of}
@@ -68,26 +68,26 @@ exchange_of given before after moment text wrote unwritten goes same low answer 
   written = sent;
 }
 
-exchange_answered : (result : Exchanged) (answer : Result Given LineFault) (given : Given) (before after : Farm) (moment : ℕ) (text wrote : List ℕ) (goes : Going) (same : Type 0)
+exchange_answered : (result : Exchanged) (answer : Result Given LineFault) (given : Given) (before after : Farm) (moment : ℕ) (text wrote : List ℕ) (goes : Going) (same still : Type 0)
     → moment < 2 ^ 64 → answer ≡ Ok given → IsGivenAnswer given before after moment text goes same → Sends result text wrote
-    → Exchanges result answer before after wrote (moment ∷ []) goes same
-exchange_answered exchanged.Went answer given before after moment text wrote goes same low is answers sent =
+    → Exchanges result answer before after wrote (moment ∷ []) goes same still
+exchange_answered exchanged.Went answer given before after moment text wrote goes same still low is answers sent =
     (given, is, exchange_of given before after moment text wrote [] goes same low answers (append-nil wrote ∙ sent))
-exchange_answered exchanged.Write answer given before after moment text wrote goes same low is answers sent =
+exchange_answered exchanged.Write answer given before after moment text wrote goes same still low is answers sent =
     (given, sent.0, is, sent.1, exchange_of given before after moment text wrote sent.0 goes same low answers sent.2)
-exchange_answered exchanged.End answer given before after moment text wrote goes same low is answers sent = absurd sent
-exchange_answered exchanged.Read answer given before after moment text wrote goes same low is answers sent = absurd sent
-exchange_answered exchanged.Spent answer given before after moment text wrote goes same low is answers sent = absurd sent
+exchange_answered exchanged.End answer given before after moment text wrote goes same still low is answers sent = absurd sent
+exchange_answered exchanged.Read answer given before after moment text wrote goes same still low is answers sent = absurd sent
+exchange_answered exchanged.Spent answer given before after moment text wrote goes same still low is answers sent = absurd sent
 
 pub step_answered : (result : Exchanged) (returned : Result Line LineFault) (given : Given) (old new : Held) (left : Option (List ℕ)) (before after : Farm)
-    (took : List ℕ) (moment : ℕ) (text wrote : List ℕ) (goes : Going) (same : Type 0) → moment < 2 ^ 64 → given_by returned ≡ Ok given → Goes old took (given_by returned) new
+    (took : List ℕ) (moment : ℕ) (text wrote : List ℕ) (goes : Going) (same still : Type 0) → moment < 2 ^ 64 → given_by returned ≡ Ok given → Goes old took (given_by returned) new
     → (old.ended ≡ false → new.ended ≡ true → IsAtEnd left) → IsGivenAnswer given before after moment text goes same → Sends result text wrote
-    → IsStep result old new left before after took wrote (moment ∷ []) goes same
-step_answered result returned given old new left before after took moment text wrote goes same low is moves end answers sent = record {
+    → IsStep result old new left before after took wrote (moment ∷ []) goes same still
+step_answered result returned given old new left before after took moment text wrote goes same still low is moves end answers sent = record {
   answer = given_by returned;
   moves = moves;
   at_end = end;
-  exchanges = exchange_answered result (given_by returned) given before after moment text wrote goes same low is answers sent;
+  exchanges = exchange_answered result (given_by returned) given before after moment text wrote goes same still low is answers sent;
 }
 
 -- a line that is given whole is within the limit
@@ -96,3 +96,18 @@ pub line_fits : (returned : Result Line LineFault) (line : List ℕ) (old new : 
 line_fits returned line old new took pending is goes held =
     let Moved : Result Given LineFault → Type 0 = λ answer. Goes old took answer new in
     ((subst Moved is goes).leaves pending held).cuts.1
+
+-- ---- what an exchange takes
+
+answered_line : (given : Given) (old : Farm) (moment : ℕ) (mark : Mark) (new : Farm) (text : List ℕ) → Answers given old moment mark new text → IsLineGiven (Ok given)
+answered_line (Whole line) old moment mark new text answers = tt
+answered_line Long old moment mark new text answers = tt
+answered_line AtEnd old moment mark new text answers = absurd answers
+
+-- a line was given, so that the reader has fewer left to give
+pub line_taken : (old new : Held) (left : Option (List ℕ)) (before after : Farm) (took wrote seen : List ℕ) (goes : Going) (same still : Type 0)
+    → IsStep exchanged.Went old new left before after took wrote seen goes same still → lines_left new < lines_left old
+line_taken old new left before after took wrote seen goes same still step =
+    let given = step.exchanges.0 in
+    let exchange = step.exchanges.2 in
+    step.moves.fewer (subst IsLineGiven (sym step.exchanges.1) (answered_line given before exchange.moment exchange.mark after exchange.reply exchange.answers))

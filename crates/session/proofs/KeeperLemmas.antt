@@ -6,8 +6,13 @@ use Rattle.fault_counts.specs.Counts.{HasRisenBy, incremented_if, last_count}
 use Rattle.farm_keeper.specs.Keeping.{Committing}
 use Rattle.farm_keeper.specs.Rows.{Rows}
 use Rattle.fault_counts.proofs.CountLaws.{HasRisenBy-cons, last_count-stays}
-use Rattle.farm_lines.specs.Transcript.{Exchange, farm_after, farm_next, is_store_mark}
-use Rattle.session.specs.Sessions.{GoesOnAt, GoesOnOver, WentOn, store_marks}
+use Rattle.farm_lines.specs.Transcript.{Exchange, answer_at, entries_in, farm_after, farm_next, is_store_mark}
+use Rattle.farm_types.specs.declared.entry.Entry.{Entry}
+use Rattle.booking_recorder.specs.Going.{Journals}
+use Rattle.booking_recorder.specs.Recording.{Recording}
+use Rattle.booking_recorder.proofs.Journaled.{journals_then}
+use Rattle.session.specs.Sessions.{GoesOnAt, GoesOnOver, RecordsOver, WentOn, store_marks}
+use Rattle.session.proofs.SeatLemmas.{entries_more}
 use Rattle.session.proofs.SessionLemmas.{GoesOnBy}
 
 -- a line's weight among the marks of the store
@@ -41,13 +46,20 @@ module _ {K : Type 0} (commits : Committing K) (tells : K → Type 0) (holds lef
   over_append f [] t before mid now is at = (now, subst (λ (k : K). GoesOnAt commits tells holds left faults f t k now) is at, refl)
   over_append f (u ∷ ts) t before mid now over at = (over.0, over.1, over_append (farm_next f u) ts t over.0 mid now over.2 at)
 
-  pub over_more : (first f : Farm) (before mid now : K)
-      → GoesOnBy first f (WentOn commits tells holds left faults f mid now) (now ≡ mid) (λ ts. GoesOnOver commits tells holds left faults first ts before mid)
-      (λ ts. GoesOnOver commits tells holds left faults first ts before now)
-  over_more first f before mid now ts t over is goes stays =
-      let at : GoesOnAt commits tells holds left faults f t mid now = record { keeper = goes.on.keeper; stays = stays; told = goes.on.told; recorded = goes.recorded } in
-      over_append first ts t before mid now over (subst (λ (g : Farm). GoesOnAt commits tells holds left faults g t mid now) is at)
+  pub records_more : (r mid now : Recording K)
+      → GoesOnBy r.farm mid.farm (WentOn commits tells holds left faults mid now) (now.keeper ≡ mid.keeper) (RecordsOver commits tells holds left faults r mid.keeper mid.view)
+      (RecordsOver commits tells holds left faults r now.keeper now.view)
+  records_more r mid now ts t over is goes stays =
+      let at : GoesOnAt commits tells holds left faults mid.farm t mid.keeper now.keeper = record { keeper = goes.on.keeper; stays = stays; told = goes.on.told; recorded = goes.recorded } in
+      let own : Journals mid.view now.view (answer_at (farm_after r.farm ts) t).entries = subst (λ (f : Farm). Journals mid.view now.view (answer_at f t).entries) is goes.on.journals in
+      record {
+        lines = over_append r.farm ts t r.keeper mid.keeper now.keeper over.lines (subst (λ (f : Farm). GoesOnAt commits tells holds left faults f t mid.keeper now.keeper) is at);
+        journals =
+            subst (λ (es : List Entry). Journals r.view now.view es) (sym (entries_more r.farm ts t))
+            (journals_then r.view mid.view now.view (entries_in r.farm ts) (answer_at (farm_after r.farm ts) t).entries over.journals own);
+      }
 
   -- nothing more
-  pub over_still : (first : Farm) (before mid now : K) (ts : List Exchange) → now ≡ mid → GoesOnOver commits tells holds left faults first ts before mid → GoesOnOver commits tells holds left faults first ts before now
-  over_still first before mid now ts same over = subst (λ (k : K). GoesOnOver commits tells holds left faults first ts before k) (sym same) over
+  pub records_still : (r mid now : Recording K) (ts : List Exchange) → now ≡ mid → RecordsOver commits tells holds left faults r mid.keeper mid.view ts
+      → RecordsOver commits tells holds left faults r now.keeper now.view ts
+  records_still r mid now ts same over = subst (λ (x : Recording K). RecordsOver commits tells holds left faults r x.keeper x.view ts) (sym same) over

@@ -8,5 +8,6 @@ mod OpenedRun
 mod OpenedStore
 mod OpenedWays
 mod RunLemmas
+mod SeatLemmas
 mod SessionLemmas
 mod StopLemmas

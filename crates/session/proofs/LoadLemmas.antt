@@ -1,5 +1,5 @@
 -- What a call of a load did.
-use Rattle.std.proofs.Common.{◌≡◌, ◌<◌, ◌⊎◌, ℕ, List, [], ◌∷◌, length, take, drop, length-drop, take-append-drop, inl, inr, refl, sym, ◌∙◌, subst, Option, None, Some, true≢false, ap, arith}
+use Rattle.std.proofs.Common.{◌≡◌, ◌<◌, ◌⊎◌, ℕ, List, [], ◌∷◌, ◌++◌, length, take, drop, length-drop, take-append-drop, inl, inr, refl, sym, ◌∙◌, subst, Option, None, Some, true≢false, ap, arith}
 use Rattle.fault_counts.specs.Counts.{HasRisen}
 use Rattle.cue_io.specs.Readings.{Tells, Tells-append}
 use Rattle.command_line.specs.declared.status.Status.{Status}
@@ -16,9 +16,17 @@ use Rattle.farm_load.specs.Loads.{AreMarks, load_run, load_start}
 use Rattle.farm_load.specs.Summaries.{RunsLoad}
 use Rattle.recovery.specs.declared.fault.RecoverFault.{RecoverFault}
 use Rattle.session.specs.Loads.{AnswersLoad, TellsEnd, TellsSummary}
+use Rattle.atomic_table.specs.declared.shared.Seat.{Seat}
+use Rattle.booking_recorder.specs.Going.{Journals}
+use Rattle.booking_recorder.specs.Recording.{Recording}
+use Rattle.booking_rule.specs.declared.view.View.{View}
+use Rattle.booking_table.specs.Seats.{view}
+use Rattle.recording_turns.specs.Resting.{IsAtRest}
 use Rattle.session.specs.Opening.{IsOpened}
+use Rattle.session.specs.Seats.{GivesSeat}
 use Rattle.session.specs.Sessions.{AnswersLoadCall, Call, EndsEarly, EndsWell, IsCall, Streams, streams}
-use Rattle.session.specs.Words.{Load, WordForm, form_of, is_load, opened_farm}
+use Rattle.session.specs.Words.{Load, WordForm, form_of, is_load, opened_farm, opening_entries}
+use Rattle.session.proofs.SeatLemmas.{gives_seat}
 
 -- ---- the run, and what is told of it
 
@@ -29,11 +37,12 @@ summary_part text line count is short =
     subst (λ (whole : List ℕ). TellsSummary whole exit.WriteFailed part) is (inr (inl (refl, drop count text, omega (arith, length-drop count text), take-append-drop count text)))
 
 -- a load over a farm that keeps what every farm keeps is legal and safe
-pub answers_load : (n : ℕ) (status : Status) (first last : Farm) (ended : LoadEnd) (wrote : List ℕ) (faults faults_now : ℕ) (holds : Farm → Type 0) → IsKeptFarm first
+pub answers_load : (n : ℕ) (status : Status) (first last : Farm) (ended : LoadEnd) (wrote : List ℕ) (faults faults_now : ℕ) (holds : Farm → Type 0) (journals : List Entry → Type 0)
+    → IsKeptFarm first
     → ((n : ℕ) (f : Farm) (marks : List Mark) → KeepsRows f → AreMarks n (load_start f) marks → IsLegal f (load_run n f marks).recorded)
     → ((f : Farm) (es : List Entry) → IsSound f → HasItsHosts f → IsLegal f es → IsSafe f es)
-    → RunsLoad n first ended last faults faults_now → TellsEnd ended status wrote → holds last → AnswersLoad n first status wrote faults faults_now holds
-answers_load n status first last ended wrote faults faults_now holds kept legal_law safe_law run told held =
+    → RunsLoad n first ended last faults faults_now journals → TellsEnd ended status wrote → holds last → AnswersLoad n first status wrote faults faults_now holds journals
+answers_load n status first last ended wrote faults faults_now holds journals kept legal_law safe_law run told held =
     let legal : IsLegal first (load_run n first run.marks).recorded = legal_law n first run.marks kept.rows run.are_marks in
     record {
       marks = run.marks;
@@ -45,6 +54,7 @@ answers_load n status first last ended wrote faults faults_now holds kept legal_
       legal = legal;
       safe = safe_law first (load_run n first run.marks).recorded kept.rows.sound (kept_hosts first kept.rows) legal;
       held = subst holds run.farm_is held;
+      on_words = run.words;
     }
 
 -- ---- how it ends
@@ -69,25 +79,40 @@ abbrev EndsWellBy : Option WordForm → Status → Call → Type 0
 EndsWellBy None status call = Unit {0}
 EndsWellBy (Some form) status call = EndsWell form status call
 
--- the count is the same before the opening
-answered_earlier : (n : ℕ) (first : Farm) (status : Status) (wrote : List ℕ) (old mid new : ℕ) (holds : Farm → Type 0) → mid ≡ old → AnswersLoad n first status wrote mid new holds
-    → AnswersLoad n first status wrote old new holds
-answered_earlier n first status wrote old mid new holds same answered = subst (λ (count : ℕ). AnswersLoad n first status wrote count new holds) same answered
+-- the count is the same before the opening, and the journal has the opening's entries before
+answered_earlier : (n : ℕ) (first : Farm) (status : Status) (wrote : List ℕ) (old mid new : ℕ) (holds : Farm → Type 0) (journals since : List Entry → Type 0)
+    → ((es : List Entry) → journals es → since es) → mid ≡ old → AnswersLoad n first status wrote mid new holds journals → AnswersLoad n first status wrote old new holds since
+answered_earlier n first status wrote old mid new holds journals since on same answered =
+    subst (λ (count : ℕ). AnswersLoad n first status wrote count new holds since) same
+    (record {
+      marks = answered.marks;
+      ended = answered.ended;
+      are_marks = answered.are_marks;
+      ends = answered.ends;
+      told = answered.told;
+      causes = answered.causes;
+      legal = answered.legal;
+      safe = answered.safe;
+      held = answered.held;
+      on_words = on (load_run n first answered.marks).recorded answered.on_words;
+    })
 
 -- a load over a farm that was opened
-pub called_load : (words : List (List ℕ)) (n : ℕ) (status : Status) (opened : ℕ) (farm : Farm) (call : Call) (before after : Streams) (mid : Option (List ℕ)) (k : ℕ)
+pub called_load : {K : Type 0} (words : List (List ℕ)) (n : ℕ) (status : Status) (opened : ℕ) (middle : Recording K) (seat : Seat (Unit {0}) View) (call : Call) (before after : Streams) (mid : Option (List ℕ)) (k : ℕ)
     (says : WordForm → Farm → Type 0) (bad : WordForm → RecoverFault → Type 0) (same untouched : Type 0) (unmigrated : Farm → Type 0) (goes_on : Farm → List Exchange → Type 0)
     (holds : Farm → Type 0)
-    → form_of words ≡ Some (Load n) → IsOpened (says (Load n)) (Load n) opened farm → Tells before.readings mid (opened ∷ []) → k ≡ before.store_faults
-    → AnswersLoadCall n status farm (streams before.unread before.read_faults before.written before.write_faults mid k) after call holds
+    → form_of words ≡ Some (Load n) → IsOpened (says (Load n)) (Load n) opened middle.farm middle.view → Tells before.readings mid (opened ∷ []) → k ≡ before.store_faults
+    → IsAtRest (view seat) → AnswersLoadCall n status middle.farm (streams before.unread before.read_faults before.written before.write_faults mid k) after call holds (Journals middle.view (view seat))
     → (status ≡ exit.WriteFailed → HasRisen before.write_faults after.write_faults)
-    → IsCall words status before after (record { taken = call.taken; written = call.written; readings = opened ∷ call.readings; exchanges = call.exchanges }) says bad same untouched unmigrated
-    goes_on holds
-called_load words n status opened farm call before after mid k says bad same untouched unmigrated goes_on holds formed opening reads was over write =
+    → IsCall words status before after (record { taken = call.taken; written = call.written; readings = opened ∷ call.readings; exchanges = call.exchanges })
+    (Some seat) says bad same untouched unmigrated goes_on holds
+called_load words n status opened middle seat call before after mid k says bad same untouched unmigrated goes_on holds formed opening reads was rests over write =
     let first : Farm = opened_farm (Load n) opening.first opened in
     let now : Call = record { taken = call.taken; written = call.written; readings = opened ∷ call.readings; exchanges = call.exchanges } in
-    let answered : AnswersLoad n first status call.written k after.store_faults holds
-    = subst (λ (f : Farm). AnswersLoad n f status call.written k after.store_faults holds) opening.farm_is over.answered in
+    let journals : List Entry → Type 0 = Journals middle.view (view seat) in
+    let answered : AnswersLoad n first status call.written k after.store_faults holds journals
+    = subst (λ (f : Farm). AnswersLoad n f status call.written k after.store_faults holds journals) opening.farm_is over.answered in
+    let opened_with : List Entry = opening_entries (Load n) opened in
     record {
       moved = record {
         taken = over.moved.taken;
@@ -104,7 +129,8 @@ called_load words n status opened farm call before after mid k says bad same unt
         none_taken = over.none_taken;
         no_lines = over.no_lines;
         opening_legal = opening.legal;
-        answered = answered_earlier n first status call.written before.store_faults k after.store_faults holds was answered;
+        answered = answered_earlier n first status call.written before.store_faults k after.store_faults holds journals (λ es. GivesSeat (Some seat) opening.first (opened_with ++ es))
+            (λ es more. gives_seat seat middle.view opening.first opened_with es opening.begun more rests) was answered;
       }))));
       spent = λ lines. absurd (true≢false (sym (ap is_load formed) ∙ lines));
       complete = λ other said right unfailed unread unwritten few.

@@ -1,6 +1,8 @@
 -- The entries of an opening are a legal run.
 use Rattle.std.proofs.Common.{◌≡◌, ◌<◌, ◌^◌, ℕ, refl, sym, ap, subst, List, [], ◌∷◌, arith}
 use Rattle.std.specs.Prelude.{codes}
+use Rattle.std.specs.List.{All}
+use Rattle.std.proofs.lemmas.List.Elements.{All-from_recursion}
 use Rattle.farm_types.specs.declared.entry.Act.TheVariants as act
 use Rattle.farm_types.specs.declared.entry.Entry.{Entry}
 use Rattle.farm_types.specs.Farm.{Farm, empty_farm}
@@ -8,6 +10,7 @@ use Rattle.farm_types.specs.Run.{IsLegal, IsLegalStep}
 use Rattle.farm_types.specs.Step.{after, after_act, at_moment}
 use Rattle.farm_gen.specs.Load.{IsLoad, load_alloc, load_boot, load_entries, load_sub, load_submit}
 use Rattle.farm_law.specs.DemoRun.{demo_alloc, demo_boot, demo_entries, demo_sub, demo_submit}
+use Rattle.session.specs.Opening.{IsUnbooked}
 use Rattle.session.specs.Words.{WordForm, Demo, IsScript, IsStated, IsWithin, Load, Script, opened_entry, opening_entries}
 
 -- any farm may be opened
@@ -53,3 +56,11 @@ pub script_opened : (form : WordForm) (f : Farm) (moment : ℕ) → IsScript for
 script_opened Demo f moment script within = absurd script
 script_opened (Script store) f moment script within = (opened_legal f moment within, tt)
 script_opened (Load n) f moment script within = absurd script
+
+-- ---- no entry of an opening is a booking
+
+pub demo_unbooked : (moment : ℕ) → All IsUnbooked (demo_entries moment)
+demo_unbooked moment = All-from_recursion IsUnbooked (demo_entries moment) (λ b. b, (λ b. b, (λ b. b, (λ b. b, (λ b. b, tt)))))
+
+pub load_unbooked : (n : ℕ) → All IsUnbooked (load_entries n)
+load_unbooked n = All-from_recursion IsUnbooked (load_entries n) (λ b. b, (λ b. b, (λ b. b, (λ b. b, (λ b. b, (λ b. b, (λ b. b, (λ b. b, tt))))))))

@@ -46,7 +46,7 @@ later_entries Demo moment = demo_entries moment
 later_entries (Script store) moment = []
 later_entries (Load n) moment = load_entries n
 
-opening_is : (form : WordForm) (moment : ℕ) → opening_entries form moment ≡ opened_entry (opened_at form moment) ∷ later_entries form moment
+pub opening_is : (form : WordForm) (moment : ℕ) → opening_entries form moment ≡ opened_entry (opened_at form moment) ∷ later_entries form moment
 opening_is Demo moment = refl
 opening_is (Script store) moment = refl
 opening_is (Load n) moment = refl

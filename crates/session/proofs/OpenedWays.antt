@@ -1,8 +1,7 @@
 -- How a farm is opened: begun over a keeper that has it, or not.
-use Rattle.std.proofs.Common.{◌≡◌, ◌⊎◌, ℕ, Bool, true, false, refl, sym, ap, subst, List, inl, inr, Result, Ok, Err, ◌∙◌}
-use Rattle.farm_types.specs.declared.entry.Entry.{Entry}
+use Rattle.std.proofs.Common.{◌≡◌, ◌⊎◌, ℕ, Bool, true, false, refl, sym, ap, subst, List, [], take, inl, inr, Result, Ok, Err, ◌∙◌}
 use Rattle.farm_types.specs.Farm.{Farm}
-use Rattle.farm_types.specs.Run.{IsLegal}
+use Rattle.farm_types.specs.Run.{IsLegal, run_of}
 use Rattle.farm_keeper.specs.declared.fault.KeeperFault.{KeeperFault}
 use Rattle.farm_keeper.specs.declared.fault.KeeperFault.TheVariants as keeper_fault
 use Rattle.farm_keeper.specs.declared.row.Row.{Row}
@@ -10,7 +9,11 @@ use Rattle.fault_counts.specs.Counts.{HasRisen, incremented_if}
 use Rattle.farm_keeper.specs.Faults.{is_failed}
 use Rattle.farm_keeper.specs.Keeping.{Continues, Keeps}
 use Rattle.farm_keeper.specs.Rows.{Lists, Rows}
-use Rattle.recorder.specs.Recording.{Recording}
+use Rattle.recorder.specs.declared.refusal.RecordFault.{RecordFault}
+use Rattle.recorder.specs.declared.refusal.RecordFault.TheVariants as record_fault
+use Rattle.recorder.specs.Faults as recorded
+use Rattle.booking_recorder.specs.Going.{Journals}
+use Rattle.booking_recorder.specs.Recording.{Recording}
 use Rattle.recovery.specs.declared.fault.RecoverFault.{RecoverFault}
 use Rattle.recovery.specs.declared.fault.RecoverFault.TheVariants as recover_fault
 use Rattle.recovery.specs.declared.recovering.Recovered.{Recovered}
@@ -24,11 +27,13 @@ use Rattle.session.specs.declared.opening.OpenFault.{OpenFault}
 use Rattle.session.specs.declared.opening.OpenFault.TheVariants as fault
 use Rattle.session.specs.declared.opening.Opening.{Opening}
 use Rattle.session.specs.declared.opening.Opening.TheVariants as opening
-use Rattle.session.specs.Opening.{Begins, BeginsBad, BeginsIn, BeginsWith, HasFailed, HasRecovered, HoldsFarm, IsLoadFault, IsLeftOld, IsLoaded, IsPartOpened, IsRecordFault, IsUnmigrated, IsUntouched, MigratesFrom, Opens, SaysFault, is_of_store, is_store_failure, of_keeper, of_recovery}
+use Rattle.session.specs.Opening.{Begins, BeginsBad, BeginsIn, BeginsWith, HasFailed, HasRecovered, HoldsFarm, IsLoadFault, IsLeftOld, IsLoaded, IsPartOpened, IsRecordFault, IsUnmigrated, IsUntouched, MigratesFrom, Opens, SaysFault, is_of_store, is_store_failure, of_keeper, of_record, of_recovery}
 use Rattle.session.specs.Words.{WordForm, Demo, IsScript, Load, Script, opening_entries}
 use Rattle.fault_counts.proofs.CountLaws.{HasRisen-incremented}
 use Rattle.farm_keeper.proofs.KeepingLaws.{Continues-same, Continues-then}
+use Rattle.session.specs.Seats.{IsBegun}
 use Rattle.session.proofs.OpenedStore.{says_list}
+use Rattle.session.proofs.SeatLemmas.{begun_more}
 
 -- a keeper on which nothing was done
 pub untouched : (held left : Rows → Type 0) → IsUntouched held left held left
@@ -58,11 +63,18 @@ begins_said (Load n) told_then told_now held f told is = is
 abbrev LeftOld : {K : Type 0} → (K → Type 0) → (K → Rows → Type 0) → (K → Rows → Type 0) → WordForm → K → K → Type 0
 LeftOld tells held left form old now = IsLeftOld (BeginsWith form (tells now) (held old)) (λ (f : Farm). tells now → IsUnmigrated (held old) (held now) (left now) f)
 
-begun_at : {K : Type 0} (tells : K → Type 0) (held left : K → Rows → Type 0) (faults : K → ℕ) (form : WordForm) (moment : ℕ) (old k : K) (first : Farm)
+-- Over a later keeper with the farm with which the words begin over the first one, the opening's recording opens that farm of the first one.
+pub begun_at : {K N : Type 0} (tells : K → Type 0) (held left : K → Rows → Type 0) (faults : K → ℕ) (form : WordForm) (moment : ℕ) (old k : K) (first : Farm)
     → BeginsWith form (tells k) (held old) first → Continues tells faults old k false → IsLegal first (opening_entries form moment)
-    → (result : Opening K) → Begins tells held left faults form moment (record { farm = first; keeper = k }) result → Opens tells held left faults form moment old result
+    → (result : Opening K N) → Begins tells held left faults form moment first k result → Opens tells held left faults form moment old result
 begun_at tells held left faults form moment old k first says goes legal (opening.Opened r) begins = (
-  record { first = first; said = begins_said form (tells k) (tells r.keeper) (held old) first begins.1.told says; legal = legal; farm_is = begins.0 },
+  record {
+    first = first;
+    said = begins_said form (tells k) (tells r.keeper) (held old) first begins.1.told says;
+    legal = legal;
+    farm_is = begins.0;
+    begun = begins.2;
+  },
   Continues-then tells faults old k r.keeper false goes begins.1,
 )
 begun_at tells held left faults form moment old k first says goes legal (opening.Failed now why) begins = (
@@ -78,24 +90,45 @@ begun_at tells held left faults form moment old k first says goes legal (opening
   Continues-then tells faults old k now (is_of_store why) goes begins.2,
 )
 
--- Over a later keeper with the farm with which the words begin over the first one, the opening's recording opens that farm of the first one.
-pub begun_opens : {K : Type 0} (tells : K → Type 0) (held left : K → Rows → Type 0) (faults : K → ℕ) (form : WordForm) (moment : ℕ) (old k : K) (first : Farm)
-    → BeginsWith form (tells k) (held old) first → Continues tells faults old k false → IsLegal first (opening_entries form moment)
-    → (r : Recording K) → r ≡ record { farm = first; keeper = k } → (result : Opening K) → Begins tells held left faults form moment r result
-    → Opens tells held left faults form moment old result
-begun_opens {K = K} tells held left faults form moment old k first says goes legal r is result begins =
-    begun_at tells held left faults form moment old k first says goes legal result
-    (subst (λ (x : Recording K). Begins tells held left faults form moment x result) is begins)
+record_fault_of : (fault : RecordFault) → IsRecordFault (of_record fault)
+record_fault_of record_fault.Store = tt
+record_fault_of record_fault.NoMemory = tt
 
--- what is legal from a farm is legal from the recorder's
-pub begun_legal : {K : Type 0} (first : Farm) (k : K) (es : List Entry) (r : Recording K) → r ≡ record { farm = first; keeper = k } → IsLegal first es → IsLegal r.farm es
-begun_legal {K = K} first k es r is legal = subst (λ (x : Recording K). IsLegal x.farm es) (sym is) legal
+record_failed : (fault : RecordFault) → recorded.is_of_store fault ≡ is_of_store (of_record fault)
+record_failed record_fault.Store = refl
+record_failed record_fault.NoMemory = refl
+
+-- what was recorded over the recorder that was made of a farm and its keeper
+module _ {K : Type 0} (tells : K → Type 0) (held left : K → Rows → Type 0) (faults : K → ℕ) (form : WordForm) (moment : ℕ) (first : Farm) (old : K) (made r : Recording K)
+    (farm_is : made.farm ≡ first) (keeper_is : made.keeper ≡ old) where
+  pub begun_whole : IsBegun made.view first [] → r.farm ≡ run_of made.farm (opening_entries form moment) → Journals made.view r.view (opening_entries form moment)
+      → Continues tells faults made.keeper r.keeper false → Begins {K = K} {N = Unit {0}} tells held left faults form moment first old (opening.Opened r)
+  begun_whole begun is more goes = (
+    is ∙ ap (λ (f : Farm). run_of f (opening_entries form moment)) farm_is,
+    subst (λ (k : K). Continues tells faults k r.keeper false) keeper_is goes,
+    begun_more made.view r.view first (opening_entries form moment) begun more,
+  )
+
+  -- a part of it, at whose end the keeper is given back
+  pub begun_part : (now : K) (fault : RecordFault) (why : OpenFault) → why ≡ of_record fault → (done : ℕ) × (r.farm ≡ run_of made.farm (take done (opening_entries form moment)))
+      → now ≡ r.keeper → HoldsFarm (tells now) (held now) (left now) r.farm → Continues tells faults made.keeper r.keeper (recorded.is_of_store fault)
+      → Begins {K = K} {N = Unit {0}} tells held left faults form moment first old (opening.Failed now why)
+  begun_part now fault why said part given holds goes = (
+    (
+      part.0,
+      subst (HoldsFarm (tells now) (held now) (left now)) (part.1 ∙ ap (λ (f : Farm). run_of f (take part.0 (opening_entries form moment))) farm_is) holds,
+    ),
+    subst IsRecordFault (sym said) (record_fault_of fault),
+    subst (λ (k : K). Continues tells faults k now (is_of_store why)) keeper_is
+        (subst (λ (k : K). Continues tells faults made.keeper k (is_of_store why)) (sym given)
+        (subst (Continues tells faults made.keeper r.keeper) (record_failed fault ∙ sym (ap is_of_store said)) goes)),
+  )
 
 -- ---- no farm
 
 -- no memory for a farm of no rows
 pub unmade_opens : {K : Type 0} (tells : K → Type 0) (held left : K → Rows → Type 0) (faults : K → ℕ) (form : WordForm) (moment : ℕ) (old : K)
-    → Opens tells held left faults form moment old (opening.Failed old fault.NoMemory)
+    → Opens {N = Unit {0}} tells held left faults form moment old (opening.Failed old fault.NoMemory)
 unmade_opens tells held left faults form moment old = (inl (λ now. untouched (held old) (left old)), Continues-same tells faults old)
 
 -- what the rows say is known of a keeper that tells, by the list of them
@@ -144,7 +177,7 @@ load_failed form tells held untouched old part fault.NoMemory script is still = 
 -- no farm came of the rows
 pub unloaded_opens : {K : Type 0} (tells : K → Type 0) (held left : K → Rows → Type 0) (faults : K → ℕ) (form : WordForm) (moment : ℕ) (old now : K) (why : OpenFault)
     → IsScript form → IsLoadFault why (SaysFault (tells now) (held old)) (Unit {0}) → Continues tells faults old now (is_of_store why)
-    → Keeps (held old) (held now) → Keeps (left now) (left old) → Opens tells held left faults form moment old (opening.Failed now why)
+    → Keeps (held old) (held now) → Keeps (left now) (left old) → Opens {N = Unit {0}} tells held left faults form moment old (opening.Failed now why)
 unloaded_opens tells held left faults form moment old now why script is goes keeps leaves = (
   load_failed form (tells now) (held old) (tells now → IsUntouched (held old) (left old) (held now) (left now)) (LeftOld tells held left form old now)
       (IsPartOpened (BeginsWith form (tells now) (held old)) (HoldsFarm (tells now) (held now) (left now)) form moment)
@@ -191,20 +224,18 @@ pub keeper_unmigrated : {K : Type 0} (tells : K → Type 0) (faults : K → ℕ)
 keeper_unmigrated tells faults before now why said says goes = subst (Continues tells faults before now) (migration_failed why ∙ sym (ap is_of_store says)) goes
 
 -- what was begun over a later keeper was begun over the one before it
-pub begun_later : {K : Type 0} (format : ℕ) (tells : K → Type 0) (held left : K → Rows → Type 0) (faults : K → ℕ) (form : WordForm) (moment : ℕ) (f : Farm) (old k : K)
-    → Continues tells faults old k false → (r : Recording K) → r ≡ record { farm = f; keeper = k } → (result : Opening K) → Begins tells held left faults form moment r result
+pub begun_later : {K N : Type 0} (format : ℕ) (tells : K → Type 0) (held left : K → Rows → Type 0) (faults : K → ℕ) (form : WordForm) (moment : ℕ) (f : Farm) (old k : K)
+    → Continues tells faults old k false → (result : Opening K N) → Begins tells held left faults form moment f k result
     → BeginsIn format tells held left faults form moment f old result
-begun_later {K = K} format tells held left faults form moment f old k goes r is result begins =
-    inl (later result (subst (λ (x : Recording K). Begins tells held left faults form moment x result) is begins)) where
-      later : (result : Opening K) → Begins tells held left faults form moment (record { farm = f; keeper = k }) result
-          → Begins tells held left faults form moment (record { farm = f; keeper = old }) result
-      later (opening.Opened r) begins = (begins.0, Continues-then tells faults old k r.keeper false goes begins.1)
-      later (opening.Failed now why) begins = (begins.0, begins.1, Continues-then tells faults old k now (is_of_store why) goes begins.2)
+begun_later format tells held left faults form moment f old k goes (opening.Opened r) begins =
+    inl (begins.0, Continues-then tells faults old k r.keeper false goes begins.1, begins.2)
+begun_later format tells held left faults form moment f old k goes (opening.Failed now why) begins =
+    inl (begins.0, begins.1, Continues-then tells faults old k now (is_of_store why) goes begins.2)
 
 -- the rows weren't migrated
 pub old_stays : {K : Type 0} (format : ℕ) (tells : K → Type 0) (held left : K → Rows → Type 0) (faults : K → ℕ) (form : WordForm) (moment : ℕ) (f : Farm) (old now : K) (why : OpenFault)
     → MigratesFrom format (held old) (left old) (held now) (left now) f (Err why) → (tells old → HasRows (held old) (left old) format f)
-    → Continues tells faults old now (is_of_store why) → BeginsIn format tells held left faults form moment f old (opening.Failed now why)
+    → Continues tells faults old now (is_of_store why) → BeginsIn {N = Unit {0}} format tells held left faults form moment f old (opening.Failed now why)
 old_stays format tells held left faults form moment f old now why unmigrated has goes = inr (
   unmigrated.0,
   unmigrated.1,
@@ -213,9 +244,9 @@ old_stays format tells held left faults form moment f old now why unmigrated has
 )
 
 -- Over the keeper that was loaded, with the farm of its rows: the opening's recording opens that farm, or its rows weren't migrated.
-pub recovered_opens : {K : Type 0} (format : ℕ) (tells : K → Type 0) (held left : K → Rows → Type 0) (faults : K → ℕ) (form : WordForm) (moment : ℕ) (old k : K) (first : Farm)
+pub recovered_opens : {K N : Type 0} (format : ℕ) (tells : K → Type 0) (held left : K → Rows → Type 0) (faults : K → ℕ) (form : WordForm) (moment : ℕ) (old k : K) (first : Farm)
     → BeginsWith form (tells k) (held old) first → Continues tells faults old k false → IsLegal first (opening_entries form moment) → HasRowsIn format first
-    → (tells k → (rows : Rows) → held old rows → rows ≡ stored_in format first) → (result : Opening K)
+    → (tells k → (rows : Rows) → held old rows → rows ≡ stored_in format first) → (result : Opening K N)
     → BeginsIn format tells held left faults form moment first k result → Opens tells held left faults form moment old result
 recovered_opens format tells held left faults form moment old k first says goes legal has only result (inl begins) =
     begun_at tells held left faults form moment old k first says goes legal result begins

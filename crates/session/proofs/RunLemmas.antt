@@ -28,10 +28,17 @@ use Rattle.session.specs.declared.opening.OpenFault.{OpenFault}
 use Rattle.session.specs.declared.opening.OpenFault.TheVariants as fault
 use Rattle.session.specs.Opening.{BeginsWith, HasFailed, HoldsFarm, IsLeftOld, IsOpened, IsPartOpened, is_of_store}
 use Rattle.session.specs.Loads.{AnswersLoad}
-use Rattle.session.specs.Sessions.{AnswersAll, AnswersForm, AnswersLoadCall, Call, EndsEarly, EndsSession, EndsWell, GoesOnOpened, GoesOnOver, HasLines, HasMoved, IsBadStore, IsCall, IsOldStore, IsOpening, IsUnopened, MayTell, Streams, TellsBad, TellsFault, TellsLine, status_of, store_marks, streams}
-use Rattle.session.specs.Words.{WordForm, Demo, Script, Load, TakesLines, form_of, opened_farm, word_form}
+use Rattle.session.specs.Sessions.{AnswersAll, AnswersForm, AnswersLoadCall, Call, EndsEarly, EndsSession, EndsWell, GoesOnOpened, GoesOnOver, RecordsOver, HasLines, HasMoved, IsBadStore, IsCall, IsOldStore, IsOpening, IsUnopened, MayTell, Streams, TellsBad, TellsFault, TellsLine, status_of, store_marks, streams}
+use Rattle.atomic_table.specs.declared.shared.Seat.{Seat}
+use Rattle.booking_recorder.specs.Going.{Journals}
+use Rattle.booking_recorder.specs.Recording.{Recording}
+use Rattle.booking_rule.specs.declared.view.View.{View}
+use Rattle.booking_table.specs.Seats.{view}
+use Rattle.recording_turns.specs.Resting.{IsAtRest}
+use Rattle.session.specs.Words.{WordForm, Demo, Script, Load, TakesLines, form_of, opened_farm, opening_entries, word_form}
 use Rattle.session.proofs.KeeperLemmas.{over_risen}
 use Rattle.session.proofs.LoadLemmas.{called_load}
+use Rattle.session.proofs.SeatLemmas.{gives_seat}
 
 -- the code found no form
 pub no_form : (found : Option Form) (formed : Option WordForm) → option_map word_form found ≡ formed → ((form : Form) → found ≡ Some form → ⊥) → formed ≡ None
@@ -85,10 +92,10 @@ pub called_for_usage : (words : List (List ℕ)) (left : Option (List ℕ)) (r :
     (says : WordForm → Farm → Type 0) (bad : WordForm → RecoverFault → Type 0) (same untouched : Type 0) (unmigrated : Farm → Type 0) (goes_on : Farm → List Exchange → Type 0)
     (holds : Farm → Type 0)
     → same → form_of words ≡ None → Tells readings readings []
-    → IsCall words exit.WrongWords (streams left r written w readings k) (streams left r written w readings k) (idle []) says bad same untouched unmigrated goes_on holds
+    → IsCall words exit.WrongWords (streams left r written w readings k) (streams left r written w readings k) (idle []) None says bad same untouched unmigrated goes_on holds
 called_for_usage words left r written w readings k says bad same untouched unmigrated goes_on holds kept none tells = record {
   moved = record { taken = Takes-none left; written = Adds-none written; readings = tells };
-  session = inl (record { status_is = inl refl; still = refl; none_taken = refl; none_written = refl; none_read = refl; no_lines = refl; keeper_same = kept });
+  session = inl (record { status_is = inl refl; still = refl; none_taken = refl; none_written = refl; none_read = refl; no_lines = refl; keeper_same = kept; no_seat = refl });
   spent = λ lines. unspent_idle exit.WrongWords (not_spent exit.WrongWords (omega arith));
   complete = λ form formed right unfailed unread unwritten few. absurd (none_formed (form_of words) form none formed);
 }
@@ -98,10 +105,10 @@ pub called_for_memory : (words : List (List ℕ)) (left : Option (List ℕ)) (r 
     (says : WordForm → Farm → Type 0) (bad : WordForm → RecoverFault → Type 0) (same untouched : Type 0) (unmigrated : Farm → Type 0) (goes_on : Farm → List Exchange → Type 0)
     (holds : Farm → Type 0)
     → same → Tells readings readings []
-    → IsCall words exit.NoMemory (streams left r written w readings k) (streams left r written w readings k) (idle []) says bad same untouched unmigrated goes_on holds
+    → IsCall words exit.NoMemory (streams left r written w readings k) (streams left r written w readings k) (idle []) None says bad same untouched unmigrated goes_on holds
 called_for_memory words left r written w readings k says bad same untouched unmigrated goes_on holds kept tells = record {
   moved = record { taken = Takes-none left; written = Adds-none written; readings = tells };
-  session = inl (record { status_is = inr refl; still = refl; none_taken = refl; none_written = refl; none_read = refl; no_lines = refl; keeper_same = kept });
+  session = inl (record { status_is = inr refl; still = refl; none_taken = refl; none_written = refl; none_read = refl; no_lines = refl; keeper_same = kept; no_seat = refl });
   spent = λ lines. unspent_idle exit.NoMemory (not_spent exit.NoMemory (omega arith));
   complete = λ form formed right unfailed unread unwritten few. ends_early form exit.NoMemory (idle []) (inr (refl, refl, refl));
 }
@@ -158,14 +165,14 @@ module _ (words : List (List ℕ)) (form : WordForm) (opened : ℕ) (says : Word
 
   -- the store failed, or memory ran out
   unopened : (status : Status) (call : Call) → (status ≡ exit.StoreFailed) ⊎ (status ≡ exit.NoMemory) → call.taken ≡ [] → call.written ≡ [] → call.exchanges ≡ []
-      → call.readings ≡ opened ∷ [] → untouched ⊎ (IsOldStore words says unmigrated ⊎ IsOpening words call says holds) → IsUnopened words status call says untouched unmigrated holds
+      → call.readings ≡ opened ∷ [] → untouched ⊎ (IsOldStore words says unmigrated ⊎ IsOpening words call says holds) → IsUnopened words status call None says untouched unmigrated holds
   unopened status call is none silent lineless reads kept =
-      record { status_is = is; reading = opened; readings = reads; none_taken = none; none_written = silent; no_lines = lineless; kept = kept }
+      record { status_is = is; reading = opened; readings = reads; none_taken = none; none_written = silent; no_lines = lineless; kept = kept; no_seat = refl }
 
   -- a row at fault was told, or memory ran out for it
   bad_told : (why : RecoverFault) (status : Status) (call : Call) (More : Type 0) → call.taken ≡ [] → call.exchanges ≡ [] → call.readings ≡ opened ∷ []
       → MayTell (TellsBad why status call.written) status call.written → bad form why → untouched
-      → IsUnopened words status call says untouched unmigrated holds ⊎ (IsBadStore words status call bad untouched ⊎ More)
+      → IsUnopened words status call None says untouched unmigrated holds ⊎ (IsBadStore words status call None bad untouched ⊎ More)
   bad_told why status call More none lineless reads (inl told) is_bad kept = inr (inl (record {
     form = form;
     fault = why;
@@ -177,13 +184,14 @@ module _ (words : List (List ℕ)) (form : WordForm) (opened : ℕ) (says : Word
     none_taken = none;
     no_lines = lineless;
     kept = kept;
+    no_seat = refl;
   }))
   bad_told why status call More none lineless reads (inr told) is_bad kept = inl (unopened status call (inr told.0) none told.1 lineless reads (inl kept))
 
   -- how no farm was opened
   failed_session : (why : OpenFault) (status : Status) (call : Call) (More : Type 0) → call.taken ≡ [] → call.exchanges ≡ [] → call.readings ≡ opened ∷ []
       → TellsFault why status call.written → HasFailed why (bad form) untouched (IsLeftOld (says form) unmigrated) (IsPartOpened (says form) holds form opened)
-      → IsUnopened words status call says untouched unmigrated holds ⊎ (IsBadStore words status call bad untouched ⊎ More)
+      → IsUnopened words status call None says untouched unmigrated holds ⊎ (IsBadStore words status call None bad untouched ⊎ More)
   failed_session fault.Store status call More none lineless reads told failed =
       inl (unopened status call (inl told.0) none told.1 lineless reads (part_opened call reads failed))
   failed_session (fault.Bad why) status call More none lineless reads told failed = bad_told why status call More none lineless reads told failed.0 failed.1
@@ -201,7 +209,7 @@ module _ (words : List (List ℕ)) (form : WordForm) (opened : ℕ) (says : Word
       (readings readings' : Option (List ℕ)) (k k' : ℕ) (same : Type 0) (goes_on : Farm → List Exchange → Type 0)
       → Tells readings readings' (opened ∷ []) → Adds written written' wrote → TellsFault why status wrote
       → HasFailed why (bad form) untouched (IsLeftOld (says form) unmigrated) (IsPartOpened (says form) holds form opened) → (is_of_store why ≡ true → HasRisen k k')
-      → IsCall words status (streams left r written w readings k) (streams left r written' w' readings' k') (told_call wrote (opened ∷ [])) says bad same untouched unmigrated goes_on holds
+      → IsCall words status (streams left r written w readings k) (streams left r written' w' readings' k') (told_call wrote (opened ∷ [])) None says bad same untouched unmigrated goes_on holds
   called_failed why status wrote left r written written' w w' readings readings' k k' same goes_on reads adds told failed rises =
       let call : Call = told_call wrote (opened ∷ []) in
       record {
@@ -269,10 +277,10 @@ begins_still Demo told_then told_now held f told is = is
 begins_still (Script store) told_then told_now held f told says = λ tells. says (told tells)
 begins_still (Load n) told_then told_now held f told is = is
 
-pub opened_still : (told_then told_now : Type 0) (held : Rows → Type 0) (form : WordForm) (opened : ℕ) (farm : Farm) → (told_now → told_then)
-    → IsOpened (BeginsWith form told_then held) form opened farm → IsOpened (BeginsWith form told_now held) form opened farm
-opened_still told_then told_now held form opened farm told o =
-    record { first = o.first; said = begins_still form told_then told_now held o.first told o.said; legal = o.legal; farm_is = o.farm_is }
+pub opened_still : (told_then told_now : Type 0) (held : Rows → Type 0) (form : WordForm) (opened : ℕ) (farm : Farm) (v : View) → (told_now → told_then)
+    → IsOpened (BeginsWith form told_then held) form opened farm v → IsOpened (BeginsWith form told_now held) form opened farm v
+opened_still told_then told_now held form opened farm v told o =
+    record { first = o.first; said = begins_still form told_then told_now held o.first told o.said; legal = o.legal; farm_is = o.farm_is; begun = o.begun }
 
 -- its count of faults rose by the marks of the store alone
 opened_risen : {K : Type 0} (commits : Committing K) (tells : K → Type 0) (holds left : K → Rows → Type 0) (faults : K → ℕ) (given opened now : K) (f : Farm)
@@ -281,24 +289,25 @@ opened_risen : {K : Type 0} (commits : Committing K) (tells : K → Type 0) (hol
 opened_risen commits tells holds left faults given opened now f ts begins over =
     subst (λ (count : ℕ). HasRisenBy (store_marks ts) count (faults now)) begins.counted (over_risen commits tells holds left faults f ts opened now over)
 
-module _ {K : Type 0} (commits : Committing K) (tells : K → Type 0) (held left : K → Rows → Type 0) (faults : K → ℕ) (given middle now : K) (words : List (List ℕ))
-    (status : Status) (opened : ℕ) (farm : Farm) (call : Call)
+module _ {K : Type 0} (commits : Committing K) (tells : K → Type 0) (held left : K → Rows → Type 0) (faults : K → ℕ) (given : K) (middle : Recording K) (now : K)
+    (seat : Seat (Unit {0}) View) (words : List (List ℕ))
+    (status : Status) (opened : ℕ) (call : Call)
     (before after : Streams) (mid : Option (List ℕ)) (says : WordForm → Farm → Type 0) (bad : WordForm → RecoverFault → Type 0) (same untouched : Type 0) (unmigrated holds : Farm → Type 0)
-    (begins : Continues tells faults given middle false)
-    (recorded : HoldsFarm (tells middle) (held middle) (left middle) farm) (was : before.store_faults ≡ faults given) (is_now : after.store_faults ≡ faults now) where
+    (begins : Continues tells faults given middle.keeper false)
+    (recorded : HoldsFarm (tells middle.keeper) (held middle.keeper) (left middle.keeper) middle.farm) (rests : IsAtRest (view seat)) (was : before.store_faults ≡ faults given) (is_now : after.store_faults ≡ faults now) where
   -- what the call began with, after the opening
   abbrev begun : Streams
-  begun = streams before.unread before.read_faults before.written before.write_faults mid (faults middle)
+  begun = streams before.unread before.read_faults before.written before.write_faults mid (faults middle.keeper)
 
   -- a session over a farm that was opened
-  called_session : (form : WordForm) → TakesLines form → form_of words ≡ Some form → IsOpened (says form) form opened farm → Tells before.readings mid (opened ∷ [])
-      → AnswersAll status farm begun after call (λ ts. GoesOnOver commits tells held left faults farm ts middle now) holds
+  called_session : (form : WordForm) → TakesLines form → form_of words ≡ Some form → IsOpened (says form) form opened middle.farm middle.view → Tells before.readings mid (opened ∷ [])
+      → AnswersAll status middle.farm begun after call (RecordsOver commits tells held left faults middle now (view seat)) holds
       → (status ≡ exit.ReadFailed → HasRisen before.read_faults after.read_faults) → (status ≡ exit.WriteFailed → HasRisen before.write_faults after.write_faults)
-      → IsCall words status before after (opened_call opened call) says bad same untouched unmigrated (GoesOnOpened commits tells held left faults given now) holds
+      → IsCall words status before after (opened_call opened call) (Some seat) says bad same untouched unmigrated (GoesOnOpened commits tells held left faults given now) holds
   called_session form of_lines formed opening reads answered read write =
       let first : Farm = opened_farm form opening.first opened in
-      let over : AnswersAll status first begun after call (λ ts. GoesOnOver commits tells held left faults first ts middle now) holds
-      = subst (λ (f : Farm). AnswersAll status f begun after call (λ ts. GoesOnOver commits tells held left faults f ts middle now) holds) opening.farm_is answered in
+      let over : AnswersAll status first begun after call (RecordsOver commits tells held left faults (record middle { farm = first }) now (view seat)) holds
+      = subst (λ (f : Farm). AnswersAll status f begun after call (RecordsOver commits tells held left faults (record middle { farm = f }) now (view seat)) holds) opening.farm_is answered in
       let moved = over.moved in
       let ends = over.ends in
       record {
@@ -324,15 +333,16 @@ module _ {K : Type 0} (commits : Committing K) (tells : K → Type 0) (held left
           safe = over.safe;
           marked = ends.marked;
           keeper = record {
-            opened = middle;
+            opened = middle.keeper;
             begins = begins;
-            recorded = subst (HoldsFarm (tells middle) (held middle) (left middle)) opening.farm_is recorded;
-            lines = ends.keeper;
+            recorded = subst (HoldsFarm (tells middle.keeper) (held middle.keeper) (left middle.keeper)) opening.farm_is recorded;
+            lines = ends.keeper.lines;
           };
           causes = subst (λ (count : ℕ). HasRisenBy (store_marks call.exchanges) count after.store_faults) (sym was)
               (subst (λ (count : ℕ). HasRisenBy (store_marks call.exchanges) (faults given) count) (sym is_now)
-              (opened_risen commits tells held left faults given middle now first call.exchanges begins ends.keeper));
+              (opened_risen commits tells held left faults given middle.keeper now first call.exchanges begins ends.keeper.lines));
           held = subst holds ends.farm_is over.held;
+          on_words = gives_seat seat middle.view opening.first (opening_entries form opened) (entries_in first call.exchanges) opening.begun ends.keeper.journals rests;
         }))));
         spent = λ lines. spent_session over.ended status call after.unread over.status_is ends.lines;
         complete = λ other said right unfailed unread unwritten few.
@@ -341,21 +351,21 @@ module _ {K : Type 0} (commits : Committing K) (tells : K → Type 0) (held left
       }
 
   -- a session or a load over a farm that was opened
-  pub called_opened : (form : WordForm) → form_of words ≡ Some form → IsOpened (says form) form opened farm → Tells before.readings mid (opened ∷ [])
-      → AnswersForm form status farm begun after call (λ ts. GoesOnOver commits tells held left faults farm ts middle now) holds
+  pub called_opened : (form : WordForm) → form_of words ≡ Some form → IsOpened (says form) form opened middle.farm middle.view → Tells before.readings mid (opened ∷ [])
+      → AnswersForm form status middle.farm begun after call (RecordsOver commits tells held left faults middle now (view seat)) holds (Journals middle.view (view seat))
       → (status ≡ exit.ReadFailed → HasRisen before.read_faults after.read_faults) → (status ≡ exit.WriteFailed → HasRisen before.write_faults after.write_faults)
-      → IsCall words status before after (opened_call opened call) says bad same untouched unmigrated (GoesOnOpened commits tells held left faults given now) holds
+      → IsCall words status before after (opened_call opened call) (Some seat) says bad same untouched unmigrated (GoesOnOpened commits tells held left faults given now) holds
   called_opened Demo formed opening reads answered read write = called_session Demo tt formed opening reads answered read write
   called_opened (Script store) formed opening reads answered read write = called_session (Script store) tt formed opening reads answered read write
   called_opened (Load n) formed opening reads answered read write =
-      called_load words n status opened farm call before after mid (faults middle) says bad same untouched unmigrated (GoesOnOpened commits tells held left faults given now) holds formed opening reads
-      (begins.counted ∙ sym was) answered write
+      called_load words n status opened middle seat call before after mid (faults middle.keeper) says bad same untouched unmigrated (GoesOnOpened commits tells held left faults given now) holds formed opening reads
+      (begins.counted ∙ sym was) rests answered write
 
 -- a load moves nothing but its sink and the keeper
 pub load_called : (n : ℕ) (status : Status) (first : Farm) (left : Option (List ℕ)) (r : ℕ) (written written' : Option (List ℕ)) (w w' : ℕ) (readings : Option (List ℕ)) (k k' : ℕ)
-    (wrote : List ℕ) (holds : Farm → Type 0) → Adds written written' wrote → AnswersLoad n first status wrote k k' holds
-    → AnswersLoadCall n status first (streams left r written w readings k) (streams left r written' w' readings k') (told_call wrote []) holds
-load_called n status first left r written written' w w' readings k k' wrote holds adds answered = record {
+    (wrote : List ℕ) (holds : Farm → Type 0) (journals : List Entry → Type 0) → Adds written written' wrote → AnswersLoad n first status wrote k k' holds journals
+    → AnswersLoadCall n status first (streams left r written w readings k) (streams left r written' w' readings k') (told_call wrote []) holds journals
+load_called n status first left r written written' w w' readings k k' wrote holds journals adds answered = record {
   moved = record { taken = Takes-none left; written = adds; readings = Tells-none readings };
   none_taken = refl;
   none_read = refl;

@@ -152,15 +152,15 @@ moved_more before mid after call took w s exchanges moved takes adds tells = rec
   readings = Tells-append before.readings mid.readings after.readings call.readings s moved.readings tells;
 }
 
-module _ (first : Farm) (call : Call) (farm after : Farm) (reader new : Held) (left left' : Option (List ℕ)) (took w s : List ℕ) (goes : Going) (same : Type 0)
-    (before now : List Exchange → Type 0) (on : GoesOnBy first farm goes same before now) (quietly : (ts : List Exchange) → same → before ts → now ts)
+module _ (first : Farm) (call : Call) (farm after : Farm) (reader new : Held) (left left' : Option (List ℕ)) (took w s : List ℕ) (goes : Going) (same still : Type 0)
+    (before now : List Exchange → Type 0) (on : GoesOnBy first farm goes same before now) (quietly : (ts : List Exchange) → still → before ts → now ts)
     (served : HasServed first call farm reader left before) (takes : Takes left left' took) where
   -- what is taken, written and read after the step, with these exchanges
   abbrev more_of : List Exchange → Call
   more_of exchanges = record { taken = call.taken ++ took; written = call.written ++ w; readings = call.readings ++ s; exchanges = exchanges }
 
   -- where the reader stands after the step
-  stands : (answer : Result Given LineFault) (result : Exchanged) → (step : IsStep result reader new left' farm after took w s goes same) → step.answer ≡ answer
+  stands : (answer : Result Given LineFault) (result : Exchanged) → (step : IsStep result reader new left' farm after took w s goes same still) → step.answer ≡ answer
       → Continues LINE_LIMIT (call.taken ++ took) (lines_in call.exchanges) answer new left'
   stands answer result step is =
       let Stands : Result Given LineFault → Type 0 = λ a. Continues LINE_LIMIT (call.taken ++ took) (lines_in call.exchanges) a new left' in
@@ -168,7 +168,8 @@ module _ (first : Farm) (call : Call) (farm after : Farm) (reader new : Held) (l
       (record { took = took; takes = takes; goes = step.moves; end = step.at_end }))
 
   -- the line was answered
-  pub served_went : (step : IsStep exchanged.Went reader new left' farm after took w s goes same) → (exchanges : List Exchange) × HasServed first (more_of exchanges) after new left' now
+  pub served_went : (step : IsStep exchanged.Went reader new left' farm after took w s goes same still)
+      → (exchanges : List Exchange) × HasServed first (more_of exchanges) after new left' now × (length exchanges ≡ length call.exchanges + 1)
   served_went step =
       let more = served_more first call farm after reader new left left' (call.taken ++ took) step.exchanges.0 w [] s goes same before now on served
       (stands (Ok step.exchanges.0) exchanged.Went step step.exchanges.1) step.exchanges.2 in
@@ -176,11 +177,12 @@ module _ (first : Farm) (call : Call) (farm after : Farm) (reader new : Held) (l
         exchanges,
         subst (λ (bytes : List ℕ). HasServed first (record { taken = call.taken ++ took; written = call.written ++ bytes; readings = call.readings ++ s; exchanges = exchanges }) after new left' now)
             (append-nil w) more.1,
+        length-append call.exchanges (more.0 ∷ []),
       )
 
   -- nothing was written or read in a step without a line, and the farm and the keeper are as before
   quiet : (result : Exchanged) → HasLines result (call.taken ++ took) (lines_in call.exchanges) left'
-      → (call.written ++ w ≡ transcript first call.exchanges → HasReplies result first call.exchanges (call.written ++ w)) → IsNoExchange farm after w s same
+      → (call.written ++ w ≡ transcript first call.exchanges → HasReplies result first call.exchanges (call.written ++ w)) → IsNoExchange farm after w s still
       → EndsSession result first after (more_of call.exchanges) left' now
   quiet result lines replies none = record {
     lines = lines;
@@ -189,11 +191,11 @@ module _ (first : Farm) (call : Call) (farm after : Farm) (reader new : Held) (l
     within = served.answered.within;
     farm_is = none.farm_same ∙ served.answered.farm_is;
     marked = served.answered.marked;
-    keeper = quietly call.exchanges none.keeper_same served.answered.keeper;
+    keeper = quietly call.exchanges none.recorder_same served.answered.keeper;
   }
 
   -- at the end of the source the reader took fewer bytes than it takes at most
-  unspent : (result : Exchanged) (step : IsStep result reader new left' farm after took w s goes same) → step.answer ≡ Ok AtEnd → length (call.taken ++ took) < BYTE_LIMIT
+  unspent : (result : Exchanged) (step : IsStep result reader new left' farm after took w s goes same still) → step.answer ≡ Ok AtEnd → length (call.taken ++ took) < BYTE_LIMIT
   unspent result step is =
       let moves : Goes reader took (Ok AtEnd) new = subst (λ (a : Result Given LineFault). Goes reader took a new) is step.moves in
       subst (λ (count : ℕ). count < BYTE_LIMIT)
@@ -201,7 +203,7 @@ module _ (first : Farm) (call : Call) (farm after : Farm) (reader new : Held) (l
       (moves.unspent (moves.leaves served.given.pending served.given.is_pending).cuts.ended)
 
   -- the session ended
-  pub served_ended : (result : Exchanged) → (result ≡ exchanged.Went → ⊥) → IsStep result reader new left' farm after took w s goes same
+  pub served_ended : (result : Exchanged) → (result ≡ exchanged.Went → ⊥) → IsStep result reader new left' farm after took w s goes same still
       → (exchanges : List Exchange) × EndsSession result first after (more_of exchanges) left' now
   served_ended exchanged.Went ends step = absurd (ends refl)
   served_ended exchanged.End ends step =

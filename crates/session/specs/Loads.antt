@@ -2,6 +2,7 @@
 use Rattle.std.specs.Prelude.{◌≡◌, ◌<◌, ◌++◌, [], ◌⊎◌, ℕ, List, length}
 use Rattle.command_line.specs.declared.status.Status.{Status}
 use Rattle.command_line.specs.declared.status.Status.TheVariants as exit
+use Rattle.farm_types.specs.declared.entry.Entry.{Entry}
 use Rattle.farm_types.specs.Farm.{Farm}
 use Rattle.farm_types.specs.Run.{IsLegal, IsSafe}
 use Rattle.farm_lines.specs.Transcript.{Mark}
@@ -23,9 +24,10 @@ TellsEnd (load_end.Finished summary) status wrote = TellsSummary (summary_text s
 TellsEnd load_end.Spent status wrote = (status ≡ exit.Spent) × (wrote ≡ [])
 TellsEnd load_end.NoMemory status wrote = (status ≡ exit.NoMemory) × (wrote ≡ [])
 
--- A load was run over a farm that was opened. The entries that it recorded are a legal run from that farm, and a safe one, and the store holds the farm
--- that they make.
-pub record AnswersLoad (n : ℕ) (first : Farm) (status : Status) (wrote : List ℕ) (faults faults_now : ℕ) (holds : Farm → Type 0) : Type 0 where
+-- A load was run over a farm that was opened. The entries that it recorded are a legal run from that farm, and a safe one, the store holds the farm that
+-- they make, and the journal has exactly these entries more.
+pub record AnswersLoad (n : ℕ) (first : Farm) (status : Status) (wrote : List ℕ) (faults faults_now : ℕ) (holds : Farm → Type 0)
+    (journals : List Entry → Type 0) : Type 0 where
   pub marks : List Mark
   pub ended : LoadEnd
   pub are_marks : AreMarks n (load_start first) marks
@@ -35,3 +37,4 @@ pub record AnswersLoad (n : ℕ) (first : Farm) (status : Status) (wrote : List 
   pub legal : IsLegal first (load_run n first marks).recorded
   pub safe : IsSafe first (load_run n first marks).recorded
   pub held : holds (load_run n first marks).farm
+  pub on_words : journals (load_run n first marks).recorded

@@ -11,7 +11,9 @@ use Rattle.farm_keeper.specs.declared.fault.KeeperFault.{KeeperFault}
 use Rattle.farm_keeper.specs.declared.fault.KeeperFault.TheVariants as keeper_fault
 use Rattle.recorder.specs.declared.refusal.RecordFault.{RecordFault}
 use Rattle.recorder.specs.declared.refusal.RecordFault.TheVariants as record_fault
-use Rattle.recorder.specs.Recording.{HasRecorded, Recording}
+use Rattle.recorder.specs.Recording.{HasRecorded}
+use Rattle.booking_rule.specs.declared.view.View.{View}
+use Rattle.recording_core.specs.Machine.{IsBooking}
 use Rattle.recovery.specs.declared.fault.RecoverFault.TheVariants as recover_fault
 use Rattle.recovery.specs.declared.fault.RecoverFault.{RecoverFault}
 use Rattle.recovery.specs.declared.recovering.Recovered.{Recovered}
@@ -24,6 +26,7 @@ use Rattle.session.specs.declared.opening.OpenFault.{OpenFault}
 use Rattle.session.specs.declared.opening.OpenFault.TheVariants as fault
 use Rattle.session.specs.declared.opening.Opening.{Opening}
 use Rattle.session.specs.declared.opening.Opening.TheVariants as opening
+use Rattle.session.specs.Seats.{IsBegun}
 use Rattle.session.specs.Words.{WordForm, Demo, Script, Load, opened_farm, opening_entries}
 
 -- ---- what is known of a keeper
@@ -91,6 +94,10 @@ abbrev pub GoesThrough : {T : Type 0} → Farm → List Entry → Result T Recor
 GoesThrough old es (Ok _) new = new ≡ run_of old es
 GoesThrough old es (Err fault) new = (done : ℕ) × (new ≡ run_of old (take done es))
 
+-- the entry is no booking
+abbrev pub IsUnbooked : Entry → Type 0
+IsUnbooked e = IsBooking e.act → ⊥
+
 -- why a keeper, its rows or the recording of an entry let no farm be opened
 abbrev pub of_keeper : KeeperFault → OpenFault
 of_keeper keeper_fault.Failed = fault.Store
@@ -104,20 +111,22 @@ abbrev pub of_record : RecordFault → OpenFault
 of_record record_fault.Store = fault.Store
 of_record record_fault.NoMemory = fault.NoMemory
 
--- a farm's opening was recorded, or a part of it
-abbrev pub Begins : {K : Type 0} → (K → Type 0) → (K → Rows → Type 0) → (K → Rows → Type 0) → (K → ℕ) → WordForm → ℕ → Recording K → Opening K → Type 0
-Begins tells held left faults form moment old (opening.Opened r) =
-    (r.farm ≡ opened_farm form old.farm moment) × Continues tells faults old.keeper r.keeper false
-Begins tells held left faults form moment old (opening.Failed now why) =
-    ((done : ℕ) × HoldsFarm (tells now) (held now) (left now) (run_of old.farm (take done (opening_entries form moment)))) × IsRecordFault why
-    × Continues tells faults old.keeper now (is_of_store why)
+-- the opening of a farm over a keeper that holds it was recorded, and is the seat's journal; or a part of it was recorded
+abbrev pub Begins : {K N : Type 0} → (K → Type 0) → (K → Rows → Type 0) → (K → Rows → Type 0) → (K → ℕ) → WordForm → ℕ → Farm → K → Opening K N
+    → Type 0
+Begins tells held left faults form moment first old (opening.Opened r) =
+    (r.farm ≡ opened_farm form first moment) × Continues tells faults old r.keeper false × IsBegun r.view first (opening_entries form moment)
+Begins tells held left faults form moment first old (opening.Failed now why) =
+    ((done : ℕ) × HoldsFarm (tells now) (held now) (left now) (run_of first (take done (opening_entries form moment)))) × IsRecordFault why
+    × Continues tells faults old now (is_of_store why)
 
--- the farm was opened: that of the rows, with the entries of the opening, which are a legal run
-pub record IsOpened (says : Farm → Type 0) (form : WordForm) (moment : ℕ) (farm : Farm) : Type 0 where
+-- the farm was opened: that of the rows, with the entries of the opening, which are a legal run, and are the seat's journal from the farm of the rows
+pub record IsOpened (says : Farm → Type 0) (form : WordForm) (moment : ℕ) (farm : Farm) (view : View) : Type 0 where
   pub first : Farm
   pub said : says first
   pub legal : IsLegal first (opening_entries form moment)
   pub farm_is : farm ≡ opened_farm form first moment
+  pub begun : IsBegun view first (opening_entries form moment)
 
 -- the rows of the farm that they say were to be migrated, and they weren't
 pub record IsLeftOld (says : Farm → Type 0) (unmigrated : Farm → Type 0) : Type 0 where
@@ -164,9 +173,9 @@ HasFailed other bad untouched old part = untouched ⊎ (old ⊎ part)
 
 -- A farm was opened, or not. The keeper's count of faults is one more where the store failed, and stands where it didn't; one that doesn't tell the truth
 -- never does again.
-abbrev pub Opens : {K : Type 0} → (K → Type 0) → (K → Rows → Type 0) → (K → Rows → Type 0) → (K → ℕ) → WordForm → ℕ → K → Opening K → Type 0
+abbrev pub Opens : {K N : Type 0} → (K → Type 0) → (K → Rows → Type 0) → (K → Rows → Type 0) → (K → ℕ) → WordForm → ℕ → K → Opening K N → Type 0
 Opens tells held left faults form moment old (opening.Opened r) =
-    IsOpened (BeginsWith form (tells r.keeper) (held old)) form moment r.farm × Continues tells faults old r.keeper false
+    IsOpened (BeginsWith form (tells r.keeper) (held old)) form moment r.farm r.view × Continues tells faults old r.keeper false
 Opens tells held left faults form moment old (opening.Failed now why) =
     HasFailed why (BeginsBad form (tells now) (held old)) (tells now → IsUntouched (held old) (left old) (held now) (left now))
     (IsLeftOld (BeginsWith form (tells now) (held old)) (λ f. tells now → IsUnmigrated (held old) (held now) (left now) f))
@@ -182,12 +191,12 @@ MigratesFrom format holds left holds' left' f (Ok done) = HasRows holds left for
 MigratesFrom format holds left holds' left' f (Err why) = (format ≡ 1) × IsRecordFault why × (HasRows holds left 1 f → HasOldRows holds' left' f)
 
 -- the rows of format 1 weren't migrated
-abbrev pub StaysOld : {K : Type 0} → ℕ → (K → Type 0) → (K → Rows → Type 0) → (K → Rows → Type 0) → (K → ℕ) → Farm → K → Opening K → Type 0
+abbrev pub StaysOld : {K N : Type 0} → ℕ → (K → Type 0) → (K → Rows → Type 0) → (K → Rows → Type 0) → (K → ℕ) → Farm → K → Opening K N → Type 0
 StaysOld format tells holds left faults f old (opening.Opened r) = ⊥
 StaysOld format tells holds left faults f old (opening.Failed now why) =
     (format ≡ 1) × IsRecordFault why × (tells now → HasOldRows (holds now) (left now) f) × Continues tells faults old now (is_of_store why)
 
 -- the opening of a farm over a keeper that had its rows in a format was recorded, or a part of it; or these weren't migrated
-abbrev pub BeginsIn : {K : Type 0} → ℕ → (K → Type 0) → (K → Rows → Type 0) → (K → Rows → Type 0) → (K → ℕ) → WordForm → ℕ → Farm → K → Opening K → Type 0
+abbrev pub BeginsIn : {K N : Type 0} → ℕ → (K → Type 0) → (K → Rows → Type 0) → (K → Rows → Type 0) → (K → ℕ) → WordForm → ℕ → Farm → K → Opening K N → Type 0
 BeginsIn format tells holds left faults form moment f old result =
-    Begins tells holds left faults form moment (record { farm = f; keeper = old }) result ⊎ StaysOld format tells holds left faults f old result
+    Begins tells holds left faults form moment f old result ⊎ StaysOld format tells holds left faults f old result

@@ -1,5 +1,5 @@
 -- What a whole call does: what it took, wrote and read of the clock, the exchanges that it made, and how it ended.
-use Rattle.std.specs.Prelude.{◌≡◌, ◌↔◌, ◌<◌, ◌^◌, ◌++◌, ◌∷◌, [], ◌⊎◌, ℕ, Bool, List, true, false, count_by, length, take, Option, Some, Result, Ok, Err}
+use Rattle.std.specs.Prelude.{◌≡◌, ◌↔◌, ◌<◌, ◌^◌, ◌++◌, ◌∷◌, [], ◌⊎◌, ℕ, Bool, List, true, false, count_by, length, take, Option, None, Some, Result, Ok, Err}
 use Rattle.std.specs.List.{All}
 use Rattle.cue_io.specs.declared.line.LineFault.{LineFault}
 use Rattle.cue_io.specs.declared.line.LineFault.TheVariants as line_fault
@@ -20,9 +20,13 @@ use Rattle.farm_types.specs.declared.entry.Entry.{Entry}
 use Rattle.farm_lines.specs.Reply.{bad_store_line, reply_text}
 use Rattle.farm_lines.specs.Transcript.{Mark, Plain, Exchange, answer_at, answer_to, transcript, farm_after, farm_next, entries_in, is_store_mark}
 use Rattle.farm_lines.specs.Transcript.{lines_in, moments_in}
+use Rattle.atomic_table.specs.declared.shared.Seat.{Seat}
+use Rattle.booking_recorder.specs.Going.{GoesOn, Journals}
+use Rattle.booking_recorder.specs.Recording.{Recording}
+use Rattle.booking_rule.specs.declared.view.View.{View}
 use Rattle.line_answers.specs.LineAnswers.{Going, IsAnswer, IsMarked}
 use Rattle.recorder.specs.Recording.{ChangesNone}
-use Rattle.recorder.specs.Telling.{GoesOn, Tells as TellsKeeper}
+use Rattle.recorder.specs.Telling.{Tells as TellsKeeper}
 use Rattle.recovery.specs.declared.fault.RecoverFault.{RecoverFault}
 use Rattle.recovery.specs.declared.fault.RecoverFault.TheVariants.{BadBytes, BreaksFarm, NoMemory}
 use Rattle.session.specs.declared.exchanged.Exchanged.{Exchanged}
@@ -31,6 +35,7 @@ use Rattle.session.specs.declared.opening.OpenFault.{OpenFault}
 use Rattle.session.specs.declared.opening.OpenFault.TheVariants as fault
 use Rattle.session.specs.Loads.{AnswersLoad}
 use Rattle.session.specs.Opening.{HoldsFarm}
+use Rattle.session.specs.Seats.{GivesSeat}
 use Rattle.session.specs.Words.{WordForm, Load, TakesLines, form_of, is_load, opened_farm, opening_entries}
 use Rattle.farm_lines.specs.declared.limits.TheConstants.{LINE_LIMIT}
 
@@ -71,21 +76,22 @@ pub record IsExchange (given : Given) (old new : Farm) (wrote unwritten seen : L
   pub stays : StaysAt given old moment same
   pub written : wrote ++ unwritten ≡ reply
 
--- nothing was answered, and the keeper is as before
-pub record IsNoExchange (old new : Farm) (wrote seen : List ℕ) (same : Type 0) : Type 0 where
+-- nothing was answered, and the recorder is as before
+pub record IsNoExchange (old new : Farm) (wrote seen : List ℕ) (still : Type 0) : Type 0 where
   pub farm_same : new ≡ old
-  pub keeper_same : same
+  pub recorder_same : still
   pub none_written : wrote ≡ []
   pub none_read : seen ≡ []
 
 -- what came of a call of the reader, by what it gave
-abbrev pub Exchanges : Exchanged → Result Given LineFault → Farm → Farm → List ℕ → List ℕ → Going → Type 0 → Type 0
-Exchanges exchanged.Went answer old new wrote seen goes same = (given : Given) × (answer ≡ Ok given) × IsExchange given old new wrote [] seen goes same
-Exchanges exchanged.Write answer old new wrote seen goes same =
+abbrev pub Exchanges : Exchanged → Result Given LineFault → Farm → Farm → List ℕ → List ℕ → Going → Type 0 → Type 0 → Type 0
+Exchanges exchanged.Went answer old new wrote seen goes same still =
+    (given : Given) × (answer ≡ Ok given) × IsExchange given old new wrote [] seen goes same
+Exchanges exchanged.Write answer old new wrote seen goes same still =
     (given : Given) × (unwritten : List ℕ) × (answer ≡ Ok given) × (0 < length unwritten) × IsExchange given old new wrote unwritten seen goes same
-Exchanges exchanged.End answer old new wrote seen goes same = (answer ≡ Ok AtEnd) × IsNoExchange old new wrote seen same
-Exchanges exchanged.Read answer old new wrote seen goes same = (answer ≡ Err line_fault.Read) × IsNoExchange old new wrote seen same
-Exchanges exchanged.Spent answer old new wrote seen goes same = (answer ≡ Err line_fault.Spent) × IsNoExchange old new wrote seen same
+Exchanges exchanged.End answer old new wrote seen goes same still = (answer ≡ Ok AtEnd) × IsNoExchange old new wrote seen still
+Exchanges exchanged.Read answer old new wrote seen goes same still = (answer ≡ Err line_fault.Read) × IsNoExchange old new wrote seen still
+Exchanges exchanged.Spent answer old new wrote seen goes same still = (answer ≡ Err line_fault.Spent) × IsNoExchange old new wrote seen still
 
 -- all of the reply's text was written, or a front of it
 abbrev pub Sends : Exchanged → List ℕ → List ℕ → Type 0
@@ -97,11 +103,11 @@ Sends exchanged.Spent text wrote = ⊥
 
 -- one step: what the reader did with the bytes taken, and what was done with what it gave
 pub record IsStep (result : Exchanged) (old new : Held) (unread : Option (List ℕ)) (before after : Farm) (took wrote seen : List ℕ) (goes : Going)
-    (same : Type 0) : Type 0 where
+    (same still : Type 0) : Type 0 where
   pub answer : Result Given LineFault
   pub moves : Goes old took answer new
   pub at_end : old.ended ≡ false → new.ended ≡ true → IsAtEnd unread
-  pub exchanges : Exchanges result answer before after wrote seen goes same
+  pub exchanges : Exchanges result answer before after wrote seen goes same still
 
 -- ---- what a call took, wrote and read
 
@@ -144,11 +150,11 @@ AreMarked f (t ∷ ts) = IsMarked f t.line t.moment t.mark × AreMarked (farm_ne
 
 -- ---- the keeper, line by line
 
--- how a keeper went on over what was asked, and, where it tells the truth, that it holds the rows of what was recorded
-pub record WentOn {K : Type 0} (commits : Committing K) (tells : K → Type 0) (holds left : K → Rows → Type 0) (faults : K → ℕ) (f : Farm) (before now : K)
+-- how a recorder went on over what was asked, and, where its keeper tells the truth, that this holds the rows of what was recorded
+pub record WentOn {K : Type 0} (commits : Committing K) (tells : K → Type 0) (holds left : K → Rows → Type 0) (faults : K → ℕ) (before now : Recording K)
     (all done : List Entry) (failed : Bool) : Type 0 where
-  pub on : GoesOn commits tells faults f before now all done failed
-  pub recorded : HoldsFarm (tells now) (holds now) (left now) (run_of f done)
+  pub on : GoesOn commits tells faults before now all done failed
+  pub recorded : HoldsFarm (tells now.keeper) (holds now.keeper) (left now.keeper) (run_of before.farm done)
 
 -- How a keeper went on over one line. Its count of faults is one more exactly where the line's mark is of the store. It is as before where nothing that
 -- the line asks changes a row. It was told what was recorded, entry by entry, and took it, and of what else the line asks the next entry at most: it failed
@@ -166,6 +172,12 @@ abbrev pub GoesOnOver : {K : Type 0} → Committing K → (K → Type 0) → (K 
 GoesOnOver commits tells holds left faults f [] before now = now ≡ before
 GoesOnOver {K = K} commits tells holds left faults f (t ∷ ts) before now =
     (next : K) × GoesOnAt commits tells holds left faults f t before next × GoesOnOver commits tells holds left faults (farm_next f t) ts next now
+
+-- how a recorder went on over lines in turn, up to this keeper and this view: its journal has exactly their entries more
+pub record RecordsOver {K : Type 0} (commits : Committing K) (tells : K → Type 0) (holds left : K → Rows → Type 0) (faults : K → ℕ) (before : Recording K)
+    (now : K) (v : View) (ts : List Exchange) : Type 0 where
+  pub lines : GoesOnOver commits tells holds left faults before.farm ts before.keeper now
+  pub journals : Journals before.view v (entries_in before.farm ts)
 
 -- from the opening of a farm on, in which no call of it failed, and which it recorded
 pub record GoesOnOpened {K : Type 0} (commits : Committing K) (tells : K → Type 0) (holds left : K → Rows → Type 0) (faults : K → ℕ) (given now : K) (f : Farm)
@@ -250,25 +262,26 @@ pub record AnswersAll (status : Status) (first : Farm) (before after : Streams) 
   pub safe : IsSafe first (entries_in first call.exchanges)
   pub held : holds last
 
--- A load over a farm that was opened moved nothing but its sink and the keeper.
-pub record AnswersLoadCall (n : ℕ) (status : Status) (first : Farm) (before after : Streams) (call : Call) (holds : Farm → Type 0) : Type 0 where
+-- A load over a farm that was opened moved nothing but its sink, the keeper and the journal.
+pub record AnswersLoadCall (n : ℕ) (status : Status) (first : Farm) (before after : Streams) (call : Call) (holds : Farm → Type 0)
+    (journals : List Entry → Type 0) : Type 0 where
   pub moved : HasMoved before after call
   pub none_taken : call.taken ≡ []
   pub none_read : call.readings ≡ []
   pub no_lines : call.exchanges ≡ []
-  pub answered : AnswersLoad n first status call.written before.store_faults after.store_faults holds
+  pub answered : AnswersLoad n first status call.written before.store_faults after.store_faults holds journals
 
 -- what the arguments ask for was done over a farm that was opened
-abbrev pub AnswersForm : WordForm → Status → Farm → Streams → Streams → Call → (List Exchange → Type 0) → (Farm → Type 0) → Type 0
-AnswersForm (Load n) status first before after call goes_on holds = AnswersLoadCall n status first before after call holds
-AnswersForm other status first before after call goes_on holds = AnswersAll status first before after call goes_on holds
+abbrev pub AnswersForm : WordForm → Status → Farm → Streams → Streams → Call → (List Exchange → Type 0) → (Farm → Type 0) → (List Entry → Type 0) → Type 0
+AnswersForm (Load n) status first before after call goes_on holds journals = AnswersLoadCall n status first before after call holds journals
+AnswersForm other status first before after call goes_on holds journals = AnswersAll status first before after call goes_on holds
 
 -- The arguments ask for a session of lines, and the farm of the store was opened at the clock's first reading, with the entries of the form. The session
 -- over it ended with this status. Its lines are those of the bytes taken, and what it wrote are their replies, each at a reading of the clock. The entries that
 -- it recorded are a legal run from the opened farm, and a safe one, and the store holds the farm that they make. The keeper's count of faults rose by
--- exactly as many as there are marks of the store, one at the line of each.
+-- exactly as many as there are marks of the store, one at the line of each. The seat's journal has the opening's entries and then those of the lines.
 pub record IsSession (words : List (List ℕ)) (status : Status) (call : Call) (unread : Option (List ℕ)) (faults faults_now : ℕ)
-    (says : WordForm → Farm → Type 0) (goes_on : Farm → List Exchange → Type 0) (holds : Farm → Type 0) : Type 0 where
+    (seat : Option (Seat (Unit {0}) View)) (says : WordForm → Farm → Type 0) (goes_on : Farm → List Exchange → Type 0) (holds : Farm → Type 0) : Type 0 where
   pub form : WordForm
   pub opened : ℕ
   pub ended : Exchanged
@@ -287,11 +300,12 @@ pub record IsSession (words : List (List ℕ)) (status : Status) (call : Call) (
   pub keeper : goes_on (opened_farm form first opened) call.exchanges
   pub causes : HasRisenBy (store_marks call.exchanges) faults faults_now
   pub held : holds (farm_after (opened_farm form first opened) call.exchanges)
+  pub on_words : GivesSeat seat first (opening_entries form opened ++ entries_in (opened_farm form first opened) call.exchanges)
 
 -- The arguments ask for a load, and its farm was opened, at moment 0: the clock was read once, for nothing, and no line was taken. The load was run over
--- that farm.
-pub record IsLoadCall (words : List (List ℕ)) (status : Status) (call : Call) (faults faults_now : ℕ) (says : WordForm → Farm → Type 0)
-    (holds : Farm → Type 0) : Type 0 where
+-- that farm. The seat's journal has the opening's entries and then those of the load.
+pub record IsLoadCall (words : List (List ℕ)) (status : Status) (call : Call) (faults faults_now : ℕ) (seat : Option (Seat (Unit {0}) View))
+    (says : WordForm → Farm → Type 0) (holds : Farm → Type 0) : Type 0 where
   pub n : ℕ
   pub reading : ℕ
   pub first : Farm
@@ -302,6 +316,7 @@ pub record IsLoadCall (words : List (List ℕ)) (status : Status) (call : Call) 
   pub no_lines : call.exchanges ≡ []
   pub opening_legal : IsLegal first (opening_entries (Load n) reading)
   pub answered : AnswersLoad n (opened_farm (Load n) first reading) status call.written faults faults_now holds
+      (λ recorded. GivesSeat seat first (opening_entries (Load n) reading ++ recorded))
 
 -- The opening, at the clock's one reading, went so far: these of its entries, which are a legal run, are in the store.
 pub record IsOpening (words : List (List ℕ)) (call : Call) (says : WordForm → Farm → Type 0) (holds : Farm → Type 0) : Type 0 where
@@ -316,8 +331,8 @@ pub record IsOpening (words : List (List ℕ)) (call : Call) (says : WordForm �
   pub held : holds (run_of first (take done (opening_entries form opened)))
 
 -- The arguments are invalid, or memory ran out before anything was done: nothing was taken or written, the clock wasn't read, and the keeper is the one
--- that was handed in.
-pub record IsUnstarted (status : Status) (before after : Streams) (call : Call) (same : Type 0) : Type 0 where
+-- that was handed in. No seat is given back.
+pub record IsUnstarted (status : Status) (before after : Streams) (call : Call) (seat : Option (Seat (Unit {0}) View)) (same : Type 0) : Type 0 where
   pub status_is : (status ≡ exit.WrongWords) ⊎ (status ≡ exit.NoMemory)
   pub still : after ≡ before
   pub none_taken : call.taken ≡ []
@@ -325,6 +340,7 @@ pub record IsUnstarted (status : Status) (before after : Streams) (call : Call) 
   pub none_read : call.readings ≡ []
   pub no_lines : call.exchanges ≡ []
   pub keeper_same : same
+  pub no_seat : seat ≡ None
 
 -- The rows of the store, which are of format 1, say a farm, and they were to be migrated, and weren't.
 pub record IsOldStore (words : List (List ℕ)) (says : WordForm → Farm → Type 0) (unmigrated : Farm → Type 0) : Type 0 where
@@ -334,9 +350,9 @@ pub record IsOldStore (words : List (List ℕ)) (says : WordForm → Farm → Ty
   pub said : says form first
   pub left_old : unmigrated first
 
--- The store failed or memory ran out in the opening, at the clock's one reading: nothing was taken or written.
-pub record IsUnopened (words : List (List ℕ)) (status : Status) (call : Call) (says : WordForm → Farm → Type 0) (untouched : Type 0)
-    (unmigrated holds : Farm → Type 0) : Type 0 where
+-- The store failed or memory ran out in the opening, at the clock's one reading: nothing was taken or written, and no seat is given back.
+pub record IsUnopened (words : List (List ℕ)) (status : Status) (call : Call) (seat : Option (Seat (Unit {0}) View)) (says : WordForm → Farm → Type 0)
+    (untouched : Type 0) (unmigrated holds : Farm → Type 0) : Type 0 where
   pub status_is : (status ≡ exit.StoreFailed) ⊎ (status ≡ exit.NoMemory)
   pub reading : ℕ
   pub readings : call.readings ≡ reading ∷ []
@@ -344,6 +360,7 @@ pub record IsUnopened (words : List (List ℕ)) (status : Status) (call : Call) 
   pub none_written : call.written ≡ []
   pub no_lines : call.exchanges ≡ []
   pub kept : untouched ⊎ (IsOldStore words says unmigrated ⊎ IsOpening words call says holds)
+  pub no_seat : seat ≡ None
 
 -- all of the line was written, or a write failed and a front of it was
 abbrev pub TellsLine : List ℕ → Status → List ℕ → Type 0
@@ -367,7 +384,9 @@ TellsFault (fault.Bad why) status wrote = MayTell (TellsBad why status wrote) st
 TellsFault fault.NoMemory status wrote = (status ≡ exit.NoMemory) × (wrote ≡ [])
 
 -- The store's rows, which were read at the clock's one reading, say no farm: the first one at fault was told, nothing was taken, and the store is as it was.
-pub record IsBadStore (words : List (List ℕ)) (status : Status) (call : Call) (bad : WordForm → RecoverFault → Type 0) (untouched : Type 0) : Type 0 where
+-- No seat is given back.
+pub record IsBadStore (words : List (List ℕ)) (status : Status) (call : Call) (seat : Option (Seat (Unit {0}) View))
+    (bad : WordForm → RecoverFault → Type 0) (untouched : Type 0) : Type 0 where
   pub form : WordForm
   pub fault : RecoverFault
   pub reading : ℕ
@@ -378,6 +397,7 @@ pub record IsBadStore (words : List (List ℕ)) (status : Status) (call : Call) 
   pub none_taken : call.taken ≡ []
   pub no_lines : call.exchanges ≡ []
   pub kept : untouched
+  pub no_seat : seat ≡ None
 
 -- the input was read to its end, each of its lines answered, or the job of a load finished; or memory ran out, and nothing was taken or written
 abbrev pub EndsEarly : Status → Call → Type 0
@@ -391,15 +411,16 @@ EndsWell other status call = EndsEarly status call
 -- A call for these arguments that answered this status. Of its keeper it is known which farm is said, or why none is, that it is the one that was handed
 -- in, that its rows are as they were, that they weren't migrated, how it went on line by line, or that it holds a farm. It was a session, a load, or none.
 -- But for a load, status 8 comes exactly where the bytes that one session takes are spent and no write failed. Where the arguments are valid and a farm is
--- said, nothing but an I/O error, a fault of the store and that limit ends the call early.
-pub record IsCall (words : List (List ℕ)) (status : Status) (before after : Streams) (call : Call) (says : WordForm → Farm → Type 0)
-    (bad : WordForm → RecoverFault → Type 0) (same untouched : Type 0) (unmigrated : Farm → Type 0) (goes_on : Farm → List Exchange → Type 0)
-    (holds : Farm → Type 0) : Type 0 where
+-- said, nothing but an I/O error, a fault of the store and that limit ends the call early. A seat is given back where a farm was opened, and its journal
+-- has exactly what was recorded.
+pub record IsCall (words : List (List ℕ)) (status : Status) (before after : Streams) (call : Call) (seat : Option (Seat (Unit {0}) View))
+    (says : WordForm → Farm → Type 0) (bad : WordForm → RecoverFault → Type 0) (same untouched : Type 0) (unmigrated : Farm → Type 0)
+    (goes_on : Farm → List Exchange → Type 0) (holds : Farm → Type 0) : Type 0 where
   pub moved : HasMoved before after call
-  pub session : IsUnstarted status before after call same ⊎ (IsUnopened words status call says untouched unmigrated holds
-      ⊎ (IsBadStore words status call bad untouched
-      ⊎ (IsSession words status call after.unread before.store_faults after.store_faults says goes_on holds
-      ⊎ IsLoadCall words status call before.store_faults after.store_faults says holds)))
+  pub session : IsUnstarted status before after call seat same ⊎ (IsUnopened words status call seat says untouched unmigrated holds
+      ⊎ (IsBadStore words status call seat bad untouched
+      ⊎ (IsSession words status call after.unread before.store_faults after.store_faults seat says goes_on holds
+      ⊎ IsLoadCall words status call before.store_faults after.store_faults seat says holds)))
   pub spent : is_load (form_of words) ≡ false → (status ≡ exit.Spent) ↔ ((length call.taken ≡ BYTE_LIMIT) × (status ≡ exit.WriteFailed → ⊥))
   pub complete : (form : WordForm) → form_of words ≡ Some form → ((fault : RecoverFault) → bad form fault → ⊥)
       → (HasRisen before.store_faults after.store_faults → ⊥) → (HasRisen before.read_faults after.read_faults → ⊥)

@@ -10,6 +10,7 @@ ghost use Rattle.session.specs.Words.{WordForm, form_of};
 use crate::run::run_cuebot;
 use crate::word_forms::form;
 use crate::words::Form;
+use booking_table::Seat;
 use command_line::Status;
 use cue_io::{Clock, Sink, Source, write_all};
 use farm_keeper::Keeper;
@@ -32,7 +33,7 @@ pub fn run_program<S: Source, W: Sink, E: Sink, K: Keeper, C: Clock>(
     errors: &mut E,
     keeper: K,
     clock: &mut C,
-) -> (Status, K)
+) -> (Status, K, Option<Seat>)
     requires { (form : WordForm) → form_of words.now ≡ Some form → K.tells keeper → MayOpen form (K.holds keeper) (K.left keeper) }
 
     // WrongWords comes exactly where the words are invalid, and then nothing is read, written or loaded.
@@ -42,7 +43,7 @@ pub fn run_program<S: Source, W: Sink, E: Sink, K: Keeper, C: Clock>(
     // What was taken, written and read of the clock, and the exchanges, as `run_cuebot` says.
     ensures call { (call : Call) × IsCall words.now result.0
         (streams (S.left source.old) (S.faults source.old) (W.written sink.old) (W.faults sink.old) (C.readings clock.old) (K.faults keeper))
-        (streams (S.left source.new) (S.faults source.new) (W.written sink.new) (W.faults sink.new) (C.readings clock.new) (K.faults result.1)) call
+        (streams (S.left source.new) (S.faults source.new) (W.written sink.new) (W.faults sink.new) (C.readings clock.new) (K.faults result.1)) call result.2
         (λ form. BeginsWith form (K.tells result.1) (K.holds keeper)) (λ form. BeginsBad form (K.tells result.1) (K.holds keeper))
         (result.1 ≡ keeper) (K.tells result.1 → IsUntouched (K.holds keeper) (K.left keeper) (K.holds result.1) (K.left result.1))
         (λ f. K.tells result.1 → IsUnmigrated (K.holds keeper) (K.holds result.1) (K.left result.1) f)

@@ -105,7 +105,7 @@ fn run_between<K: Keeper>(
     keeper: K,
     failing: Option<u64>,
 ) -> (Result<Told, AllocError>, K) {
-    let (status, watched) = run_cuebot(
+    let (status, watched, _seat) = run_cuebot(
         alloc,
         edges.words.as_slice(),
         &mut edges.source,

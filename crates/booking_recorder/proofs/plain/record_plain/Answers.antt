@@ -1,7 +1,7 @@
 use Rattle.farm_keeper.proofs.KeepingLaws.{Continues-as}
 use Rattle.farm_core.specs.Change.{after_change}
 use Rattle.booking_recorder.specs.Faults.{is_store_fault}
-use Rattle.booking_recorder.proofs.Stopped.{records_plain, store_plain, told_plain, unheld_plain, unspent_plain}
+use Rattle.booking_recorder.proofs.Stopped.{never_held_plain, records_plain, store_plain, told_plain, unheld_plain, unspent_plain}
 use Rattle.booking_recorder.proofs.plain.record_plain.Goals as goal
 
 pub returns-in_err-record-clause-farm : goal.returns-in_err-record-clause-farm
@@ -32,3 +32,6 @@ returns-in_err-record-clause-unspent g c = unspent_plain _ c.from_residual.resul
 pub returns-in_err-record-clause-unheld : goal.returns-in_err-record-clause-unheld
 returns-in_err-record-clause-unheld g c =
     λ v w. unheld_plain c.args.plain.now.farm c.args.entry.now v w _ c.from_residual.result c.from_residual.ensures.1
+
+pub returns-in_err-record-clause-never_held : goal.returns-in_err-record-clause-never_held
+returns-in_err-record-clause-never_held g c = never_held_plain _ c.from_residual.result c.from_residual.ensures.1

@@ -1,8 +1,9 @@
 use Rattle.std.proofs.Common.{ℕ, refl, sym, subst}
-use Rattle.farm_keeper.specs.Keeping.{Continues}
 use Rattle.farm_types.specs.Formed.{IsFormed}
 use Rattle.farm_lines.specs.Asked.{heard_entry}
 use Rattle.farm_lines.specs.declared.report.Report.{Report}
+use Rattle.farm_load.specs.Turns.{Recorded}
+use Rattle.booking_recorder.proofs.Journaled.{journals_none}
 use Rattle.farm_load.specs.Loads.{load_report, round_after}
 use Rattle.farm_load.proofs.LegalLemmas.{report_formed}
 use Rattle.farm_load.proofs.TurnLemmas.{not_reported}
@@ -12,8 +13,8 @@ use Rattle.farm_load.proofs.turns.host_turn.Goals as goal
 pub returns-in_err-report : goal.returns-in_err-report
 returns-in_err-report g c =
     not_reported _ c.args.n c.args.recorder.now.farm (load_report c.args.n (round_after c.args.reports) c.args.host.now) (round_after c.args.reports) c.args.counts.now c.from_residual.result
-    (Continues g.K.Keeper.tells g.K.Keeper.faults c.args.recorder.now.keeper c.args.recorder.now.keeper) c.from_residual.ensures.1
-    (record { told = λ tells. tells; counted = refl })
+    (Recorded g.K.Keeper.tells g.K.Keeper.faults c.args.recorder.now c.args.recorder.now) c.from_residual.ensures.1
+    (record { keeper = record { told = λ tells. tells; counted = refl }; journals = journals_none c.args.recorder.now.view })
 
 -- src/turns.rt:70:5
 pub take_counted-requires-clause-formed : goal.take_counted-requires-clause-formed

@@ -1,12 +1,12 @@
 use Rattle.std.proofs.Common.{◌≡◌, ◌≤◌, ◌+◌, [], ◌∷◌, ℕ, ap, ◌∙◌, arith, refl, subst}
 use Rattle.farm_types.specs.Farm.{Farm}
 use Rattle.farm_types.specs.Kept.{KeepsRows}
-use Rattle.farm_keeper.specs.Keeping.{Continues}
 use Rattle.farm_lines.specs.Asked.{heard_entry}
 use Rattle.farm_lines.specs.declared.limits.TheConstants.{LAUNCHES_EACH}
 use Rattle.farm_load.specs.Loads.{failed_in}
 use Rattle.farm_load.proofs.TurnLemmas.{has_reported}
-use Rattle.recorder.specs.Telling.{GoesOn}
+use Rattle.booking_recorder.specs.Going.{GoesOn}
+use Rattle.farm_load.specs.Turns.{Recorded}
 use Rattle.farm_load.proofs.turns.take_counted.Goals as goal
 
 -- src/turns.rt:74:1
@@ -22,9 +22,10 @@ returns g c =
     let failing_few : failing ≤ LAUNCHES_EACH = omega (arith, c.failures-failing.ensures.few, c.requires.few) in
     let keeps : KeepsRows new = subst KeepsRows c.read-2.ensures c.kept.ensures.rows in
     has_reported c.args.n f c.args.report c.args.moment new taken
-    (GoesOn g.K.Keeper.commits g.K.Keeper.tells g.K.Keeper.faults f c.args.recorder.now.keeper c.take_report-taken.new.recorder.keeper) failing c.failures_told.result old
+    (GoesOn g.K.Keeper.commits g.K.Keeper.tells g.K.Keeper.faults c.args.recorder.now c.take_report-taken.new.recorder) failing c.failures_told.result old
     (record { attempts = old.attempts + c.from.result; failed = old.failed + c.failures_told.result }) c.take_report-taken.ensures.taken c.failures_told.ensures
-    (Continues g.K.Keeper.tells g.K.Keeper.faults c.args.recorder.now.keeper c.take_report-taken.new.recorder.keeper) (λ all done failed goes. goes.keeper)
+    (Recorded g.K.Keeper.tells g.K.Keeper.faults c.args.recorder.now c.take_report-taken.new.recorder)
+    (λ all done failed goes. record { keeper = goes.keeper; journals = goes.journals })
     c.launched_by.result failing_is
     failing_few c.take_report-taken.ensures.few keeps (ap (λ (k : ℕ). old.attempts + k) c.from.ensures)
     refl c.launched_by.ensures.launched c.launched_by.ensures.calm

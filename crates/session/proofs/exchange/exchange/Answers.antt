@@ -5,7 +5,8 @@ use Rattle.farm_lines.specs.declared.reply.Reply.TheVariants as reply
 use Rattle.farm_lines.specs.Reply.{reply_text}
 use Rattle.farm_keeper.proofs.KeepingLaws.{Continues-same}
 use Rattle.recorder.specs.Recording.{HasRecorded}
-use Rattle.recorder.specs.Telling.{GoesOn}
+use Rattle.booking_recorder.specs.Going.{GoesOn}
+use Rattle.booking_recorder.proofs.Journaled.{journals_none}
 use Rattle.recorder.proofs.Told.{tells_still}
 use Rattle.farm_types.specs.Farm.{Farm}
 use Rattle.line_answers.specs.LineAnswers.{Going}
@@ -14,8 +15,8 @@ use Rattle.session.specs.Sessions.{WentOn}
 use Rattle.session.proofs.ExchangeLemmas.{step_answered, line_fits, answers_long, answers_whole}
 use Rattle.session.proofs.exchange.exchange.Goals as goal
 
-pub answer_line-reply-requires : goal.answer_line-reply-requires
-answer_line-reply-requires g c =
+pub answer_line-reply-requires-clause-limit : goal.answer_line-reply-requires-clause-limit
+answer_line-reply-requires-clause-limit g c =
     let is : given_by c.next.result ≡ Ok (Whole c.in-Ok-Bytes.line.now) = ap given_by (c.in-Ok-Bytes.is ∙ ap Ok c.in-Ok-Bytes.field-0-is) in
     let moves = c.next.follows.holds-at-none in
     subst (λ (limit : ℕ). length c.in-Ok-Bytes.line.now ≤ limit) c.requires.limit
@@ -34,13 +35,11 @@ returns-in-Ok-Bytes-clause-step g c =
       c.now-moment.ensures,
       step_answered c.send.result c.next.result (Whole c.in-Ok-Bytes.line.now) c.args.reader.now c.next.follows.lender-at-none (g.S.Source.left c.next.new.source)
           c.args.recorder.now.farm c.answer_line-reply.new.recorder.farm moves.took c.now-moment.result (shown c.answer_line-reply.result) sent.0
-          (WentOn g.K.Keeper.commits g.K.Keeper.tells g.K.Keeper.holds g.K.Keeper.left g.K.Keeper.faults c.args.recorder.now.farm c.args.recorder.now.keeper
-          c.answer_line-reply.new.recorder.keeper)
-          (c.answer_line-reply.new.recorder.keeper ≡ c.args.recorder.now.keeper) (omega arith) is moves.goes moves.end
+          (WentOn g.K.Keeper.commits g.K.Keeper.tells g.K.Keeper.holds g.K.Keeper.left g.K.Keeper.faults c.args.recorder.now c.answer_line-reply.new.recorder)
+          (c.answer_line-reply.new.recorder.keeper ≡ c.args.recorder.now.keeper) (c.answer_line-reply.new.recorder ≡ c.args.recorder.now) (omega arith) is moves.goes moves.end
           (answers_whole c.in-Ok-Bytes.line.now c.args.recorder.now.farm c.answer_line-reply.new.recorder.farm c.now-moment.result (shown c.answer_line-reply.result)
-          (GoesOn g.K.Keeper.commits g.K.Keeper.tells g.K.Keeper.faults c.args.recorder.now.farm c.args.recorder.now.keeper c.answer_line-reply.new.recorder.keeper)
-          (WentOn g.K.Keeper.commits g.K.Keeper.tells g.K.Keeper.holds g.K.Keeper.left g.K.Keeper.faults c.args.recorder.now.farm c.args.recorder.now.keeper
-          c.answer_line-reply.new.recorder.keeper)
+          (GoesOn g.K.Keeper.commits g.K.Keeper.tells g.K.Keeper.faults c.args.recorder.now c.answer_line-reply.new.recorder)
+          (WentOn g.K.Keeper.commits g.K.Keeper.tells g.K.Keeper.holds g.K.Keeper.left g.K.Keeper.faults c.args.recorder.now c.answer_line-reply.new.recorder)
           (c.answer_line-reply.new.recorder.keeper ≡ c.args.recorder.now.keeper)
           (λ all done failed is goes. record {
             on = goes;
@@ -58,7 +57,8 @@ returns-in-Ok-TooLong-clause-step g c =
     let sent = c.send-in-Ok-TooLong.ensures.sends in
     let f : Farm = c.args.recorder.now.farm in
     let k = c.args.recorder.now.keeper in
-    let goes : Going = WentOn g.K.Keeper.commits g.K.Keeper.tells g.K.Keeper.holds g.K.Keeper.left g.K.Keeper.faults f k k in
+    let r = c.args.recorder.now in
+    let goes : Going = WentOn g.K.Keeper.commits g.K.Keeper.tells g.K.Keeper.holds g.K.Keeper.left g.K.Keeper.faults r r in
     let text : List ℕ = reply_text reply.TooLong ++ 10 ∷ [] in (
       moves.took,
       sent.0,
@@ -67,10 +67,10 @@ returns-in-Ok-TooLong-clause-step g c =
       sent.1,
       c.now-moment-in-Ok-TooLong.ensures,
       step_answered c.send-in-Ok-TooLong.result c.next.result Long c.args.reader.now c.next.follows.lender-at-none (g.S.Source.left c.next.new.source)
-          f f moves.took c.now-moment-in-Ok-TooLong.result text sent.0 goes (k ≡ k) (omega arith) is moves.goes moves.end
+          f f moves.took c.now-moment-in-Ok-TooLong.result text sent.0 goes (k ≡ k) (r ≡ r) (omega arith) is moves.goes moves.end
           (answers_long f c.now-moment-in-Ok-TooLong.result text goes (k ≡ k) (λ line. c.lines_are_answered_by_what_they_ask.ensures f line c.now-moment-in-Ok-TooLong.result) refl
           (record {
-            on = record { keeper = Continues-same g.K.Keeper.tells g.K.Keeper.faults k; told = tells_still g.K.Keeper.commits f [] k };
+            on = record { keeper = Continues-same g.K.Keeper.tells g.K.Keeper.faults k; told = tells_still g.K.Keeper.commits f [] k; journals = journals_none r.view };
             recorded = c.recorded-in-Ok-TooLong.ensures;
           }) refl) sent.2,
     )

@@ -1,7 +1,8 @@
--- The exchanges so far were served, and each one more leaves the reader with less to give.
-use Rattle.std.proofs.Common.{◌≤◌}
+-- The exchanges so far were served, and each one more leaves the reader with less to give: so they are few.
+use Rattle.std.proofs.Common.{◌≤◌, ◌+◌, length}
 use Rattle.cue_io.specs.Reader.{lines_left}
-use Rattle.session.specs.Sessions.{Call, GoesOnOver, HasMoved, HasServed, streams}
+use Rattle.cue_io.specs.declared.limits.TheConstants.{BYTE_LIMIT}
+use Rattle.session.specs.Sessions.{Call, HasMoved, HasServed, RecordsOver, streams}
 use Rattle.session.proofs.serve.serve.Given as goal
 
 abbrev pub invariant-exchanges : goal.invariant-exchanges
@@ -13,8 +14,8 @@ invariant-exchanges g l = (call : Call) × record {
       (g.K.Keeper.faults l.recorder.keeper))
       call;
   served : HasServed l.fn.recorder.farm call l.recorder.farm l.reader (g.S.Source.left l.source)
-      (λ exchanges. GoesOnOver g.K.Keeper.commits g.K.Keeper.tells g.K.Keeper.holds g.K.Keeper.left g.K.Keeper.faults l.fn.recorder.farm exchanges l.fn.recorder.keeper
-      l.recorder.keeper);
+      (RecordsOver g.K.Keeper.commits g.K.Keeper.tells g.K.Keeper.holds g.K.Keeper.left g.K.Keeper.faults l.fn.recorder l.recorder.keeper l.recorder.view);
+  few : length call.exchanges + lines_left l.reader ≤ BYTE_LIMIT + 1;
   source : g.S.Source.faults l.fn.source ≤ g.S.Source.faults l.source;
   sink : g.W.Sink.faults l.fn.sink ≤ g.W.Sink.faults l.sink;
 }

@@ -2,7 +2,7 @@ use Rattle.std.proofs.Common.{ap, false, sym}
 use Rattle.fault_counts.specs.Counts.{incremented_if}
 use Rattle.farm_keeper.proofs.KeepingLaws.{Continues-as, Continues-same}
 use Rattle.booking_recorder.specs.Faults.{is_store_refusal}
-use Rattle.booking_recorder.proofs.Stopped.{commits_made, commits_nothing, never_store, none_held, nothing_entered, of_entry, told_farm, unbooked_condition}
+use Rattle.booking_recorder.proofs.Stopped.{alone_farm, commits_made, commits_nothing, never_store, none_held, nothing_entered, of_entry, told_farm, unbooked_condition}
 use Rattle.booking_recorder.proofs.farm_recorder.Recorder.commit.Goals as goal
 
 pub prepare-requires-clause-condition : goal.prepare-requires-clause-condition
@@ -49,3 +49,6 @@ pub returns-clause-farm : goal.returns-clause-farm
 returns-clause-farm g c =
     commits_made c.args.self.now.farm c.record_answered.new.self.farm c.args.entry.now c.in_ok-change.change c.in_ok-change.ensures c.record_answered.result
     c.record_answered.ensures.farm
+
+pub returns-in_err-change-clause-alone : goal.returns-in_err-change-clause-alone
+returns-in_err-change-clause-alone g c = λ split. alone_farm _ c.from_residual.result c.from_residual.ensures.1

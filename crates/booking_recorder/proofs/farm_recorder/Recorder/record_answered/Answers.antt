@@ -3,7 +3,7 @@ use Rattle.fault_counts.specs.Counts.{incremented_if}
 use Rattle.farm_keeper.proofs.KeepingLaws.{Continues-as}
 use Rattle.farm_core.specs.Change.{after_change}
 use Rattle.booking_recorder.specs.Faults.{is_store_refusal}
-use Rattle.booking_recorder.proofs.Stopped.{answered, held_answer, spent_answer, stays_answer, store_answer, told_answer}
+use Rattle.booking_recorder.proofs.Stopped.{alone_answer, answered, held_answer, spent_answer, stays_answer, store_answer, told_answer}
 use Rattle.booking_recorder.proofs.farm_recorder.Recorder.record_answered.Goals as goal
 
 pub returns-in_err-record-clause-farm : goal.returns-in_err-record-clause-farm
@@ -49,3 +49,6 @@ returns-clause-spent g c = sym c.in_ok-record.ensures.spent
 
 pub returns-clause-told : goal.returns-clause-told
 returns-clause-told g c = c.in_ok-record.ensures.told
+
+pub returns-in_err-record-clause-alone : goal.returns-in_err-record-clause-alone
+returns-in_err-record-clause-alone g c = λ split. alone_answer _ c.from_residual.result c.from_residual.ensures.1 (c.in_err-record.ensures.alone split)

@@ -1,0 +1,6 @@
+mod Booked
+mod Candidates
+mod Journaling
+mod Told
+mod UnderWay
+mod Walking
