@@ -1,5 +1,5 @@
--- A reason why a frame may not be booked is there exactly where it may not be.
-use Rattle.std.proofs.Common.{◌≡◌, ◌∙◌, ℕ, Bool, true, false, not, ◌&&◌, Option, None, Some, refl, sym, ap}
+-- A reason why a booking may not be recorded is there exactly where it may not be.
+use Rattle.std.proofs.Common.{◌≡◌, ℕ, Bool, true, false, not, ◌&&◌, Option, None, Some, refl, sym}
 use Rattle.std.specs.Prelude.{is_none, nat_lt, slice_get}
 use Rattle.farm_types.specs.declared.limits.TheConstants.{LAST_VERSION}
 use Rattle.booking_reasons.specs.declared.not_booked.NotBooked.{NotBooked}
@@ -8,11 +8,10 @@ use Rattle.farm_types.specs.declared.rows.HostRow.{HostRow}
 use Rattle.farm_types.specs.declared.rows.JobRow.{JobRow}
 use Rattle.farm_types.specs.declared.rows.LayerRow.{LayerRow}
 use Rattle.farm_types.specs.declared.slot_row.Frame.{Frame}
-use Rattle.farm_types.specs.Booking.{has_capacity, in_facility, is_pending, is_waiting, may_book, may_record, tags_match, takes_frames, within_burst, within_limit}
-use Rattle.farm_types.specs.DependActs.{or_else}
+use Rattle.farm_types.specs.Booking.{has_capacity, in_facility, is_pending, is_waiting, may_record, takes_frames, within_burst, within_limit}
 use Rattle.farm_types.specs.Depends.{is_open}
 use Rattle.farm_types.specs.Farm.{Farm, for_some, job_at, layer_at, sub_of}
-use Rattle.booking_reasons.specs.WhyNot.{if_there, unless, why_not, why_not_place, why_not_record}
+use Rattle.booking_reasons.specs.WhyNot.{if_there, unless, why_not_place, why_not_record}
 
 -- ---- what there is
 
@@ -75,11 +74,3 @@ module _ (f : Farm) (slot host : ℕ) where
 
   pub record_same : is_none (why_not_record f slot host) ≡ may_record f slot host
   record_same = there_same (slice_get f.slots slot) _ _ _ (λ s. there_same s.frame _ _ _ (λ frame. frame_same s.version frame (is_waiting frame.state)))
-
-  either_same : (first : Option NotBooked) (tagged : Bool) → is_none (or_else first (unless tagged reason.NoSharedTag None)) ≡ (is_none first && tagged)
-  either_same None true = refl
-  either_same None false = refl
-  either_same (Some why) tagged = refl
-
-  pub book_same : is_none (why_not f slot host) ≡ may_book f slot host
-  book_same = either_same (why_not_record f slot host) (tags_match f slot host) ∙ ap (λ (b : Bool). b && tags_match f slot host) record_same

@@ -1,4 +1,4 @@
--- Why a frame may not be booked on a host: the first part of the rules that fails.
+-- Why a booking may not be recorded: the first part of the rules that fails.
 use Rattle.std.specs.Prelude.{ℕ, Bool, true, false, not, Option, None, Some, nat_lt, slice_get}
 use Rattle.farm_types.specs.declared.limits.TheConstants.{LAST_VERSION}
 use Rattle.booking_reasons.specs.declared.not_booked.NotBooked.{NotBooked}
@@ -6,8 +6,7 @@ use Rattle.booking_reasons.specs.declared.not_booked.NotBooked.TheVariants as re
 use Rattle.farm_types.specs.declared.rows.HostRow.{HostRow}
 use Rattle.farm_types.specs.declared.rows.JobRow.{JobRow}
 use Rattle.farm_types.specs.declared.rows.LayerRow.{LayerRow}
-use Rattle.farm_types.specs.Booking.{has_capacity, in_facility, is_pending, is_waiting, tags_match, takes_frames, within_burst, within_limit}
-use Rattle.farm_types.specs.DependActs.{or_else}
+use Rattle.farm_types.specs.Booking.{has_capacity, in_facility, is_pending, is_waiting, takes_frames, within_burst, within_limit}
 use Rattle.farm_types.specs.Depends.{is_open}
 use Rattle.farm_types.specs.Farm.{Farm, job_at, layer_at, sub_of}
 
@@ -40,7 +39,3 @@ why_not_record f slot host =
     if_there (slice_get f.slots slot) reason.NoFrame (λ s. if_there s.frame reason.NoFrame (λ frame. unless (is_waiting frame.state) reason.NotWaiting
     (if_there (job_at f frame.job) reason.NoJob (λ job. if_there (layer_at f frame.job frame.layer) reason.NoLayer (λ layer.
     if_there (slice_get f.hosts host) reason.NoHost (λ row. why_not_place f slot host s.version job layer row))))))
-
--- why the slot's frame may not be booked on the host (`may_book`)
-abbrev pub why_not : Farm → ℕ → ℕ → Option NotBooked
-why_not f slot host = or_else (why_not_record f slot host) (unless (tags_match f slot host) reason.NoSharedTag None)

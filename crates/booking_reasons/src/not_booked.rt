@@ -1,14 +1,14 @@
 //! Why a frame may not be booked on a host.
 
 ghost use Rattle.std.specs.Prelude.{ℕ, ◌≡◌, is_none};
-ghost use Rattle.farm_types.specs.Booking.{may_book};
+ghost use Rattle.farm_types.specs.Booking.{may_record};
 ghost use Rattle.farm_types.specs.Farm.{Farm};
-ghost use Rattle.booking_reasons.specs.WhyNot.{why_not};
+ghost use Rattle.booking_reasons.specs.WhyNot.{why_not_record};
 
 use std::fmt;
 
-/// Why a slot's frame may not be booked on a host: the first of what the rules ask that isn't so (`why_not` of `specs/WhyNot.antt`), in this order. In a
-/// farm that keeps what every farm keeps, each frame has its job and its layer.
+/// Why the booking of a slot's frame on a host may not be recorded: the first of what the rules ask that isn't so (`why_not_record` of
+/// `specs/WhyNot.antt`), in this order. In a farm that keeps what every farm keeps, each frame has its job and its layer.
 #[derive(Clone, Copy, Debug, PartialEq, Eq)]
 pub enum NotBooked {
     /// No frame is in the slot.
@@ -39,8 +39,6 @@ pub enum NotBooked {
     PastBurst,
     /// As many frames run in the layer's limit as may, or the limit isn't there.
     AtLimit,
-    /// The layer and the host have no tag in common.
-    NoSharedTag,
 }
 
 impl fmt::Display for NotBooked {
@@ -60,12 +58,11 @@ impl fmt::Display for NotBooked {
             NotBooked::NoCapacity => write!(f, "the host has no room for the layer"),
             NotBooked::PastBurst => write!(f, "the subscription's burst is passed"),
             NotBooked::AtLimit => write!(f, "the layer's limit is reached"),
-            NotBooked::NoSharedTag => write!(f, "the layer and the host share no tag"),
         }
     }
 }
 
-/// There is a reason why a frame may not be booked exactly where it may not be.
+/// There is a reason why a booking may not be recorded exactly where it may not be.
 pub fn reasons_are_exact()
-    ensures { (f : Farm) (slot host : ℕ) → is_none (why_not f slot host) ≡ may_book f slot host }
+    ensures { (f : Farm) (slot host : ℕ) → is_none (why_not_record f slot host) ≡ may_record f slot host }
 {}

@@ -80,8 +80,7 @@ fn stands_against(
         | NotBooked::JobFinished
         | NotBooked::NotOpen
         | NotBooked::OtherFacility
-        | NotBooked::NoCapacity
-        | NotBooked::NoSharedTag => unreachable!(),
+        | NotBooked::NoCapacity => unreachable!(),
     }
 }
 

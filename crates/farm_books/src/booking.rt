@@ -6,8 +6,8 @@ ghost use Rattle.farm_types.specs.Farm.{for_some, sub_of};
 ghost use Rattle.farm_types.specs.Sums.{running_in};
 ghost use Rattle.farm_types.specs.Depends.{is_open};
 ghost use Rattle.farm_types.specs.declared.limits.TheConstants.{LAST_VERSION};
-ghost use Rattle.farm_types.specs.Booking.{in_facility, has_capacity, is_waiting, within_burst, within_limit, may_place, may_record, may_book, tags_match};
-ghost use Rattle.booking_reasons.specs.WhyNot.{why_not, why_not_place, why_not_record};
+ghost use Rattle.farm_types.specs.Booking.{in_facility, has_capacity, is_waiting, within_burst, within_limit, may_place, may_record};
+ghost use Rattle.booking_reasons.specs.WhyNot.{why_not_place, why_not_record};
 ghost use Rattle.farm_books.specs.Bookings.{IsAsked, IsBooking, booked_at, row_of_booking};
 ghost use Rattle.farm_books.specs.Books.{IsWhole};
 ghost use Rattle.farm_books.specs.Reads.{rows_share_tag, takes_job, takes_layer};
@@ -23,30 +23,6 @@ use farm_types::{
 use limit_book::LimitState;
 
 impl Books {
-    /// The booking of the slot's frame on the host that is asked for at the moment (seconds), or the first reason why the frame may not be booked there.
-    pub fn booking(&self, slot: Slot, host: HostNo, moment: u64) -> Result<Booking, NotBooked>
-        requires { IsWhole self.now }
-        ensures may { is_ok result ≡ may_book self.now.farm slot host }
-        ensures why { result_err result ≡ why_not self.now.farm slot host }
-        ensures asked { IfOk result (IsAsked slot host moment) }
-        ensures row { IfOk result (IsBooking self.now.farm) }
-    {
-        let parts = match self.parts(slot, host) {
-            Ok(parts) => parts,
-            Err(why) => return Err(why),
-        };
-        if !self.tags_match(parts.layer, parts.host) {
-            return Err(NotBooked::NoSharedTag);
-        }
-        let row = parts.row(slot, host, self.later_of(moment));
-        Ok(Booking {
-            slot,
-            host,
-            moment,
-            row,
-        })
-    }
-
     /// The booking of the slot's frame on the host that is asked for at the moment (seconds), or the first reason why it may not be recorded. Tags are
     /// passed over: who asks for a booking has compared them, and the host's may be others since.
     pub fn recordable(&self, slot: Slot, host: HostNo, moment: u64) -> Result<Booking, NotBooked>
@@ -108,7 +84,6 @@ impl Books {
         ensures allowed { is_ok result ≡ may_record self.now.farm slot host }
         ensures why { result_err result ≡ why_not_record self.now.farm slot host }
         ensures version { IfOk result (λ b. b.version < LAST_VERSION) }
-        ensures tags { IfOk result (λ b. tags_match self.now.farm slot host ≡ rows_share_tag self.now.farm b.layer.now b.host.now) }
         ensures makes { IfOk result (λ b. (moment : ℕ) → booked_at self.now.farm slot host moment
             ≡ Some (row_of_booking slot host moment b.version b.frame b.layer.now b.host.now b.sub)) }
     {
@@ -250,7 +225,7 @@ impl Books {
     }
 
     // Whether the tags of the layer and those of the host share a word.
-    pub(crate) fn tags_match(&self, layer: &LayerRow, host_row: &HostRow) -> bool
+    fn tags_match(&self, layer: &LayerRow, host_row: &HostRow) -> bool
         ensures { result ≡ rows_share_tag self.now.farm layer.now host_row.now }
     {
         match self.allocation(host_row.alloc) {

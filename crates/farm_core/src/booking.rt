@@ -2,9 +2,9 @@
 
 ghost use Rattle.std.specs.Prelude.{◌≡◌, ◌&&◌, ◌==◌, is_ok, IfOk};
 ghost use Rattle.std.specs.Result.{result_err};
-ghost use Rattle.farm_types.specs.Booking.{may_book, may_record};
+ghost use Rattle.farm_types.specs.Booking.{may_record};
 ghost use Rattle.farm_types.specs.Step.{after};
-ghost use Rattle.booking_reasons.specs.WhyNot.{why_not, why_not_record};
+ghost use Rattle.booking_reasons.specs.WhyNot.{why_not_record};
 ghost use Rattle.farm_rows.specs.Changes.{NamesExactly};
 ghost use Rattle.farm_rows.specs.Rows.{head_row};
 ghost use Rattle.farm_books.specs.Bookings.{IsAsked, IsBooking, entry_of};
@@ -44,22 +44,6 @@ impl Booking {
 }
 
 impl Farm {
-    /// The booking of the slot's frame on the host that is asked for at the moment (seconds), or the first reason why the frame may not be booked there.
-    /// It changes nothing, and takes no memory.
-    pub fn booking(&self, slot: Slot, host: HostNo, moment: u64) -> Result<Booking, NotBooked>
-        ensures may { is_ok result ≡ may_book self.now slot host }
-        ensures why { result_err result ≡ why_not self.now slot host }
-        ensures asked { IfOk result (λ b. IsAsked slot host moment b.booked) }
-        ensures booking { IfOk result (IsBookingOf self.now) }
-    {
-        let booked = match self.books.booking(slot, host, moment) {
-            Ok(booked) => booked,
-            Err(why) => return Err(why),
-        };
-        let rows = rows_of_booking(&self.books, &booked);
-        Ok(Booking { booked, rows })
-    }
-
     /// The booking of the slot's frame on the host that is asked for at the moment (seconds), or the first reason why it may not be recorded. Tags are
     /// passed over. It changes nothing, and takes no memory.
     pub fn recordable(&self, slot: Slot, host: HostNo, moment: u64) -> Result<Booking, NotBooked>

@@ -1,5 +1,5 @@
-use Rattle.booking_reasons.proofs.Reasons.{book_same}
+use Rattle.booking_reasons.proofs.Reasons.{record_same}
 use Rattle.booking_reasons.proofs.not_booked.reasons_are_exact.Goals as goal
 
 pub returns : goal.returns
-returns c = book_same
+returns c = record_same
