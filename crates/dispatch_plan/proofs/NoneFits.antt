@@ -1,9 +1,9 @@
 -- Where a subscription, a job or a layer shows by itself that none of its frames may be booked, it has no rank.
-use Rattle.std.proofs.Common.{◌≡◌, ℕ, ◌+◌, ◌≤◌, ◌&&◌, Bool, true, false, List, [], ◌∷◌, length, Some, refl, sym, ap, subst, ◌∙◌, arith, eqb}
+use Rattle.std.proofs.Common.{◌≡◌, ℕ, ◌+◌, ◌≤◌, ◌<◌, ◌&&◌, Bool, true, false, List, [], ◌∷◌, length, Some, refl, sym, ap, subst, ◌∙◌, arith, eqb}
 use Rattle.std.specs.Cmp.Derive.{both_true}
-use Rattle.std.specs.List.{slice_get}
-use Rattle.std.specs.Prelude.{nat_le, not}
-use Rattle.std.proofs.lemmas.Bool.{false≢true, le-leb, leb-true}
+use Rattle.std.specs.List.{flat_map, slice_get}
+use Rattle.std.specs.Prelude.{nat_le, nat_lt, not}
+use Rattle.std.proofs.lemmas.Bool.{false≢true, le-leb, leb-true, ltb-true}
 use Rattle.std.proofs.lemmas.Option.{same_Some}
 use Rattle.farm_types.specs.declared.dispatch.Candidate.{Candidate}
 use Rattle.farm_types.specs.declared.dispatch.Rank.{Rank}
@@ -15,22 +15,23 @@ use Rattle.farm_types.specs.declared.limits.TheConstants.{CANDIDATES_EACH, LEAST
 use Rattle.farm_types.specs.Booking.{has_capacity, in_facility, takes_frames, within_burst, within_limit}
 use Rattle.farm_types.specs.Dispatch.{plan_for}
 use Rattle.farm_types.specs.Farm.{Farm, for_some, job_at, layer_at, sub_at, sub_of}
-use Rattle.farm_types.specs.Kept.{KeepsRows}
+use Rattle.farm_types.specs.Kept.{KeepsRows, is_kept_sub}
 use Rattle.farm_types.specs.Step.{lists_of}
 use Rattle.farm_types.specs.Sums.{booked_in}
-use Rattle.farm_types.proofs.Lists.{for_some_true}
+use Rattle.farm_types.proofs.Lists.{and_both, for_some_true, list_all-at}
 use Rattle.farm_types.proofs.Passes.{for_some-there}
 use Rattle.farm_books.specs.Reads.{rows_share_tag, takes_job, takes_layer}
 use Rattle.job_book.specs.Index.{ready_of}
-use Rattle.dispatch_law.specs.ByIndex.{ranks_in_job, ranks_in_layer, ranks_in_show}
+use Rattle.dispatch_law.specs.ByIndex.{ranks_in_job, ranks_in_layer, ranks_in_show, show_of, sorted_subs, subs_to}
 use Rattle.dispatch_law.proofs.Found.{find_has}
 use Rattle.dispatch_law.proofs.InJob.{in_job, in_layer}
 use Rattle.dispatch_law.proofs.InLayer.{IsRankAt}
 use Rattle.dispatch_law.proofs.RankFacts.{ranked}
-use Rattle.dispatch_law.proofs.Strict.{Has, has_first, flat_from}
+use Rattle.dispatch_law.proofs.Strict.{Has, has_first, has_none, flat_from}
+use Rattle.dispatch_law.proofs.Subs.{sub_to}
 use Rattle.dispatch_plan.specs.Offers.{IsBilled, IsShowBilled, has_least_left, offered}
 use Rattle.dispatch_plan.proofs.Offered.{offered_none}
-use Rattle.dispatch_plan.proofs.Plans.{has_least, no_plan, ready_offered}
+use Rattle.dispatch_plan.proofs.Plans.{has_least, no_plan, plan_is, ready_offered, subs_read}
 use Rattle.dispatch_plan.proofs.Steps.{stands_there}
 
 -- a list without members
@@ -115,3 +116,31 @@ plan_closed f host row hosted closed =
     let has = ranked f host slot s r at e in
     let rows : has.row ≡ row = same_Some has.row row (sym has.row_is ∙ hosted) in
     false≢true (sym closed ∙ (ap takes_frames (sym rows) ∙ has.takes)))
+
+-- ---- no ready job
+
+none_in_show : (f : Farm) (host show : ℕ) (r : Rank) → ready_of (lists_of f) show ≡ [] → Has (ranks_in_show f host show) r → ⊥
+none_in_show f host show r none h = has_none r (subst (λ (jobs : List ℕ). Has (flat_map (ranks_in_job f host) jobs) r) none h)
+
+show_known : (f : Farm) (s : SubRow) → KeepsRows f → Has f.subs s → show_of s < length f.shows
+show_known f s kept h =
+    let each = list_all-at (is_kept_sub (length f.shows) (length f.allocs)) f.subs h.place s kept.subs.each h.at in
+    ltb-true (show_of s) (length f.shows) (and_both (nat_lt (show_of s) (length f.shows)) _ each).0
+
+abbrev ranks_of : Farm → ℕ → List SubRow → List Rank
+ranks_of f host subs = flat_map (λ (s : SubRow). ranks_in_show f host (show_of s)) subs
+
+pub plan_unready : (f : Farm) (host : ℕ) (row : HostRow) → KeepsRows f → slice_get f.hosts host ≡ Some row
+    → ((show : ℕ) → show < length f.shows → ready_of (lists_of f) show ≡ []) → plan_for f host ≡ []
+plan_unready f host row kept hosted none =
+    let subs = sorted_subs f (subs_to f row.alloc) in
+    let empty : ranks_of f host subs ≡ [] =
+    empty_by (ranks_of f host subs)
+    (λ r h.
+    let from = flat_from (λ (s : SubRow). ranks_in_show f host (show_of s)) subs r h in
+    let to = sub_to f kept.shows (length f.allocs) kept.subs row.alloc from.from from.there in
+    none_in_show f host (show_of from.from) r (none (show_of from.from) (show_known f from.from kept to.there)) from.within)
+    in
+    sym (plan_is f host row kept hosted)
+    ∙ (ap (λ (ss : List SubRow). offered [] (ranks_of f host (sorted_subs f ss))) (subs_read f host row kept hosted)
+    ∙ (ap (offered []) empty ∙ offered_none [] (omega arith)))

@@ -19,22 +19,21 @@ use farm_types::Entry;
 use std::alloc::{AllocError, Global};
 
 impl Farm {
-    /// The change of the entry with exactly those of the rows in which this farm and the one that it makes differ, each as it will be.
-    pub(crate) fn with_rows(
+    /// The change of the entry then has exactly those of the rows in which this farm and the one that it makes differ, each as it will be.
+    pub(crate) fn put_rows(
         &self,
         alloc: Global,
         entry: &Entry,
-        change: Change,
+        change: &mut Change,
         rows: Vec<RowChange>,
-    ) -> Result<Change, AllocError>
-        requires planned { Plans self.now entry.now change }
-        requires rows { (k : RowKey) → row_at (after_change self.now change) k ≡ row_after rows.items k (row_at self.now k) }
-        ensures { IfOk result (λ made. Makes self.now entry.now made) }
+    ) -> Result<(), AllocError>
+        requires planned { Plans self.now entry.now change.old }
+        requires rows { (k : RowKey) → row_at (after_change self.now change.old) k ≡ row_after rows.items k (row_at self.now k) }
+        ensures { OnOk result (Makes self.now entry.now change.new) }
     {
-        let mut change = change;
         let exact = exactly(alloc, self, rows)?;
         change.rows = exact;
-        Ok(change)
+        Ok(())
     }
 }
 

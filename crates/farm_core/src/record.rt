@@ -24,9 +24,10 @@ impl Farm {
         ensures { Prepares self.now entry.now result }
     {
         let act = prepare(alloc, &self.books, entry)?;
-        let change = with_follow(alloc, &self.books, entry, act)?;
+        let mut change = with_follow(alloc, &self.books, entry, act)?;
         let rows = rows_of_change(alloc, &self.books, entry, &change)?;
-        Ok(self.with_rows(alloc, entry, change, rows)?)
+        self.put_rows(alloc, entry, &mut change, rows)?;
+        Ok(change)
     }
 
     /// Takes the memory that the change needs, so that applying it takes none. The farm is as before.

@@ -1,5 +1,5 @@
 -- The turns of exactly the rows in which two farms differ cover what differs.
-use Rattle.std.proofs.Common.{◌≡◌, ℕ, zero, suc, ◌≤◌, ◌<◌, ◌⊎◌, inl, inr, Bool, true, false, ◌||◌, ◌==◌, ◌+◌, List, [], ◌∷◌, length, Option, Some, None, is_some, refl, sym, ap, subst, ◌∙◌, arith, lt-ltb, ltb-true}
+use Rattle.std.proofs.Common.{◌≡◌, ℕ, zero, suc, ◌≤◌, ◌<◌, ◌⊎◌, inl, inr, Bool, true, false, if◌then◌else◌, ◌&&◌, ◌||◌, ◌==◌, ◌+◌, List, [], ◌∷◌, length, Option, Some, None, is_some, refl, sym, ap, subst, ◌∙◌, arith, lt-ltb, ltb-true}
 use Rattle.std.specs.Prelude.{find, nat_lt, option_and_then, option_map}
 use Rattle.std.specs.List.{list_all, list_any, slice_get}
 use Rattle.std.specs.Cmp.Derive.{both_true}
@@ -13,7 +13,7 @@ use Rattle.farm_types.specs.declared.slot_row.SlotRow.{SlotRow}
 use Rattle.farm_types.specs.Farm.{Farm, sub_at}
 use Rattle.farm_types.specs.Kept.{IsKeptFarm}
 use Rattle.farm_types.specs.Rising.{IsRising, sub_key}
-use Rattle.farm_types.proofs.Lists.{find_passes, found_is}
+use Rattle.farm_types.proofs.Lists.{and_both, find_passes, found_is}
 use Rattle.farm_rows.specs.declared.farm_row.FarmRow.{FarmRow}
 use Rattle.farm_rows.specs.declared.farm_row.FarmRow.TheVariants as row
 use Rattle.farm_rows.specs.declared.row_change.RowChange.{RowChange}
@@ -22,10 +22,10 @@ use Rattle.farm_rows.specs.declared.row_key.RowKey.{RowKey}
 use Rattle.farm_rows.specs.declared.row_key.RowKey.TheVariants as key
 use Rattle.farm_rows.specs.Changes.{Differs, NamesExactly, change_key, is_key, is_named_by, row_at, used_row}
 use Rattle.farm_rows.proofs.MadeRows.{is_key-same, is_key-true}
-use Rattle.booking_rule.specs.Link.{burst_at, host_alloc, host_cores, host_memory, most_at, stand_at}
+use Rattle.booking_rule.specs.Link.{burst_at, host_alloc, host_cores, host_memory, most_at, of_host, stand_at}
 use Rattle.farm_stands.specs.declared.turn.Turn.{Turn}
 use Rattle.farm_stands.specs.declared.turn.Turn.TheVariants as turn
-use Rattle.farm_stands.specs.Turns.{Covers, IsInTable, Says, has_turn, turn_key, turn_of, turns_of, with_turn}
+use Rattle.farm_stands.specs.Turns.{Covers, IsInTable, Says, has_turn, host_turn, keeps_size, size_at, turn_for, turn_key, turn_of, turns_of, with_turn}
 use Rattle.farm_stands.proofs.Fitting.{got_below}
 
 -- ---- a turn's row
@@ -62,6 +62,47 @@ said_is f (key.Layer job place) t is = absurd (none-some t is)
 said_is f (key.Depend depend) t is = absurd (none-some t is)
 said_is f (key.Met depend position) t is = absurd (none-some t is)
 
+-- ---- the turn of a change
+
+host_is : (f : Farm) (host : ℕ) (r : HostRow) (t : Turn) (b : Bool) → (if b then None else Some (turn.Host host (size_at f host))) ≡ Some t
+    → Some (turn.Host host (size_at f host)) ≡ Some t
+host_is f host r t true is = absurd (none-some t is)
+host_is f host r t false is = is
+
+-- it is the turn of the change's row
+for_is : (f : Farm) (c : RowChange) (t : Turn) → turn_for f c ≡ Some t → turn_of f (change_key c) ≡ Some t
+for_is f (change.Put (row.Host host r)) t is = host_is f host r t (keeps_size f host r) is
+for_is f (change.Put (row.Head r)) t is = is
+for_is f (change.Put (row.Show show r)) t is = is
+for_is f (change.Put (row.Alloc alloc r)) t is = is
+for_is f (change.Put (row.Sub r)) t is = is
+for_is f (change.Put (row.Job r)) t is = is
+for_is f (change.Put (row.Layer r)) t is = is
+for_is f (change.Put (row.Frame r)) t is = is
+for_is f (change.Put (row.Depend r)) t is = is
+for_is f (change.Put (row.Met r)) t is = is
+for_is f (change.Put (row.Limit limit r)) t is = is
+for_is f (change.Delete gone) t is = is
+
+abbrev is_host : RowKey → Bool
+is_host (key.Host host) = true
+is_host other = false
+
+-- and it is there, where the row is no host's
+for_by : (f : Farm) (c : RowChange) (k : RowKey) → change_key c ≡ k → is_host k ≡ false → turn_for f c ≡ turn_of f k
+for_by f (change.Put (row.Host host r)) k named other = absurd (true≢false (ap is_host named ∙ other))
+for_by f (change.Put (row.Head r)) k named other = ap (turn_of f) named
+for_by f (change.Put (row.Show show r)) k named other = ap (turn_of f) named
+for_by f (change.Put (row.Alloc alloc r)) k named other = ap (turn_of f) named
+for_by f (change.Put (row.Sub r)) k named other = ap (turn_of f) named
+for_by f (change.Put (row.Job r)) k named other = ap (turn_of f) named
+for_by f (change.Put (row.Layer r)) k named other = ap (turn_of f) named
+for_by f (change.Put (row.Frame r)) k named other = ap (turn_of f) named
+for_by f (change.Put (row.Depend r)) k named other = ap (turn_of f) named
+for_by f (change.Put (row.Met r)) k named other = ap (turn_of f) named
+for_by f (change.Put (row.Limit limit r)) k named other = ap (turn_of f) named
+for_by f (change.Delete gone) k named other = ap (turn_of f) named
+
 -- ---- where a turn comes from
 
 abbrev place_by : Option Turn → (ℕ → ℕ) → ℕ → ℕ
@@ -71,7 +112,7 @@ place_by (Some t) rest (suc i) = suc (rest i)
 
 abbrev place_of : Farm → List RowChange → ℕ → ℕ
 place_of f [] i = i
-place_of f (c ∷ cs) i = place_by (turn_of f (change_key c)) (place_of f cs) i
+place_of f (c ∷ cs) i = place_by (turn_for f c) (place_of f cs) i
 
 by_one : (o : Option Turn) (rest : ℕ → ℕ) → ((i k : ℕ) → rest i ≡ rest k → i ≡ k) → (i k : ℕ) → place_by o rest i ≡ place_by o rest k → i ≡ k
 by_one None rest one i k e = one i k (omega (arith, e))
@@ -82,22 +123,22 @@ by_one (Some t) rest one (suc i) (suc k) e = ap suc (one i k (omega (arith, e)))
 
 one_place : (f : Farm) (cs : List RowChange) (i k : ℕ) → place_of f cs i ≡ place_of f cs k → i ≡ k
 one_place f [] i k e = e
-one_place f (c ∷ cs) i k e = by_one (turn_of f (change_key c)) (place_of f cs) (one_place f cs) i k e
+one_place f (c ∷ cs) i k e = by_one (turn_for f c) (place_of f cs) (one_place f cs) i k e
 
 -- the turn is that of the change at the place
 record IsAt (f : Farm) (cs : List RowChange) (place : ℕ) (t : Turn) : Type 0 where
   change : RowChange
   at : slice_get cs place ≡ Some change
-  is : turn_of f (change_key change) ≡ Some t
+  is : turn_for f change ≡ Some t
 
 one_later : (f : Farm) (c : RowChange) (cs : List RowChange) (place : ℕ) (t : Turn) → IsAt f cs place t → IsAt f (c ∷ cs) (suc place) t
 one_later f c cs place t found = record { change = found.change; at = found.at; is = found.is }
 
 comes : (f : Farm) (cs : List RowChange) (i : ℕ) (t : Turn) → slice_get (turns_of f cs) i ≡ Some t → IsAt f cs (place_of f cs i) t
 comes f [] i t at = absurd (none-some t at)
-comes f (c ∷ cs) i t at = by (comes f cs) (turn_of f (change_key c)) refl i at
+comes f (c ∷ cs) i t at = by (comes f cs) (turn_for f c) refl i at
   where
-    by : ((j : ℕ) (u : Turn) → slice_get (turns_of f cs) j ≡ Some u → IsAt f cs (place_of f cs j) u) → (o : Option Turn) → turn_of f (change_key c) ≡ o
+    by : ((j : ℕ) (u : Turn) → slice_get (turns_of f cs) j ≡ Some u → IsAt f cs (place_of f cs j) u) → (o : Option Turn) → turn_for f c ≡ o
         → (i : ℕ) → slice_get (with_turn o (turns_of f cs)) i ≡ Some t → IsAt f (c ∷ cs) (place_by o (place_of f cs) i) t
     by more None is i at = one_later f c cs (place_of f cs i) t (more i t at)
     by more (Some x) is zero at = record { change = c; at = refl; is = is ∙ at }
@@ -113,6 +154,10 @@ or_left : (a b : Bool) → a ≡ true → (a || b) ≡ true
 or_left true b h = refl
 or_left false b h = absurd (false≢true h)
 
+or_right : (a b : Bool) → b ≡ true → (a || b) ≡ true
+or_right true b h = refl
+or_right false b h = h
+
 has_no_more : (o : Option Turn) (ts : List Turn) (k : RowKey) → has_turn (with_turn o ts) k ≡ false → has_turn ts k ≡ false
 has_no_more None ts k none = none
 has_no_more (Some t) ts k none = (or_false (is_key (turn_key t) k) (has_turn ts k) none).1
@@ -122,16 +167,27 @@ has_first o ts k t is named =
     ap (λ (x : Option Turn). has_turn (with_turn x ts) k) is
     ∙ or_left (is_key (turn_key t) k) (has_turn ts k) (ap (λ (j : RowKey). is_key j k) named ∙ is_key-same k)
 
-unnamed : (f : Farm) (k : RowKey) (t : Turn) → turn_of f k ≡ Some t → (cs : List RowChange) → has_turn (turns_of f cs) k ≡ false
+has_more : (o : Option Turn) (ts : List Turn) (k : RowKey) → has_turn ts k ≡ true → has_turn (with_turn o ts) k ≡ true
+has_more None ts k has = has
+has_more (Some t) ts k has = or_right (is_key (turn_key t) k) (has_turn ts k) has
+
+unnamed : (f : Farm) (k : RowKey) (t : Turn) → turn_of f k ≡ Some t → is_host k ≡ false → (cs : List RowChange) → has_turn (turns_of f cs) k ≡ false
     → list_any (is_named_by k) cs ≡ false
-unnamed f k t has [] none = refl
-unnamed f k t has (c ∷ cs) none = by (unnamed f k t has cs (has_no_more (turn_of f (change_key c)) (turns_of f cs) k none)) (is_key (change_key c) k) refl
+unnamed f k t has other [] none = refl
+unnamed f k t has other (c ∷ cs) none = by (unnamed f k t has other cs (has_no_more (turn_for f c) (turns_of f cs) k none)) (is_key (change_key c) k) refl
   where
     by : list_any (is_named_by k) cs ≡ false → (b : Bool) → is_key (change_key c) k ≡ b → list_any (is_named_by k) (c ∷ cs) ≡ false
     by rest true same =
-        let is = ap (turn_of f) (is_key-true (change_key c) k same) ∙ has in
-        absurd (true≢false (sym (has_first (turn_of f (change_key c)) (turns_of f cs) k t is (key_is f k t has)) ∙ none))
+        let is = for_by f c k (is_key-true (change_key c) k same) other ∙ has in
+        absurd (true≢false (sym (has_first (turn_for f c) (turns_of f cs) k t is (key_is f k t has)) ∙ none))
     by rest false other = ap (λ (b : Bool). b || list_any (is_named_by k) cs) other ∙ rest
+
+-- the turn of a change is among the turns of all
+has_there : (f : Farm) (cs : List RowChange) (place : ℕ) (c : RowChange) (t : Turn) (k : RowKey) → slice_get cs place ≡ Some c → turn_for f c ≡ Some t
+    → turn_key t ≡ k → has_turn (turns_of f cs) k ≡ true
+has_there f [] place c t k at is named = absurd (none-some c at)
+has_there f (x ∷ xs) zero c t k at is named = has_first (turn_for f x) (turns_of f xs) k t (ap (turn_for f) (same_Some x c at) ∙ is) named
+has_there f (x ∷ xs) (suc place) c t k at is named = has_more (turn_for f x) (turns_of f xs) k (has_there f xs place c t k at is named)
 
 -- ---- the words stand in the table
 
@@ -183,6 +239,85 @@ there_in : (c : RowChange) (old now : Option FarmRow) → Differs c old now → 
 there_in (change.Put r) old now differs = inr (ap (λ (x : Option FarmRow). is_some x) differs.0)
 there_in (change.Delete gone) old now differs = inl differs.1
 
+-- ---- a host that keeps its size
+
+pub named_at : (k : RowKey) (cs : List RowChange) → list_any (is_named_by k) cs ≡ true
+    → (n : ℕ) × (c : RowChange) × (slice_get cs n ≡ Some c) × (is_key (change_key c) k ≡ true)
+named_at k [] any = absurd (false≢true any)
+named_at k (x ∷ xs) any = go (named_at k xs) (is_key (change_key x) k) refl any
+  where
+    go : (list_any (is_named_by k) xs ≡ true → (n : ℕ) × (c : RowChange) × (slice_get xs n ≡ Some c) × (is_key (change_key c) k ≡ true)) → (b : Bool)
+        → is_key (change_key x) k ≡ b → (b || list_any (is_named_by k) xs) ≡ true
+        → (n : ℕ) × (c : RowChange) × (slice_get (x ∷ xs) n ≡ Some c) × (is_key (change_key c) k ≡ true)
+    go rest true e any = (zero, x, refl, e)
+    go rest false e any = let r = rest any in (suc r.0, r.1, r.2, r.3)
+
+abbrev host_row : HostRow → FarmRow → HostRow
+host_row x (row.Host host r) = r
+host_row x other = x
+
+pub put_row : (host : ℕ) (x : HostRow) (o : Option HostRow) → option_map (row.Host host) o ≡ Some (row.Host host x) → o ≡ Some x
+put_row host x None is = absurd (none-some (row.Host host x) is)
+put_row host x (Some y) is = ap (λ (r : FarmRow). Some (host_row x r)) (same_Some (row.Host host y) (row.Host host x) is)
+
+cores_in_row : (g : Farm) (host : ℕ) (r : HostRow) → slice_get g.hosts host ≡ Some r → host_cores g host ≡ r.cores
+unfolding host_cores
+cores_in_row g host r at = ap (of_host (λ r. r.cores)) at
+
+memory_in_row : (g : Farm) (host : ℕ) (r : HostRow) → slice_get g.hosts host ≡ Some r → host_memory g host ≡ r.memory
+unfolding host_memory
+memory_in_row g host r at = ap (of_host (λ r. r.memory)) at
+
+alloc_in_row : (g : Farm) (host : ℕ) (r : HostRow) → slice_get g.hosts host ≡ Some r → host_alloc g host ≡ r.alloc
+unfolding host_alloc
+alloc_in_row g host r at = ap (of_host (λ r. r.alloc)) at
+
+-- both farms say the same size and allocation of the host
+abbrev SameSize : Farm → Farm → ℕ → Type 0
+SameSize f g n = (host_cores g n ≡ host_cores f n) × (host_memory g n ≡ host_memory f n) × (host_alloc g n ≡ host_alloc f n)
+
+size_kept : (f g : Farm) (host : ℕ) (r : HostRow) → slice_get g.hosts host ≡ Some r → keeps_size f host r ≡ true → SameSize f g host
+size_kept f g host r at keeps =
+    let first = and_both (host_cores f host == r.cores) (host_memory f host == r.memory && host_alloc f host == r.alloc) keeps in
+    let rest = and_both (host_memory f host == r.memory) (host_alloc f host == r.alloc) first.1 in (
+      cores_in_row g host r at ∙ sym (eqb-true (host_cores f host) r.cores first.0),
+      memory_in_row g host r at ∙ sym (eqb-true (host_memory f host) r.memory rest.0),
+      alloc_in_row g host r at ∙ sym (eqb-true (host_alloc f host) r.alloc rest.1),
+    )
+
+abbrev host_of : RowKey → ℕ
+host_of (key.Host host) = host
+host_of other = 0
+
+-- the row that is put, unless it makes a turn
+row_keeps : (f g : Farm) (host : ℕ) (r : HostRow) → row_at g (key.Host host) ≡ Some (row.Host host r)
+    → ((t : Turn) → host_turn f host r ≡ Some t → turn_key t ≡ key.Host host → ⊥) → SameSize f g host
+row_keeps f g host r is makes = by (keeps_size f host r) refl
+  where
+    by : (b : Bool) → keeps_size f host r ≡ b → SameSize f g host
+    by true keeps = size_kept f g host r (put_row host r (slice_get g.hosts host) is) keeps
+    by false other =
+        absurd (makes (turn.Host host (size_at f host)) (ap (λ (b : Bool). if b then None else Some (turn.Host host (size_at f host))) other) refl)
+
+-- a change of a host's row, unless it makes a turn
+change_keeps : (f g : Farm) (n : ℕ) (c : RowChange) → change_key c ≡ key.Host n → Differs c (row_at f (change_key c)) (row_at g (change_key c))
+    → ((t : Turn) → turn_for f c ≡ Some t → turn_key t ≡ key.Host n → ⊥) → SameSize f g n
+change_keeps f g n (change.Put (row.Host host r)) named differs makes =
+    subst (SameSize f g) (ap host_of named) (row_keeps f g host r differs.0 (λ t is of. makes t is (of ∙ named)))
+change_keeps f g n (change.Put (row.Head r)) named differs makes = absurd (false≢true (ap is_host named))
+change_keeps f g n (change.Put (row.Show show r)) named differs makes = absurd (false≢true (ap is_host named))
+change_keeps f g n (change.Put (row.Alloc alloc r)) named differs makes = absurd (false≢true (ap is_host named))
+change_keeps f g n (change.Put (row.Sub r)) named differs makes = absurd (false≢true (ap is_host named))
+change_keeps f g n (change.Put (row.Job r)) named differs makes = absurd (false≢true (ap is_host named))
+change_keeps f g n (change.Put (row.Layer r)) named differs makes = absurd (false≢true (ap is_host named))
+change_keeps f g n (change.Put (row.Frame r)) named differs makes = absurd (false≢true (ap is_host named))
+change_keeps f g n (change.Put (row.Depend r)) named differs makes = absurd (false≢true (ap is_host named))
+change_keeps f g n (change.Put (row.Met r)) named differs makes = absurd (false≢true (ap is_host named))
+change_keeps f g n (change.Put (row.Limit limit r)) named differs makes = absurd (false≢true (ap is_host named))
+change_keeps f g n (change.Delete gone) named differs makes =
+    let is : turn_of f gone ≡ Some (turn.Host n (size_at f n)) = ap (turn_of f) named in
+    absurd (makes (turn.Host n (size_at f n)) is refl)
+
 -- ---- all of it
 
 module _ (f g : Farm) (cs : List RowChange) (kept : IsKeptFarm f) (keeps : IsKeptFarm g) (named : NamesExactly f g cs) where
@@ -195,10 +330,10 @@ module _ (f g : Farm) (cs : List RowChange) (kept : IsKeptFarm f) (keeps : IsKep
   each_in i t at =
       let found = comes f cs i t at in
       let c = found.change in
-      in_by t c (key_is f (change_key c) t found.is) (there_in c (row_at f (change_key c)) (row_at g (change_key c)) (named.each (place_of f cs i) c found.at))
+      in_by t c (key_is f (change_key c) t (for_is f c t found.is)) (there_in c (row_at f (change_key c)) (row_at g (change_key c)) (named.each (place_of f cs i) c found.at))
 
   was_said : (i : ℕ) (t : Turn) → slice_get (turns_of f cs) i ≡ Some t → Says f t
-  was_said i t at = let found = comes f cs i t at in said_is f (change_key found.change) t found.is
+  was_said i t at = let found = comes f cs i t at in said_is f (change_key found.change) t (for_is f found.change t found.is)
 
   named_once : (i k : ℕ) (t u : Turn) → slice_get (turns_of f cs) i ≡ Some t → slice_get (turns_of f cs) k ≡ Some u
       → is_key (turn_key t) (turn_key u) ≡ true → i ≡ k
@@ -206,13 +341,24 @@ module _ (f g : Farm) (cs : List RowChange) (kept : IsKeptFarm f) (keeps : IsKep
       let a = comes f cs i t first in
       let b = comes f cs k u second in
       let keys : is_key (change_key a.change) (change_key b.change) ≡ true =
-      ap (λ (j : RowKey). is_key j (change_key b.change)) (sym (key_is f (change_key a.change) t a.is))
-      ∙ ap (is_key (turn_key t)) (sym (key_is f (change_key b.change) u b.is))
+      ap (λ (j : RowKey). is_key j (change_key b.change)) (sym (key_is f (change_key a.change) t (for_is f a.change t a.is)))
+      ∙ ap (is_key (turn_key t)) (sym (key_is f (change_key b.change) u (for_is f b.change u b.is)))
       ∙ same in
       one_place f cs i k (named.once (place_of f cs i) (place_of f cs k) a.change b.change a.at b.at keys)
 
-  stays : (k : RowKey) (t : Turn) → turn_of f k ≡ Some t → has_turn (turns_of f cs) k ≡ false → row_at g k ≡ row_at f k
-  stays k t has none = named.rest k (unnamed f k t has cs none)
+  stays : (k : RowKey) (t : Turn) → turn_of f k ≡ Some t → is_host k ≡ false → has_turn (turns_of f cs) k ≡ false → row_at g k ≡ row_at f k
+  stays k t has other none = named.rest k (unnamed f k t has other cs none)
+
+  -- a host without a turn: no change is of it, or the one that is keeps its size
+  host_stays : (n : ℕ) → (row_at g (key.Host n) ≡ row_at f (key.Host n) → SameSize f g n) → has_turn (turns_of f cs) (key.Host n) ≡ false → SameSize f g n
+  host_stays n rest none = by (list_any (is_named_by (key.Host n)) cs) refl
+    where
+      by : (b : Bool) → list_any (is_named_by (key.Host n)) cs ≡ b → SameSize f g n
+      by false unmet = rest (named.rest (key.Host n) unmet)
+      by true any =
+          let c = named_at (key.Host n) cs any in
+          change_keeps f g n c.1 (is_key-true (change_key c.1) (key.Host n) c.3) (named.each c.0 c.1 c.2)
+          (λ t is of. true≢false (sym (has_there f cs c.0 c.1 t (key.Host n) c.2 is of) ∙ none))
 
   pub covered : ((n : ℕ) → row_at g (key.Frame n) ≡ row_at f (key.Frame n) → stand_at g n ≡ stand_at f n)
       → ((n : ℕ) → row_at g (key.Host n) ≡ row_at f (key.Host n)
@@ -222,12 +368,12 @@ module _ (f g : Farm) (cs : List RowChange) (kept : IsKeptFarm f) (keeps : IsKep
       → Covers f g (turns_of f cs)
   covered stands hosts bursts mosts =
       record {
-        slot = λ n none. stands n (stays (key.Frame n) _ refl none);
-        cores = λ n none. (hosts n (stays (key.Host n) _ refl none)).0;
-        memory = λ n none. (hosts n (stays (key.Host n) _ refl none)).1;
-        alloc = λ n none. (hosts n (stays (key.Host n) _ refl none)).2;
-        burst = λ n none. bursts n (stays (key.Sub n) _ refl none);
-        most = λ n none. mosts n (stays (key.Limit n) _ refl none);
+        slot = λ n none. stands n (stays (key.Frame n) _ refl refl none);
+        cores = λ n none. (host_stays n (hosts n) none).0;
+        memory = λ n none. (host_stays n (hosts n) none).1;
+        alloc = λ n none. (host_stays n (hosts n) none).2;
+        burst = λ n none. bursts n (stays (key.Sub n) _ refl refl none);
+        most = λ n none. mosts n (stays (key.Limit n) _ refl refl none);
         was = was_said;
         in_table = each_in;
         once = named_once;

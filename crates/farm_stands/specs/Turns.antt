@@ -1,9 +1,13 @@
 -- The words of rows that change, with what the farm before says of them.
-use Rattle.std.specs.Prelude.{◌≡◌, ◌⊎◌, ℕ, ◌<◌, ◌||◌, Bool, false, true, List, [], ◌∷◌, Option, Some, None, slice_get}
+use Rattle.std.specs.Prelude.{◌≡◌, ◌⊎◌, ℕ, ◌<◌, ◌==◌, ◌&&◌, ◌||◌, Bool, false, true, List, [], ◌∷◌, Option, Some, None, if◌then◌else◌, slice_get}
 use Rattle.farm_types.specs.Farm.{Farm}
+use Rattle.farm_types.specs.declared.rows.HostRow.{HostRow}
 use Rattle.farm_types.specs.declared.limits.TheConstants.{MOST_HOSTS, MOST_LIMITS, SLOT_LIMIT, SUB_NUMBERS}
-use Rattle.farm_rows.specs.Changes.{change_key, is_key}
+use Rattle.farm_rows.specs.Changes.{is_key, row_key}
+use Rattle.farm_rows.specs.declared.farm_row.FarmRow.{FarmRow}
+use Rattle.farm_rows.specs.declared.farm_row.FarmRow.TheVariants as row
 use Rattle.farm_rows.specs.declared.row_change.RowChange.{RowChange}
+use Rattle.farm_rows.specs.declared.row_change.RowChange.TheVariants as change
 use Rattle.farm_rows.specs.declared.row_key.RowKey.{RowKey}
 use Rattle.farm_rows.specs.declared.row_key.RowKey.TheVariants as key
 use Rattle.frame_words.specs.declared.amount_word.AmountWord.{AmountWord}
@@ -12,6 +16,7 @@ use Rattle.booking_rule.specs.Link.{burst_at, has, host_alloc, host_cores, host_
 use Rattle.booking_rule.specs.Recorded.{Stand}
 use Rattle.booking_rule.specs.Rule.{word_of}
 use Rattle.farm_stands.specs.declared.bounds.HostSize.{HostSize}
+use Rattle.farm_stands.specs.declared.words.SlotWords.{SlotWords}
 use Rattle.farm_stands.specs.declared.turn.Turn.{Turn}
 use Rattle.farm_stands.specs.declared.turn.Turn.TheVariants as turn
 
@@ -21,12 +26,18 @@ use Rattle.farm_stands.specs.declared.turn.Turn.TheVariants as turn
 abbrev pub amounts_in : Stand → AmountWord
 amounts_in s = record { show = s.show; limit = s.limit; memory = s.memory }
 
+abbrev pub words_in : Stand → SlotWords
+words_in s = record { frame = word_of s; amount = amounts_in s }
+
 abbrev pub size_at : Farm → ℕ → HostSize
 size_at f host = record { cores = host_cores f host; memory = host_memory f host; alloc = host_alloc f host }
 
+abbrev pub slot_turn : Farm → ℕ → Turn
+slot_turn f slot = turn.Slot slot (word_of (stand_at f slot)) (amounts_in (stand_at f slot))
+
 -- what the farm says of the words of a row: none where the row has no words
 abbrev pub turn_of : Farm → RowKey → Option Turn
-turn_of f (key.Frame slot) = Some (turn.Slot slot (word_of (stand_at f slot)) (amounts_in (stand_at f slot)))
+turn_of f (key.Frame slot) = Some (slot_turn f slot)
 turn_of f (key.Host host) = Some (turn.Host host (size_at f host))
 turn_of f (key.Sub sub) = Some (turn.Sub sub (burst_at f sub))
 turn_of f (key.Limit limit) = Some (turn.Limit limit (most_at f limit))
@@ -34,13 +45,29 @@ turn_of f other = None
 
 -- ---- the turns of changes
 
+-- the row says the size and the allocation that the farm says of the host
+abbrev pub keeps_size : Farm → ℕ → HostRow → Bool
+keeps_size f host r = host_cores f host == r.cores && (host_memory f host == r.memory && host_alloc f host == r.alloc)
+
+abbrev pub host_turn : Farm → ℕ → HostRow → Option Turn
+host_turn f host r = if keeps_size f host r then None else Some (turn.Host host (size_at f host))
+
+abbrev pub row_turn : Farm → FarmRow → Option Turn
+row_turn f (row.Host host r) = host_turn f host r
+row_turn f other = turn_of f (row_key other)
+
+-- of one change: none where the row has no words, or is of a host that keeps its size and its allocation
+abbrev pub turn_for : Farm → RowChange → Option Turn
+turn_for f (change.Put r) = row_turn f r
+turn_for f (change.Delete gone) = turn_of f gone
+
 abbrev pub with_turn : Option Turn → List Turn → List Turn
 with_turn None ts = ts
 with_turn (Some t) ts = t ∷ ts
 
 abbrev pub turns_of : Farm → List RowChange → List Turn
 turns_of f [] = []
-turns_of f (c ∷ cs) = with_turn (turn_of f (change_key c)) (turns_of f cs)
+turns_of f (c ∷ cs) = with_turn (turn_for f c) (turns_of f cs)
 
 -- the row whose words a turn is of
 abbrev pub turn_key : Turn → RowKey

@@ -3,12 +3,12 @@
 
 mod bounds;
 mod law;
-mod slot_words;
 mod turn;
 mod turns;
+mod words;
 
 pub use bounds::{HostSize, burst, host_size, most};
 pub use law::{turns_cover, turns_finish};
-pub use slot_words::{amount_word, frame_word};
-pub use turn::{Turn, turn_of};
+pub use turn::{Turn, turn_for, turn_of};
 pub use turns::turns_of;
+pub use words::{SlotWords, slot_words};

@@ -1,13 +1,15 @@
 //! What a change of a row is about: the words that the row has.
 
 ghost use Rattle.std.specs.Prelude.{◌≡◌, ◌↔◌, IsTrue};
-ghost use Rattle.farm_stands.specs.Turns.{Says, turn_of};
+ghost use Rattle.booking_rule.specs.Link.{stand_at};
+ghost use Rattle.booking_rule.specs.Rule.{word_of};
+ghost use Rattle.farm_stands.specs.Turns.{Says, amounts_in, host_turn, row_turn, slot_turn, turn_for, turn_of};
 
 use crate::bounds::{HostSize, burst, host_size, most};
-use crate::slot_words::{amount_word, frame_word};
+use crate::words::{SlotWords, slot_words};
 use farm_core::Farm;
-use farm_rows::RowKey;
-use farm_types::{Cores, HostNo, LimitNo, Slot, SubNo};
+use farm_rows::{FarmRow, RowChange, RowKey};
+use farm_types::{Cores, HostNo, HostRow, LimitNo, Slot, SubNo};
 use frame_words::{AmountWord, FrameWord};
 
 /// The words of a row that changes, by the number of its slot, host, subscription or limit, and what the farm says of them before the change: a slot's two
@@ -43,7 +45,7 @@ impl Turn {
                 slot,
                 frame,
                 amount,
-            } => *frame == frame_word(farm, *slot) && *amount == amount_word(farm, *slot),
+            } => are_said(farm, *slot, frame, amount),
             Turn::Host { host, size } => *size == host_size(farm, *host),
             Turn::Sub { sub, burst: said } => *said == burst(farm, *sub),
             Turn::Limit { limit, most: said } => *said == most(farm, *limit),
@@ -51,16 +53,65 @@ impl Turn {
     }
 }
 
+// Whether the farm says these words of the slot.
+fn are_said(farm: &Farm, slot: Slot, frame: &FrameWord, amount: &AmountWord) -> bool
+    ensures { IsTrue result ↔ ((frame.now ≡ word_of (stand_at farm.now slot)) × (amount.now ≡ amounts_in (stand_at farm.now slot))) }
+{
+    let words = slot_words(farm, slot);
+    *frame == words.frame && *amount == words.amount
+}
+
+/// What the farm says of the words of a row that changes; none where the row has no words, or is of a host that keeps its size and its allocation.
+#[inline(always)]
+pub fn turn_for(farm: &Farm, change: &RowChange) -> Option<Turn>
+    ensures { result ≡ turn_for farm.now change.now }
+{
+    match change {
+        RowChange::Put(row) => row_turn(farm, row),
+        RowChange::Delete { key } => turn_of(farm, *key),
+    }
+}
+
+#[inline(always)]
+fn row_turn(farm: &Farm, row: &FarmRow) -> Option<Turn>
+    ensures { result ≡ row_turn farm.now row.now }
+{
+    match row {
+        FarmRow::Host { host, row } => host_turn(farm, *host, row),
+        FarmRow::Head(_)
+        | FarmRow::Show { .. }
+        | FarmRow::Alloc { .. }
+        | FarmRow::Sub(_)
+        | FarmRow::Job(_)
+        | FarmRow::Layer(_)
+        | FarmRow::Frame(_)
+        | FarmRow::Depend(_)
+        | FarmRow::Met(_)
+        | FarmRow::Limit { .. } => turn_of(farm, row.key()),
+    }
+}
+
+// The turn of a host that gets that row, unless it keeps its size and its allocation.
+#[inline(always)]
+fn host_turn(farm: &Farm, host: HostNo, row: &HostRow) -> Option<Turn>
+    ensures { result ≡ host_turn farm.now host row.now }
+{
+    let size = host_size(farm, host);
+    if size.cores.0 == row.cores.0
+        && (size.memory.0 == row.memory.0 && size.alloc.0 == row.alloc.0)
+    {
+        return None;
+    }
+    Some(Turn::Host { host, size })
+}
+
 /// What the farm says of the words of the row of that key. Only rows of slots, hosts, subscriptions and limits have words.
+#[inline(always)]
 pub fn turn_of(farm: &Farm, key: RowKey) -> Option<Turn>
     ensures { result ≡ turn_of farm.now key }
 {
     match key {
-        RowKey::Frame { slot } => Some(Turn::Slot {
-            slot,
-            frame: frame_word(farm, slot),
-            amount: amount_word(farm, slot),
-        }),
+        RowKey::Frame { slot } => Some(slot_turn(farm, slot)),
         RowKey::Host { host } => Some(Turn::Host {
             host,
             size: host_size(farm, host),
@@ -80,5 +131,17 @@ pub fn turn_of(farm: &Farm, key: RowKey) -> Option<Turn>
         | RowKey::Layer { .. }
         | RowKey::Depend { .. }
         | RowKey::Met { .. } => None,
+    }
+}
+
+#[inline(always)]
+fn slot_turn(farm: &Farm, slot: Slot) -> Turn
+    ensures { result ≡ slot_turn farm.now slot }
+{
+    let SlotWords { frame, amount } = slot_words(farm, slot);
+    Turn::Slot {
+        slot,
+        frame,
+        amount,
     }
 }

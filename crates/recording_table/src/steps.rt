@@ -41,6 +41,7 @@ pub(crate) fn add_as<E: Stepping>(table: &Table, seat: &mut Seat, word: usize, a
     table.words().fetch_add::<Stepped<E>>(seat, word, amount)
 }
 
+#[inline(always)]
 fn add_by<E: Stepping>(
     table: &Table,
     seat: &mut Seat,
@@ -61,6 +62,7 @@ fn add_by<E: Stepping>(
 }
 
 /// A sum, by a step of that kind.
+#[inline(always)]
 pub(crate) fn add(table: &Table, seat: &mut Seat, word: usize, amount: u64, doing: Doing) -> u64
     requires table { IsSeatOf table.now seat.old }
     requires word { (word < all_words) × (word ≡ place (kind_of doing)) }
@@ -73,6 +75,7 @@ pub(crate) fn add(table: &Table, seat: &mut Seat, word: usize, amount: u64, doin
     add_by::<Brand>(table, seat, word, amount, doing)
 }
 
+#[inline(always)]
 fn swap_by<E: Stepping>(table: &Table, seat: &mut Seat, word: usize, new: u64, doing: Doing) -> u64
     requires table { IsSeatOf table.now seat.old }
     requires word { (word < all_words) × (word ≡ place E.kind) }
@@ -88,6 +91,7 @@ fn swap_by<E: Stepping>(table: &Table, seat: &mut Seat, word: usize, new: u64, d
 }
 
 /// Another word in its place, whatever it was, by a step of that kind.
+#[inline(always)]
 pub(crate) fn swap(table: &Table, seat: &mut Seat, word: usize, new: u64, doing: Doing) -> u64
     requires table { IsSeatOf table.now seat.old }
     requires word { (word < all_words) × (word ≡ place (kind_of doing)) }
@@ -100,6 +104,7 @@ pub(crate) fn swap(table: &Table, seat: &mut Seat, word: usize, new: u64, doing:
     swap_by::<Brand>(table, seat, word, new, doing)
 }
 
+#[inline(always)]
 fn exchange_by<E: Stepping>(
     table: &Table,
     seat: &mut Seat,
@@ -124,6 +129,7 @@ fn exchange_by<E: Stepping>(
 }
 
 /// Another word in its place, where it is the old one, by a step of that kind.
+#[inline(always)]
 pub(crate) fn exchange(
     table: &Table,
     seat: &mut Seat,

@@ -1,14 +1,15 @@
 //! The words of an entry.
 
-ghost use Rattle.std.specs.Prelude.{◌≡◌, ◌↔◌, ◌<◌, ℕ, [], IsTrue, Some, not, length, true, false};
+ghost use Rattle.std.specs.Prelude.{◌≡◌, ◌↔◌, ◌<◌, ℕ, [], IfNone, IfSome, IsTrue, Some, not, length, true, false};
 ghost use Rattle.farm_types.specs.Farm.{sub_of};
-ghost use Rattle.booking_rule.specs.Link.{host_alloc};
+ghost use Rattle.frame_words.specs.Bits.{FitsAmount, FitsFrame};
+ghost use Rattle.booking_rule.specs.Link.{host_alloc, stand_at};
 ghost use Rattle.booking_rule.specs.Rule.{is_booked};
 ghost use Rattle.booking_table.specs.Calls.{limit_in};
 ghost use Rattle.booking_table.specs.Seats.{view, IsSeatOf, IsSameSeat};
 ghost use Rattle.recording_core.specs.Machine.{HasItsAmounts};
 ghost use Rattle.recording_core.specs.Records.{desk_in};
-ghost use Rattle.farm_stands.specs.Turns.{Says};
+ghost use Rattle.farm_stands.specs.Turns.{Says, words_in};
 ghost use Rattle.recording_turns.specs.Carrying.{CarriedIf, Gave, Goes, Going, HasFreed, IsNoted, IsOpen, IsReady, SlotsDone, Turned};
 ghost use Rattle.recording_turns.specs.Carrying.{host_key, host_turn, is_slot, limit_key, limit_turn, slot_key, slot_turn, sub_key, sub_turn};
 ghost use Rattle.recording_turns.specs.Owing.{Owes};
@@ -16,7 +17,7 @@ ghost use Rattle.recording_turns.specs.Resting.{IsAtRest, WentOn};
 
 use booking_table::{BurstHold, Hold, Seat, Table};
 use farm_core::Farm;
-use farm_stands::{HostSize, Turn, amount_word, burst, frame_word, host_size, most};
+use farm_stands::{HostSize, SlotWords, Turn, burst, host_size, most, slot_words};
 use farm_types::{Cores, HostNo, LimitNo, Slot, SubNo};
 use frame_words::{AmountWord, FREE, FrameWord, HostWord, RUNNING, SETUP};
 use recording_table::{change_slot, set_amount, set_burst, set_most, set_size};
@@ -89,9 +90,6 @@ fn carry_slot(table: &Table, seat: &mut Seat, farm: &Farm, turn: &Turn, resized:
     ensures going { Going (view seat.new) farm.now resized.now }
     ensures carried { CarriedIf (is_slot turn.now) (view seat.old) farm.now turn.now (view seat.new) }
 {
-    if turn.is_said_by(farm) {
-        return;
-    }
     let Turn::Slot {
         slot,
         frame,
@@ -100,7 +98,23 @@ fn carry_slot(table: &Table, seat: &mut Seat, farm: &Farm, turn: &Turn, resized:
     else {
         return;
     };
-    carry_words(table, seat, farm, *slot, frame, amount, resized);
+    let Some(words) = other_words(farm, *slot, frame, amount) else {
+        return;
+    };
+    carry_words(table, seat, farm, *slot, frame, amount, &words, resized);
+}
+
+// What the farm says of a slot, where these aren't its words.
+fn other_words(farm: &Farm, slot: Slot, frame: &FrameWord, amount: &AmountWord) -> Option<SlotWords>
+    ensures said { IfNone result (Says farm.now (slot_turn slot frame.now amount.now)) }
+    ensures words { IfSome result (λ words. (words ≡ words_in (stand_at farm.now slot)) × (FitsFrame words.frame × FitsAmount words.amount)) }
+    ensures differs { IfSome result (λ words. Says farm.now (slot_turn slot frame.now amount.now) → ⊥) }
+{
+    let words = slot_words(farm, slot);
+    if words.frame == *frame && words.amount == *amount {
+        return None;
+    }
+    Some(words)
 }
 
 // The words of a slot become what the farm says, its amounts first.
@@ -111,22 +125,24 @@ fn carry_words(
     slot: Slot,
     frame: &FrameWord,
     amount: &AmountWord,
+    words: &SlotWords,
     resized: &Option<HostNo>,
 )
     requires table { IsSeatOf table.now seat.old }
     requires ready { IsReady (view seat.old) farm.now slot frame.now amount.now resized.now }
+    requires words { words.now ≡ words_in (stand_at farm.now slot) }
+    requires fits { FitsFrame words.now.frame × FitsAmount words.now.amount }
     ensures same { IsSameSeat seat.old seat.new }
     ensures going { Going (view seat.new) farm.now resized.now }
     ensures turned { Turned (view seat.old) (slot_key slot) (view seat.new) }
 {
-    write_amount(table, seat, farm, slot, frame, amount, resized);
-    let word = frame_word(farm, slot);
+    write_amount(table, seat, farm, slot, frame, amount, words, resized);
     let FrameWord {
         phase,
         version: _,
         host,
         cores,
-    } = change_slot(table, seat, slot, frame.phase, word);
+    } = change_slot(table, seat, slot, frame.phase, words.frame);
     if !is_booked(phase) {
         return;
     }
@@ -142,24 +158,27 @@ fn write_amount(
     slot: Slot,
     frame: &FrameWord,
     amount: &AmountWord,
+    words: &SlotWords,
     resized: &Option<HostNo>,
 )
     requires table { IsSeatOf table.now seat.old }
     requires ready { IsReady (view seat.old) farm.now slot frame.now amount.now resized.now }
+    requires words { words.now ≡ words_in (stand_at farm.now slot) }
+    requires fits { FitsFrame words.now.frame × FitsAmount words.now.amount }
     ensures same { IsSameSeat seat.old seat.new }
     ensures noted { IsNoted (view seat.old) (view seat.new) }
     ensures amounts { HasItsAmounts (view seat.new) slot }
 {
+    let _ = farm;
     let _ = amount;
     let _ = resized;
     if frame.phase != FREE {
         return;
     }
-    let word = frame_word(farm, slot);
-    if word.phase == FREE {
+    if words.frame.phase == FREE {
         return;
     }
-    set_amount(table, seat, slot, amount_word(farm, slot));
+    set_amount(table, seat, slot, words.amount);
 }
 
 // What a booked word had booked goes back, but for room on the host that is resized.
@@ -241,7 +260,7 @@ fn carry_other(table: &Table, seat: &mut Seat, farm: &Farm, turn: &Turn, resized
     ensures going { Going (view seat.new) farm.now resized.now }
     ensures carried { CarriedIf (not (is_slot turn.now)) (view seat.old) farm.now turn.now (view seat.new) }
 {
-    if turn.is_said_by(farm) {
+    if is_slot(turn) || turn.is_said_by(farm) {
         return;
     }
     match turn {
@@ -249,6 +268,15 @@ fn carry_other(table: &Table, seat: &mut Seat, farm: &Farm, turn: &Turn, resized
         Turn::Host { host, size } => carry_host(table, seat, farm, *host, size, resized),
         Turn::Sub { sub, burst } => carry_sub(table, seat, farm, *sub, *burst, resized),
         Turn::Limit { limit, most } => carry_limit(table, seat, farm, *limit, *most, resized),
+    }
+}
+
+fn is_slot(turn: &Turn) -> bool
+    ensures { result ≡ is_slot turn.now }
+{
+    match turn {
+        Turn::Slot { .. } => true,
+        Turn::Host { .. } | Turn::Sub { .. } | Turn::Limit { .. } => false,
     }
 }
 

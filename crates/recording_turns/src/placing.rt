@@ -1,10 +1,11 @@
 //! The words of a farm, placed for the first time.
 
 ghost use Rattle.std.specs.Prelude.{◌≡◌, ◌≢◌, ◌+◌, ◌<◌, [], length};
-ghost use Rattle.frame_words.specs.Bits.{FitsFrame};
+ghost use Rattle.frame_words.specs.Bits.{FitsAmount, FitsFrame};
 ghost use Rattle.booking_rule.specs.Link.{stand_at};
 ghost use Rattle.booking_rule.specs.Rule.{word_of};
 ghost use Rattle.booking_table.specs.Seats.{view, IsSeatOf, IsSameSeat};
+ghost use Rattle.farm_stands.specs.Turns.{amounts_in};
 ghost use Rattle.recording_turns.specs.Placed.{HasPlaced, IsPlacing, Onward};
 ghost use Rattle.recording_turns.specs.Resting.{IsPlaced, IsUnplaced};
 
@@ -12,9 +13,9 @@ use crate::free::free_word;
 use booking_table::{Seat, Table};
 use entry_law::used_is_running;
 use farm_core::Farm;
-use farm_stands::{amount_word, burst, frame_word, most};
+use farm_stands::{SlotWords, burst, most, slot_words};
 use farm_types::{HostNo, LimitNo, Slot, SubNo};
-use frame_words::{FREE, FrameWord, LimitWord, RUNNING, SubWord};
+use frame_words::{AmountWord, FREE, FrameWord, LimitWord, RUNNING, SubWord};
 use recording_table::{
     Opens, close_opening, open_farm, place_burst, place_most, place_size, place_slot, set_amount,
     turn_slot,
@@ -190,12 +191,12 @@ fn place_words(table: &Table, seat: &mut Seat, farm: &Farm, slot: Slot)
     ensures placed { HasPlaced farm.now (length farm.now.limits) (slot + 1) (view seat.new) }
     ensures onward { Onward (view seat.old) (view seat.new) }
 {
-    let word = frame_word(farm, slot);
-    if word.phase == FREE {
-        place_free(table, seat, farm, slot, word);
+    let SlotWords { frame, amount } = slot_words(farm, slot);
+    if frame.phase == FREE {
+        place_free(table, seat, farm, slot, frame);
         return;
     }
-    place_frame(table, seat, farm, slot, word);
+    place_frame(table, seat, farm, slot, frame, amount);
 }
 
 // The word of a slot without a frame, unless the slot was never used.
@@ -217,10 +218,19 @@ fn place_free(table: &Table, seat: &mut Seat, farm: &Farm, slot: Slot, word: Fra
 }
 
 // The words of a slot with a frame: its amounts come first.
-fn place_frame(table: &Table, seat: &mut Seat, farm: &Farm, slot: Slot, word: FrameWord)
+fn place_frame(
+    table: &Table,
+    seat: &mut Seat,
+    farm: &Farm,
+    slot: Slot,
+    word: FrameWord,
+    amount: AmountWord,
+)
     requires table { IsSeatOf table.now seat.old }
     requires within { (slot < 65536) × FitsFrame word }
+    requires amount_fits { FitsAmount amount }
     requires word { word ≡ word_of (stand_at farm.now slot) }
+    requires amount { amount ≡ amounts_in (stand_at farm.now slot) }
     requires used { word.phase ≢ 0 }
     requires placed { HasPlaced farm.now (length farm.now.limits) slot (view seat.old) }
     ensures same { IsSameSeat seat.old seat.new }
@@ -228,7 +238,7 @@ fn place_frame(table: &Table, seat: &mut Seat, farm: &Farm, slot: Slot, word: Fr
     ensures onward { Onward (view seat.old) (view seat.new) }
 {
     farm.kept();
-    set_amount(table, seat, slot, amount_word(farm, slot));
+    set_amount(table, seat, slot, amount);
     if word.phase == RUNNING {
         place_slot(table, seat, slot, word);
         return;

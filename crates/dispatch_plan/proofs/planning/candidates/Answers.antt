@@ -1,10 +1,10 @@
-use Rattle.std.proofs.Common.{◌∙◌, List, [], sym, ap, subst}
+use Rattle.std.proofs.Common.{◌∙◌, List, [], refl, sym, ap, subst}
 use Rattle.std.specs.List.{flat_map}
 use Rattle.farm_types.specs.declared.dispatch.Candidate.{Candidate}
 use Rattle.farm_types.specs.declared.rows.SubRow.{SubRow}
 use Rattle.dispatch_law.specs.ByIndex.{ranks_in_show, show_of, sorted_subs}
 use Rattle.dispatch_plan.specs.Offers.{AreBilled, offered}
-use Rattle.dispatch_plan.proofs.NoneFits.{plan_closed}
+use Rattle.dispatch_plan.proofs.NoneFits.{plan_closed, plan_unready}
 use Rattle.dispatch_plan.proofs.Plans.{plan_full, plan_is, subs_billed, subs_read}
 use Rattle.dispatch_plan.proofs.planning.candidates.Goals as goal
 
@@ -13,6 +13,11 @@ returns-then-not-takes_frames c = c.new.ensures.items ∙ sym (plan_closed c.arg
 
 pub returns-then-not-has_least_free : goal.returns-then-not-has_least_free
 returns-then-not-has_least_free c = c.new-then-not-has_least_free.ensures.items ∙ sym (plan_full c.args.farm.now c.args.host c.args.row.now c.kept.ensures.rows c.requires (sym c.if-not-has_least_free.ensures))
+
+pub returns-then-not-has_ready : goal.returns-then-not-has_ready
+returns-then-not-has_ready c =
+    c.new-then-not-has_ready.ensures.items
+    ∙ sym (plan_unready c.args.farm.now c.args.host c.args.row.now c.kept.ensures.rows c.requires (c.if-not-has_ready.ensures refl))
 
 pub offer_subs-requires-clause-billed : goal.offer_subs-requires-clause-billed
 offer_subs-requires-clause-billed c =

@@ -20,9 +20,9 @@ returns-in_err-change c =
     let e = c.args.entry.now in
     subst (λ (f : Farm). Prepares f e c.from_residual-in_err-change.result) c.self.view_is (plan_fails c.self.inside.books.farm e _ c.from_residual-in_err-change.result c.from_residual-in_err-change.ensures.1 c.in_err-change.ensures.prepared)
 
-pub with_rows-requires-clause-planned : goal.with_rows-requires-clause-planned
-with_rows-requires-clause-planned c = subst (λ (f : Farm). Plans f c.args.entry.now c.in_ok-change.change) c.self.view_is c.in_ok-change.ensures.prepared
+pub put_rows-requires-clause-planned : goal.put_rows-requires-clause-planned
+put_rows-requires-clause-planned c = subst (λ (f : Farm). Plans f c.args.entry.now c.in_ok-change.change) c.self.view_is c.in_ok-change.ensures.prepared
 
-pub with_rows-requires-clause-rows : goal.with_rows-requires-clause-rows
-with_rows-requires-clause-rows c =
+pub put_rows-requires-clause-rows : goal.put_rows-requires-clause-rows
+put_rows-requires-clause-rows c =
     subst (λ (f : Farm). (k : RowKey) → row_at (after_change f c.in_ok-change.change) k ≡ row_after c.in_ok-rows.rows.items k (row_at f k)) c.self.view_is c.in_ok-rows.ensures

@@ -1,6 +1,6 @@
 use Rattle.std.proofs.Common.{sym}
 use Rattle.farm_stands.proofs.Fitting.{limit_within}
-use Rattle.farm_stands.proofs.slot_words.layer_limit.Goals as goal
+use Rattle.farm_stands.proofs.words.layer_amounts.Goals as goal
 
 pub limit_code-requires : goal.limit_code-requires
 limit_code-requires c =
