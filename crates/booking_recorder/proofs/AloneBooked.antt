@@ -1,7 +1,6 @@
 -- What became of a booking by the recorder alone.
-use Rattle.std.proofs.Common.{◌≡◌, ℕ, ◌+◌, ◌<◌, ◌^◌, ◌==◌, ◌&&◌, not, Bool, true, false, if◌then◌else◌, [], ◌∷◌, ◌++◌, length, length-append, Result, Ok, Err, sym, refl, ap, ◌∙◌, subst, arith}
+use Rattle.std.proofs.Common.{◌≡◌, ℕ, ◌+◌, ◌<◌, ◌^◌, ◌==◌, ◌&&◌, not, Bool, true, false, if◌then◌else◌, [], ◌∷◌, ◌++◌, length, length-append, Result, Ok, Err, sym, refl, ap, ◌∙◌, subst}
 use Rattle.std.proofs.lemmas.Bool.{false≢true}
-use Rattle.std.proofs.lemmas.Bool.Decides.{nat_tests}
 use Rattle.atomic_table.specs.Seated.{TableId}
 use Rattle.atomic_table.specs.declared.shared.Seat.{Seat}
 use Rattle.farm_types.specs.declared.attempt.ProcRow.{ProcRow}
@@ -26,6 +25,8 @@ use Rattle.booking_recorder.specs.Claims.{BooksAhead, CanStill, IsCause, TellsAh
 use Rattle.booking_recorder.specs.Faults.{is_store_stop}
 use Rattle.booking_recorder.specs.Recording.{IsHome, most_entries}
 use Rattle.booking_recorder.specs.Views.{Entered, Stays}
+use Rattle.booking_recorder.proofs.Confirmed.{below_most}
+use Rattle.booking_recorder.proofs.Homes.{count_after}
 use Rattle.booking_recorder.proofs.AloneViews.{farm_went, stays_rested}
 use Rattle.booking_recorder.proofs.Rests.{farm_more, prefix_then}
 
@@ -208,15 +209,9 @@ leads_own g u w n slot host moment (Err why) made went = made.0 ∙ sym (farm_we
 
 -- ---- the recorder
 
-below_most : (count n : ℕ) → count < 2 ^ 64 → count ≡ n → (n == most_entries) ≡ false → count < most_entries
-below_most count n lt is unspent = grind (arith, nat_tests)
-
 pub may_count_book : (count : ℕ) (r : BookResult) (more : Bool) → count < 2 ^ 64 → (is_booked_now r ≡ true → (count == most_entries) ≡ false)
     → more ≡ is_booked_now r → more ≡ true → count < most_entries
 may_count_book count r more lt unspent is more_is = below_most count count lt refl (unspent (sym is ∙ more_is))
-
-abbrev count_after : ℕ → Bool → ℕ
-count_after count more = if more then count + 1 else count
 
 module _ (t : TableId) (f g : Farm) (s s' : Seat (Unit {0}) View) (count count' split : ℕ) (e : Entry) (more : Bool) (home : IsHome t f s count split)
     (same : IsSameSeat s s') (rests : IsAtRest (view s')) (leads : g ≡ farm_in (view s')) (counts : count' ≡ (if more then count + 1 else count)) where

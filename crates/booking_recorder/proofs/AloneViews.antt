@@ -20,7 +20,7 @@ use Rattle.booking_rule.specs.Looks.{HasLook}
 use Rattle.booking_rule.specs.Seats.{desk_seats, number_seats, seats}
 use Rattle.booking_rule.specs.Views.{asked, asked_limit, claimed, granted, granted_limit, holds, holds_limit, limit_take, room_of, same_claim, same_limit, same_room, same_take, take_of, without, without_limit}
 use Rattle.booking_rule.proofs.Moves.{same_self}
-use Rattle.booking_core.specs.Kinds.{burst_given, burst_taken, claim_item, gave_burst, gave_host, host_given, limit_given, limit_taken, loaded, retracted_burst}
+use Rattle.booking_core.specs.Kinds.{burst_given, burst_taken, gave_burst, gave_host, host_given, limit_given, limit_taken, retracted_burst}
 use Rattle.booking_core.specs.Kinds as kinds
 use Rattle.booking_core.specs.Machine.{CanTake, IsIdle, MayGive, MayGiveRoom}
 use Rattle.booking_core.proofs.Seated.{settled_idle}

@@ -54,7 +54,7 @@ store_now (Ok done) = refl
 store_now (Err plain_fault.Store) = refl
 store_now (Err plain_fault.NoMemory) = refl
 
-no_stop_store : (why : ConfirmRefusal) → IsNoStop why → is_at_store why ≡ false
+pub no_stop_store : (why : ConfirmRefusal) → IsNoStop why → is_at_store why ≡ false
 no_stop_store (refusal.Withdrawn found) no_stop = refl
 no_stop_store refusal.EntriesSpent no_stop = refl
 no_stop_store refusal.Paused no_stop = refl
@@ -81,7 +81,7 @@ module _ {K : Type 0} (commits : Committing K) where
   told_now f slot host moment (Err plain_fault.Store) before now told = told
   told_now f slot host moment (Err plain_fault.NoMemory) before now told = told
 
-  untold : (f : Farm) (slot host moment : ℕ) (why : ConfirmRefusal) (k : K) → IsNoStop why → TellsAtStop commits f slot host moment why k k
+  pub untold : (f : Farm) (slot host moment : ℕ) (why : ConfirmRefusal) (k : K) → IsNoStop why → TellsAtStop commits f slot host moment why k k
   untold f slot host moment (refusal.Withdrawn found) k no_stop = refl
   untold f slot host moment refusal.EntriesSpent k no_stop = refl
   untold f slot host moment refusal.Paused k no_stop = refl

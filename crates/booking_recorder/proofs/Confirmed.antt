@@ -15,8 +15,9 @@ use Rattle.recording_turns.specs.Resting.{IsAtRest}
 use Rattle.booking_recorder.specs.Claims.{Confirms, entry_for}
 use Rattle.booking_recorder.specs.declared.refusal.ConfirmRefusal.{ConfirmRefusal}
 use Rattle.booking_recorder.specs.Recording.{IsHome, most_entries}
+use Rattle.booking_recorder.proofs.Homes.{count_after}
 
-below_most : (count n : ℕ) → count < 2 ^ 64 → count ≡ n → (n == most_entries) ≡ false → count < most_entries
+pub below_most : (count n : ℕ) → count < 2 ^ 64 → count ≡ n → (n == most_entries) ≡ false → count < most_entries
 below_most count n lt is unspent = grind (arith, nat_tests)
 
 pub may_count : (t : TableId) (f g : Farm) (s : Seat (Unit {0}) View) (w : View) (count split : ℕ) (k : Claim) (moment : ℕ)
@@ -24,9 +25,6 @@ pub may_count : (t : TableId) (f g : Farm) (s : Seat (Unit {0}) View) (w : View)
     → more ≡ is_ok r → more ≡ true → count < most_entries
 may_count t f g s w count split k moment (Ok row) more home lt made is more_is = below_most count (length (view s).journal) lt home.counted made.0
 may_count t f g s w count split k moment (Err left) more home lt made is more_is = absurd (false≢true (sym is ∙ more_is))
-
-abbrev count_after : ℕ → Bool → ℕ
-count_after count more = if more then count + 1 else count
 
 pub confirmed_home : (t : TableId) (f g : Farm) (s s' : Seat (Unit {0}) View) (count count' split : ℕ) (k : Claim) (moment : ℕ)
     (r : Result ProcRow (Claim × ConfirmRefusal)) (more : Bool) → IsHome t f s count split → IsSameSeat s s' → IsAtRest (view s') → g ≡ farm_in (view s')

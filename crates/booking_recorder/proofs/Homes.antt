@@ -13,7 +13,8 @@ use Rattle.booking_recorder.specs.declared.refusal.RecordFault.{RecordFault}
 use Rattle.booking_recorder.specs.Recording.{IsHome}
 use Rattle.booking_recorder.specs.Views.{Enters}
 
-abbrev count_after : ℕ → Bool → ℕ
+-- how many entries there are after one more, or none
+abbrev pub count_after : ℕ → Bool → ℕ
 count_after count more = if more then count + 1 else count
 
 pub recorded_home : (t : TableId) (f g : Farm) (s s' : Seat (Unit {0}) View) (count count' split : ℕ) (e : Entry) (r : Result (Unit {0}) RecordFault)

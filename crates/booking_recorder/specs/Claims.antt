@@ -77,11 +77,6 @@ IsNoStop (refusal.LimitLowered running most) = Unit {0}
 IsNoStop refusal.Memory = ⊥
 IsNoStop refusal.Store = ⊥
 
--- what the journal's length and the farm refuse
-abbrev pub Allows : {T : Type 0} → Farm → ℕ → ℕ → ℕ → Result T ConfirmRefusal → Type 0
-Allows f n slot host (Ok _) = ((n == most_entries) ≡ false) × MayStill f slot host
-Allows f n slot host (Err why) = IsNoStop why × IsCause (λ found. ⊥) f n slot host why
-
 -- ---- the booking, ahead of which the word runs
 
 abbrev pub BooksAhead : Farm → ℕ → ℕ → ℕ → ℕ → Result ProcRow ConfirmRefusal → Farm → Type 0

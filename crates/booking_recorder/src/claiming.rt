@@ -1,12 +1,14 @@
 //! The booking of a claim, in the farm, in the keeper and on the words, or in none of them.
 
-ghost use Rattle.std.specs.Prelude.{ℕ, ◌≡◌, ◌<◌, ◌^◌, true, length, MatchResult, Some};
+ghost use Rattle.std.specs.Prelude.{ℕ, ◌≡◌, ◌==◌, ◌<◌, ◌^◌, true, false, length, IfOk, MatchResult, Some};
+ghost use Rattle.std.specs.Result.{result_err};
 ghost use Rattle.farm_types.specs.Booking.{may_record};
 ghost use Rattle.farm_types.specs.Run.{live_at};
 ghost use Rattle.farm_types.specs.Step.{after};
 ghost use Rattle.farm_keeper.specs.Keeping.{Continues};
 ghost use Rattle.farm_books.specs.Bookings.{IsAsked};
 ghost use Rattle.farm_core.specs.Bookings.{IsBookingOf};
+ghost use Rattle.booking_reasons.specs.WhyNot.{why_not_record};
 ghost use Rattle.booking_rule.specs.declared.view.View.{View};
 ghost use Rattle.booking_rule.specs.Kept.{farm_in};
 ghost use Rattle.booking_rule.specs.Link.{stand_at};
@@ -15,12 +17,14 @@ ghost use Rattle.booking_table.specs.Seats.{view, IsSeatOf, IsSameSeat};
 ghost use Rattle.recorder.specs.Recording.{HasSameRows, booking};
 ghost use Rattle.recording_core.specs.Machine.{IsFormed, MayEnter};
 ghost use Rattle.recording_turns.specs.Resting.{IsAtRest};
-ghost use Rattle.booking_recorder.specs.Claims.{BooksAhead, BooksNow, CanStill, Confirms, IsWithdrawn, RunsAhead, TellsAhead, TellsConfirm, WasAhead, entry_for, left_with, stopped_by};
+ghost use Rattle.booking_recorder.specs.Claims.{BooksAhead, BooksNow, CanStill, Confirms, IsWithdrawn, MayStill, RunsAhead, TellsAhead, TellsConfirm, WasAhead, entry_for, left_with, stopped_by};
 ghost use Rattle.booking_recorder.specs.Faults.{is_store_left, is_store_stop};
+ghost use Rattle.booking_recorder.specs.Recording.{most_entries};
 ghost use Rattle.booking_recorder.specs.Views.{Entered, Enters, Stays};
 
-use crate::reading::decide;
+use crate::reading::stands_against;
 use crate::refusal::ConfirmRefusal;
+use booking_reasons::NotBooked;
 use booking_table::{Claim, Seat, Table};
 use entry_law::books_alone;
 use farm_core::{Booking, Farm};
@@ -165,9 +169,64 @@ pub(crate) fn book_ahead<K: Keeper>(
     ensures keeper { Continues K.tells K.faults plain.old.keeper plain.new.keeper (is_store_stop result) }
     ensures told { TellsAhead K.commits plain.old.farm slot host moment result plain.old.keeper plain.new.keeper }
 {
+    if count == u64::MAX {
+        return Err(ConfirmRefusal::EntriesSpent);
+    }
+    let found = plain.read().recordable(slot, host, moment);
+    book_found(alloc, plain, count, slot, host, moment, &found)
+}
+
+// Books what the farm lets be booked, of a journal that has room; or tells what stands against it.
+fn book_found<K: Keeper>(
+    alloc: Global,
+    plain: &mut RecordedFarm<K>,
+    count: u64,
+    slot: Slot,
+    host: HostNo,
+    moment: u64,
+    found: &Result<Booking, NotBooked>,
+) -> Result<ProcRow, ConfirmRefusal>
+    requires can { CanStill plain.old.farm slot host }
+    requires room { (count == most_entries) ≡ false }
+    requires why { result_err found.now ≡ why_not_record plain.old.farm slot host }
+    requires asked { IfOk found.now (λ b. IsAsked slot host moment b.booked) }
+    requires booking { IfOk found.now (IsBookingOf plain.old.farm) }
+    ensures farm { BooksAhead plain.old.farm count slot host moment result plain.new.farm }
+    ensures same { HasSameRows plain.old.farm (after plain.old.farm (booking slot host moment)) → plain.new.keeper ≡ plain.old.keeper }
+    ensures keeper { Continues K.tells K.faults plain.old.keeper plain.new.keeper (is_store_stop result) }
+    ensures told { TellsAhead K.commits plain.old.farm slot host moment result plain.old.keeper plain.new.keeper }
+{
+    match found {
+        Ok(decided) => book_decided(alloc, plain, count, slot, host, moment, decided),
+        Err(why) => Err(stands_against(plain.read().books(), count, slot, host, *why)),
+    }
+}
+
+// Books what was decided, and tells the attempt.
+fn book_decided<K: Keeper>(
+    alloc: Global,
+    plain: &mut RecordedFarm<K>,
+    count: u64,
+    slot: Slot,
+    host: HostNo,
+    moment: u64,
+    decided: &Booking,
+) -> Result<ProcRow, ConfirmRefusal>
+    requires can { CanStill plain.old.farm slot host }
+    requires room { (count == most_entries) ≡ false }
+    requires still { MayStill plain.old.farm slot host }
+    requires asked { IsAsked slot host moment decided.now.booked }
+    requires booking { IsBookingOf plain.old.farm decided.now }
+    ensures farm { BooksAhead plain.old.farm count slot host moment result plain.new.farm }
+    ensures same { HasSameRows plain.old.farm (after plain.old.farm (booking slot host moment)) → plain.new.keeper ≡ plain.old.keeper }
+    ensures keeper { Continues K.tells K.faults plain.old.keeper plain.new.keeper (is_store_stop result) }
+    ensures told { TellsAhead K.commits plain.old.farm slot host moment result plain.old.keeper plain.new.keeper }
+{
+    let _ = count;
+    let _ = host;
+    let _ = moment;
     books_alone();
-    let booking = decide(plain.read(), count, slot, host, moment)?;
-    book_now(alloc, plain, &booking)?;
+    book_now(alloc, plain, decided)?;
     Ok(live_row(plain.read(), slot))
 }
 

@@ -1,45 +1,18 @@
-//! Whether the farm lets a claim be booked that has its word.
+//! What stands against the booking of a claim that has its word.
 
-ghost use Rattle.std.specs.Prelude.{◌≡◌, ◌==◌, false, option_and_then, slice_get, IfOk};
+ghost use Rattle.std.specs.Prelude.{◌≡◌, ◌==◌, false, option_and_then, slice_get};
 ghost use Rattle.farm_types.specs.Run.{limit_at};
-ghost use Rattle.recording_table.specs.Booking.{IsWhyLeft};
-ghost use Rattle.farm_books.specs.Bookings.{IsAsked};
-ghost use Rattle.farm_core.specs.Bookings.{IsBookingOf};
-ghost use Rattle.booking_recorder.specs.Claims.{Allows, IsAgainst, IsCause, IsNoStop};
+ghost use Rattle.booking_recorder.specs.Claims.{IsAgainst, IsCause, IsNoStop};
 ghost use Rattle.booking_recorder.specs.Readers.{booked_by, burst_by, limit_for, lock_at, most_by, running_by, state_at, sub_for};
 ghost use Rattle.booking_recorder.specs.Recording.{most_entries};
 
 use crate::refusal::ConfirmRefusal;
 use booking_reasons::NotBooked;
 use farm_books::Books;
-use farm_core::{Booking, Farm};
 use farm_types::{Cores, HostNo, HostState, LimitNo, LockState, Slot, SubRow};
 
-/// The booking of the slot's frame, which has its place on the host, at the moment (seconds); or why it isn't booked: the journal has no room, by the number
-/// of its entries, or the farm doesn't let it.
-pub(crate) fn decide(
-    farm: &Farm,
-    count: u64,
-    slot: Slot,
-    host: HostNo,
-    moment: u64,
-) -> Result<Booking, ConfirmRefusal>
-    requires left { IsWhyLeft farm.now slot host }
-    ensures allows { Allows farm.now count slot host result }
-    ensures asked { IfOk result (λ b. IsAsked slot host moment b.booked) }
-    ensures booking { IfOk result (IsBookingOf farm.now) }
-{
-    if count == u64::MAX {
-        return Err(ConfirmRefusal::EntriesSpent);
-    }
-    match farm.recordable(slot, host, moment) {
-        Ok(booking) => Ok(booking),
-        Err(why) => Err(stands_against(farm.books(), count, slot, host, why)),
-    }
-}
-
-// What stands against the booking of a frame that has its place.
-fn stands_against(
+/// What stands against the booking of a frame that has its place.
+pub(crate) fn stands_against(
     books: &Books,
     count: u64,
     slot: Slot,

@@ -1,3 +1,4 @@
 pub mod Covering
 pub mod Finishing
 pub mod Fitting
+pub mod Turning

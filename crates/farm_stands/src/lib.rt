@@ -9,6 +9,6 @@ mod words;
 
 pub use bounds::{HostSize, burst, host_size, most};
 pub use law::{turns_cover, turns_finish};
-pub use turn::{Turn, turn_for, turn_of};
+pub use turn::{Turn, turn_of};
 pub use turns::turns_of;
 pub use words::{SlotWords, slot_words};

@@ -3,12 +3,12 @@
 ghost use Rattle.std.specs.Prelude.{◌≡◌, ◌↔◌, IsTrue};
 ghost use Rattle.booking_rule.specs.Link.{stand_at};
 ghost use Rattle.booking_rule.specs.Rule.{word_of};
-ghost use Rattle.farm_stands.specs.Turns.{Says, amounts_in, host_turn, row_turn, slot_turn, turn_for, turn_of};
+ghost use Rattle.farm_stands.specs.Turns.{Says, amounts_in, host_turn, row_turn, slot_turn, turn_of};
 
 use crate::bounds::{HostSize, burst, host_size, most};
 use crate::words::{SlotWords, slot_words};
 use farm_core::Farm;
-use farm_rows::{FarmRow, RowChange, RowKey};
+use farm_rows::{FarmRow, RowKey};
 use farm_types::{Cores, HostNo, HostRow, LimitNo, Slot, SubNo};
 use frame_words::{AmountWord, FrameWord};
 
@@ -57,23 +57,12 @@ impl Turn {
 fn are_said(farm: &Farm, slot: Slot, frame: &FrameWord, amount: &AmountWord) -> bool
     ensures { IsTrue result ↔ ((frame.now ≡ word_of (stand_at farm.now slot)) × (amount.now ≡ amounts_in (stand_at farm.now slot))) }
 {
-    let words = slot_words(farm, slot);
-    *frame == words.frame && *amount == words.amount
+    slot_words(farm, slot).are(frame, amount)
 }
 
-/// What the farm says of the words of a row that changes; none where the row has no words, or is of a host that keeps its size and its allocation.
+/// What the farm says of the words of a row that is put; none where the row has no words, or is of a host that keeps its size and its allocation.
 #[inline(always)]
-pub fn turn_for(farm: &Farm, change: &RowChange) -> Option<Turn>
-    ensures { result ≡ turn_for farm.now change.now }
-{
-    match change {
-        RowChange::Put(row) => row_turn(farm, row),
-        RowChange::Delete { key } => turn_of(farm, *key),
-    }
-}
-
-#[inline(always)]
-fn row_turn(farm: &Farm, row: &FarmRow) -> Option<Turn>
+pub(crate) fn row_turn(farm: &Farm, row: &FarmRow) -> Option<Turn>
     ensures { result ≡ row_turn farm.now row.now }
 {
     match row {
@@ -134,8 +123,9 @@ pub fn turn_of(farm: &Farm, key: RowKey) -> Option<Turn>
     }
 }
 
+/// What the farm says of the words of a slot.
 #[inline(always)]
-fn slot_turn(farm: &Farm, slot: Slot) -> Turn
+pub(crate) fn slot_turn(farm: &Farm, slot: Slot) -> Turn
     ensures { result ≡ slot_turn farm.now slot }
 {
     let SlotWords { frame, amount } = slot_words(farm, slot);

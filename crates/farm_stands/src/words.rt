@@ -1,6 +1,6 @@
 //! The two words of a slot.
 
-ghost use Rattle.std.specs.Prelude.{◌≡◌, ◌<◌, IfSome, Some, option_copied, slice_get};
+ghost use Rattle.std.specs.Prelude.{◌≡◌, ◌↔◌, ◌<◌, IfSome, IsTrue, Some, option_copied, slice_get};
 ghost use Rattle.farm_types.specs.Farm.{job_at, layer_at};
 ghost use Rattle.farm_types.specs.Kept.{IsKeptFarm};
 ghost use Rattle.frame_words.specs.Bits.{FitsAmount, FitsFrame};
@@ -24,7 +24,18 @@ pub struct SlotWords {
     pub amount: AmountWord,
 }
 
+impl SlotWords {
+    /// Whether these are the words.
+    #[inline(always)]
+    pub fn are(&self, frame: &FrameWord, amount: &AmountWord) -> bool
+        ensures { IsTrue result ↔ ((frame.now ≡ self.now.frame) × (amount.now ≡ self.now.amount)) }
+    {
+        *frame == self.frame && *amount == self.amount
+    }
+}
+
 /// The words of the slot: FREE at version 0 past the last slot that was ever used, and no amounts where it has no frame.
+#[inline(always)]
 #[tactic(auto, unfolding(booking_rule::specs::Link::stand_at))]
 pub fn slot_words(farm: &Farm, slot: Slot) -> SlotWords
     ensures words { result ≡ words_in (stand_at farm.now slot) }
@@ -39,6 +50,7 @@ pub fn slot_words(farm: &Farm, slot: Slot) -> SlotWords
 }
 
 // What stands in a slot, none past the last that was ever used.
+#[inline(always)]
 fn row_at(books: &Books, slot: Slot) -> Option<&SlotRow>
     ensures { option_copied result ≡ slice_get books.now.farm.slots slot }
 {
@@ -46,6 +58,7 @@ fn row_at(books: &Books, slot: Slot) -> Option<&SlotRow>
 }
 
 // The words of a slot without a frame.
+#[inline(always)]
 fn free_words(version: Version) -> SlotWords
     ensures { result ≡ words_in (free_at version) }
 {
@@ -65,6 +78,7 @@ fn free_words(version: Version) -> SlotWords
 }
 
 // The words of the slot with that row.
+#[inline(always)]
 fn words_of(books: &Books, row: &SlotRow) -> SlotWords
     requires kept { IsKeptFarm books.now.farm }
     ensures { result ≡ words_in (frame_stand books.now.farm row.now row.now.frame) }
@@ -76,6 +90,7 @@ fn words_of(books: &Books, row: &SlotRow) -> SlotWords
 }
 
 // The words of the slot with that row and frame.
+#[inline(always)]
 fn used_words(books: &Books, row: &SlotRow, frame: &Frame) -> SlotWords
     requires kept { IsKeptFarm books.now.farm }
     ensures { result ≡ words_in (frame_stand books.now.farm row.now (Some frame.now)) }
@@ -101,6 +116,7 @@ fn used_words(books: &Books, row: &SlotRow, frame: &Frame) -> SlotWords
 }
 
 // The phase of a frame in that state.
+#[inline(always)]
 fn phase_of(state: FrameState) -> u8
     ensures { result ≡ phase_of state }
 {
@@ -116,6 +132,7 @@ fn phase_of(state: FrameState) -> u8
 }
 
 // The host on which a frame in that state runs, 0 where it doesn't.
+#[inline(always)]
 fn host_where(state: FrameState, proc: &Option<ProcRow>) -> HostNo
     ensures { result ≡ host_where state proc.now }
 {
@@ -131,6 +148,7 @@ fn host_where(state: FrameState, proc: &Option<ProcRow>) -> HostNo
 }
 
 // The host of an attempt.
+#[inline(always)]
 fn host_in(proc: &Option<ProcRow>) -> HostNo
     ensures { result ≡ host_in proc.now }
 {
@@ -141,6 +159,7 @@ fn host_in(proc: &Option<ProcRow>) -> HostNo
 }
 
 // The show of the frame's job.
+#[inline(always)]
 fn show_of(books: &Books, frame: &Frame) -> ShowNo
     ensures { result ≡ show_of (job_at books.now.farm frame.now.job) }
 {
@@ -157,6 +176,7 @@ struct LayerAmounts {
     limit: u8,
 }
 
+#[inline(always)]
 fn layer_amounts(books: &Books, frame: &Frame) -> LayerAmounts
     requires kept { IsKeptFarm books.now.farm }
     ensures cores { result.cores ≡ cores_in (layer_at books.now.farm frame.now.job frame.now.layer) }
@@ -178,6 +198,7 @@ fn layer_amounts(books: &Books, frame: &Frame) -> LayerAmounts
 }
 
 // A limit as the word says it: 0 for none, else its number plus 1.
+#[inline(always)]
 fn limit_code(limit: Option<LimitNo>) -> u8
     requires within { IfSome limit (λ n. n < 255) }
     ensures { result ≡ limit_code limit }

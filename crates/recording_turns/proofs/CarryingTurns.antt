@@ -26,9 +26,10 @@ use Rattle.recording_core.specs.Machine.{stand_recorded}
 use Rattle.recording_core.specs.Records.{desk_in}
 use Rattle.farm_stands.specs.declared.turn.Turn.{Turn}
 use Rattle.farm_stands.specs.declared.turn.Turn.TheVariants as turn
-use Rattle.farm_stands.specs.Turns.{AllTurned, Covers, Says, amounts_in, has_turn, is_done, turn_key}
+use Rattle.farm_stands.specs.declared.words.SlotWords.{SlotWords}
+use Rattle.farm_stands.specs.Turns.{AllTurned, Covers, Says, amounts_in, has_turn, is_done, turn_key, words_in}
 use Rattle.farm_stands.proofs.Finishing.{finished}
-use Rattle.recording_turns.specs.Carrying.{Carried, CarriedIf, Goes, Going, IsOpen, SlotsDone, Turned, bound, desk_done, is_slot, was_in}
+use Rattle.recording_turns.specs.Carrying.{Carried, CarriedIf, Goes, Going, IsOpen, SlotsDone, Turned, bound, desk_done, is_slot, slot_turn, was_in}
 use Rattle.recording_turns.specs.Owing.{AreOn, Owes, Resizes}
 use Rattle.recording_turns.specs.Resting.{IsAtRest, WentOn}
 use Rattle.recording_turns.proofs.CarryingViews.{was_turned, went_self, went_then}
@@ -100,7 +101,16 @@ slot_hosts (turn.Limit limit most) d is = absurd (false≢true is)
 
 -- ---- a turn that is said needs nothing
 
-carried_self : (v : View) (g : Farm) (t : Turn) → Says g t → Carried v g t v
+-- what the farm says of a slot, as its two words
+pub said_of : (g : Farm) (slot : ℕ) (w : SlotWords) (frame : FrameWord) (amount : AmountWord) → w ≡ words_in (stand_at g slot)
+    → (frame ≡ w.frame) × (amount ≡ w.amount) → Says g (slot_turn slot frame amount)
+said_of g slot w frame amount is same = (same.0 ∙ ap (λ (x : SlotWords). x.frame) is, same.1 ∙ ap (λ (x : SlotWords). x.amount) is)
+
+pub words_said : (g : Farm) (slot : ℕ) (w : SlotWords) (frame : FrameWord) (amount : AmountWord) → w ≡ words_in (stand_at g slot)
+    → Says g (slot_turn slot frame amount) → (frame ≡ w.frame) × (amount ≡ w.amount)
+words_said g slot w frame amount is said = (said.0 ∙ sym (ap (λ (x : SlotWords). x.frame) is), said.1 ∙ sym (ap (λ (x : SlotWords). x.amount) is))
+
+pub carried_self : (v : View) (g : Farm) (t : Turn) → Says g t → Carried v g t v
 carried_self v g t said = record { went = went_self v; desk = inl (refl, said) }
 
 carried_if : (b : Bool) (v : View) (g : Farm) (t : Turn) → Says g t → CarriedIf b v g t v

@@ -10,7 +10,7 @@ ghost use Rattle.booking_table.specs.Seats.{view, IsSeatOf, IsSameSeat};
 ghost use Rattle.recording_core.specs.Machine.{HasItsAmounts};
 ghost use Rattle.recording_core.specs.Records.{desk_in};
 ghost use Rattle.farm_stands.specs.Turns.{Says, words_in};
-ghost use Rattle.recording_turns.specs.Carrying.{CarriedIf, Gave, Goes, Going, HasFreed, IsNoted, IsOpen, IsReady, SlotsDone, Turned};
+ghost use Rattle.recording_turns.specs.Carrying.{Carried, CarriedIf, Gave, Goes, Going, HasFreed, IsNoted, IsOpen, IsReady, SlotsDone, Turned};
 ghost use Rattle.recording_turns.specs.Carrying.{host_key, host_turn, is_slot, limit_key, limit_turn, slot_key, slot_turn, sub_key, sub_turn};
 ghost use Rattle.recording_turns.specs.Owing.{Owes};
 ghost use Rattle.recording_turns.specs.Resting.{IsAtRest, WentOn};
@@ -56,7 +56,7 @@ fn carry_slots(
     ensures goes { Goes (view seat.old) farm.now turns.now resized.now (length turns.now) 0 (view seat.new) }
 {
     for turn in turns {
-        carry_slot(table, seat, farm, turn, resized);
+        carry_turn(table, seat, farm, turn, resized);
     }
 }
 
@@ -81,7 +81,7 @@ fn carry_others(
 // ---- a slot
 
 // The turn, where it is of a slot.
-fn carry_slot(table: &Table, seat: &mut Seat, farm: &Farm, turn: &Turn, resized: &Option<HostNo>)
+fn carry_turn(table: &Table, seat: &mut Seat, farm: &Farm, turn: &Turn, resized: &Option<HostNo>)
     requires table { IsSeatOf table.now seat.old }
     requires going { Going (view seat.old) farm.now resized.now }
     requires hosts { (desk_in (view seat.old).desk).hosts ≡ [] }
@@ -90,31 +90,39 @@ fn carry_slot(table: &Table, seat: &mut Seat, farm: &Farm, turn: &Turn, resized:
     ensures going { Going (view seat.new) farm.now resized.now }
     ensures carried { CarriedIf (is_slot turn.now) (view seat.old) farm.now turn.now (view seat.new) }
 {
-    let Turn::Slot {
-        slot,
-        frame,
-        amount,
-    } = turn
-    else {
-        return;
-    };
-    let Some(words) = other_words(farm, *slot, frame, amount) else {
-        return;
-    };
-    carry_words(table, seat, farm, *slot, frame, amount, &words, resized);
+    match turn {
+        Turn::Slot {
+            slot,
+            frame,
+            amount,
+        } => carry_slot(table, seat, farm, *slot, frame, amount, resized),
+        Turn::Host { .. } | Turn::Sub { .. } | Turn::Limit { .. } => {}
+    }
 }
 
-// What the farm says of a slot, where these aren't its words.
-fn other_words(farm: &Farm, slot: Slot, frame: &FrameWord, amount: &AmountWord) -> Option<SlotWords>
-    ensures said { IfNone result (Says farm.now (slot_turn slot frame.now amount.now)) }
-    ensures words { IfSome result (λ words. (words ≡ words_in (stand_at farm.now slot)) × (FitsFrame words.frame × FitsAmount words.amount)) }
-    ensures differs { IfSome result (λ words. Says farm.now (slot_turn slot frame.now amount.now) → ⊥) }
+// The words of a slot become what the farm says, where these aren't it.
+fn carry_slot(
+    table: &Table,
+    seat: &mut Seat,
+    farm: &Farm,
+    slot: Slot,
+    frame: &FrameWord,
+    amount: &AmountWord,
+    resized: &Option<HostNo>,
+)
+    requires table { IsSeatOf table.now seat.old }
+    requires going { Going (view seat.old) farm.now resized.now }
+    requires hosts { (desk_in (view seat.old).desk).hosts ≡ [] }
+    requires opens { IsOpen (view seat.old) (slot_turn slot frame.now amount.now) }
+    ensures same { IsSameSeat seat.old seat.new }
+    ensures going { Going (view seat.new) farm.now resized.now }
+    ensures carried { Carried (view seat.old) farm.now (slot_turn slot frame.now amount.now) (view seat.new) }
 {
     let words = slot_words(farm, slot);
-    if words.frame == *frame && words.amount == *amount {
-        return None;
+    if words.are(frame, amount) {
+        return;
     }
-    Some(words)
+    carry_words(table, seat, farm, slot, frame, amount, &words, resized);
 }
 
 // The words of a slot become what the farm says, its amounts first.

@@ -14,14 +14,14 @@ loop-turn-preserved c =
     let i = c.loop-turn.turn-index in
     let t = c.turn-item.result in
     let was = view c.loop-turn.seat in
-    let now = view c.carry_slot.new.seat in
+    let now = view c.carry_turn.new.seat in
     let at = slice_get_read ts (length ts) i t refl c.loop-turn-test.true c.turn-item.is in
-    let next = next_slot (view old) g ts resized i was now t c.loop-turn.invariant.goes at c.carry_slot.ensures.going c.carry_slot.ensures.carried in
+    let next = next_slot (view old) g ts resized i was now t c.loop-turn.invariant.goes at c.carry_turn.ensures.going c.carry_turn.ensures.carried in
     let one : suc i ≡ i + 1 = omega arith in
-    let same = c.carry_slot.ensures.same in
+    let same = c.carry_turn.ensures.same in
     let before = c.loop-turn.invariant.same in
     record {
       same = (same.0 ∙ before.0, same.1 ∙ before.1, same.2);
       goes = subst (λ (n : ℕ). Goes (view old) g ts resized n 0 now) one next;
-      hosts = hosts_stay was now g t c.loop-turn.invariant.hosts c.carry_slot.ensures.carried;
+      hosts = hosts_stay was now g t c.loop-turn.invariant.hosts c.carry_turn.ensures.carried;
     }
