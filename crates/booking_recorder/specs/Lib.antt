@@ -7,3 +7,6 @@ pub mod Passing
 pub mod Readers
 pub mod Recording
 pub mod Views
+pub use Rattle.farm_core
+pub use Rattle.recorder
+pub use Rattle.recording_turns

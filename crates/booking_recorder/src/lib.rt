@@ -22,3 +22,8 @@ pub use farm_recorder::Recorder;
 pub use naming::Naming;
 pub use pass::Pass;
 pub use refusal::{CommitRefusal, ConfirmRefusal, PassRefusal, RecordFault};
+
+// What the crates above name through this one. They don't list it too: a build sums a crate up once for each way that leads to it.
+pub use farm_core;
+pub use recorder;
+pub use recording_turns;

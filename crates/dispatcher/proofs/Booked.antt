@@ -10,11 +10,11 @@ use Rattle.farm_types.specs.Farm.{Farm}
 use Rattle.farm_types.specs.Step.{after}
 use Rattle.farm_keeper.proofs.KeepingLaws.{Continues-same}
 use Rattle.farm_keeper.specs.Keeping.{Committing, Continues}
-use Rattle.recorder.specs.Faults.{is_store_fault}
-use Rattle.recorder.specs.Recording.{HasSameRows}
-use Rattle.recorder.specs.Telling.{TakesEach, TellsOf}
-use Rattle.recorder.specs.declared.refusal.RecordFault.{RecordFault}
-use Rattle.recorder.specs.declared.refusal.RecordFault.TheVariants as fault
+use Rattle.booking_recorder.specs.recorder.specs.Faults.{is_store_fault}
+use Rattle.booking_recorder.specs.recorder.specs.Recording.{HasSameRows}
+use Rattle.booking_recorder.specs.recorder.specs.Telling.{TakesEach, TellsOf}
+use Rattle.booking_recorder.specs.recorder.specs.declared.refusal.RecordFault.{RecordFault}
+use Rattle.booking_recorder.specs.recorder.specs.declared.refusal.RecordFault.TheVariants as fault
 use Rattle.booking_recorder.specs.declared.book_result.BookResult.{BookResult}
 use Rattle.booking_recorder.specs.declared.book_result.BookResult.TheVariants as came
 use Rattle.booking_recorder.specs.declared.refusal.ConfirmRefusal.{ConfirmRefusal}

@@ -6,7 +6,7 @@ use Rattle.farm_types.specs.declared.limits.TheConstants.{BOOKINGS_EACH}
 use Rattle.farm_types.specs.Dispatch.{round_from}
 use Rattle.farm_types.specs.Farm.{Farm}
 use Rattle.booking_rule.specs.declared.view.View.{View}
-use Rattle.recording_turns.specs.Resting.{split_in}
+use Rattle.booking_recorder.specs.recording_turns.specs.Resting.{split_in}
 use Rattle.booking_recorder.specs.Going.{Journals}
 use Rattle.booking_recorder.proofs.Journaled.{journals_then}
 use Rattle.dispatcher.specs.Ready.{AreReady, IsReady, LeavesReady}

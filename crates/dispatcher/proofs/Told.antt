@@ -12,8 +12,8 @@ use Rattle.farm_types.specs.Farm.{Farm}
 use Rattle.farm_types.specs.Run.{run_of}
 use Rattle.farm_types.specs.Step.{after}
 use Rattle.farm_keeper.specs.Keeping.{Committing}
-use Rattle.recorder.specs.Telling.{EndsTelling, TakesEach, Tells}
-use Rattle.recorder.proofs.Told.{ends_still, taken_then, tells_still}
+use Rattle.booking_recorder.specs.recorder.specs.Telling.{EndsTelling, TakesEach, Tells}
+use Rattle.booking_recorder.specs.recorder.proofs.Told.{ends_still, taken_then, tells_still}
 use Rattle.dispatcher.specs.Rounds.{IsOffered}
 use Rattle.dispatcher.proofs.UnderWay.{IsUnderWay, at_hand, first_ones}
 

@@ -11,10 +11,10 @@ use Rattle.farm_types.specs.Dispatch.{book_entry, round_from}
 use Rattle.farm_types.specs.Farm.{Farm}
 use Rattle.farm_types.specs.Run.{run_of}
 use Rattle.farm_types.specs.Step.{after}
-use Rattle.recorder.specs.Faults.{is_of_store}
-use Rattle.recorder.specs.Recording.{ChangesNone}
-use Rattle.recorder.specs.declared.refusal.RecordFault.{RecordFault}
-use Rattle.recorder.specs.declared.refusal.RecordFault.TheVariants as fault
+use Rattle.booking_recorder.specs.recorder.specs.Faults.{is_of_store}
+use Rattle.booking_recorder.specs.recorder.specs.Recording.{ChangesNone}
+use Rattle.booking_recorder.specs.recorder.specs.declared.refusal.RecordFault.{RecordFault}
+use Rattle.booking_recorder.specs.recorder.specs.declared.refusal.RecordFault.TheVariants as fault
 use Rattle.dispatcher.specs.declared.walked.Walked.{Walked}
 use Rattle.dispatcher.specs.Rounds.{EndsBy, FailsToOffer, HasWalked, IsOffered, IsUnstoredAt, cut_of, is_store_cut}
 use Rattle.dispatcher.proofs.Booked.{begins}

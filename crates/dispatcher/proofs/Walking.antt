@@ -7,11 +7,11 @@ use Rattle.farm_types.specs.declared.limits.TheConstants.{BOOKINGS_EACH}
 use Rattle.farm_types.specs.Dispatch.{round_from}
 use Rattle.farm_keeper.proofs.KeepingLaws.{Continues-as, Continues-same, Continues-then}
 use Rattle.farm_keeper.specs.Keeping.{Committing, Continues}
-use Rattle.recorder.specs.declared.refusal.RecordFault.{RecordFault}
-use Rattle.recorder.specs.Faults.{is_of_store}
-use Rattle.recorder.specs.Recording.{ChangesNone}
-use Rattle.recorder.specs.Telling.{EndsTelling, TakesEach}
-use Rattle.recording_turns.specs.Resting.{split_in}
+use Rattle.booking_recorder.specs.recorder.specs.declared.refusal.RecordFault.{RecordFault}
+use Rattle.booking_recorder.specs.recorder.specs.Faults.{is_of_store}
+use Rattle.booking_recorder.specs.recorder.specs.Recording.{ChangesNone}
+use Rattle.booking_recorder.specs.recorder.specs.Telling.{EndsTelling, TakesEach}
+use Rattle.booking_recorder.specs.recording_turns.specs.Resting.{split_in}
 use Rattle.booking_recorder.specs.Going.{GoesOn, Journals}
 use Rattle.booking_recorder.specs.Recording.{Recording}
 use Rattle.booking_recorder.proofs.Journaled.{journals_none}

@@ -2,19 +2,19 @@
 
 ghost use Rattle.std.specs.Prelude.{◌≡◌, ◌≤◌, ◌<◌, ◌+◌, ◌-◌, ◌^◌, length, take};
 ghost use Rattle.farm_types.specs.Dispatch.{round_for, round_from};
-ghost use Rattle.recorder.specs.Recording.{ChangesNone};
-ghost use Rattle.recording_turns.specs.Resting.{split_in};
+ghost use Rattle.booking_recorder.specs.recorder.specs.Recording.{ChangesNone};
+ghost use Rattle.booking_recorder.specs.recording_turns.specs.Resting.{split_in};
 ghost use Rattle.booking_recorder.specs.Going.{GoesOn};
 ghost use Rattle.dispatcher.specs.Ready.{AreReady, IsReady};
 ghost use Rattle.dispatcher.specs.Rounds.{HasWalked, IsRound, Offers, cut_of, is_store_cut, left_after, left_by};
 
 use crate::walked::Walked;
+use booking_recorder::recorder::RecordFault;
 use booking_recorder::{BookResult, ConfirmRefusal, Naming, Recorder};
 use booking_table::Table;
 use dispatch_plan::{dispatch_lists_each_once, plan};
 use farm_keeper::Keeper;
 use farm_types::{BOOKINGS_EACH, Candidate, Cut, HostNo};
-use recorder::RecordFault;
 use std::alloc::Global;
 
 /// Books the frames that the plan for the host offers, in turn, each where it still may be booked, until 12 are, by the recorder alone: no seat was split

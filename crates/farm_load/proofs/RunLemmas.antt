@@ -6,8 +6,8 @@ use Rattle.std.proofs.lemmas.List.Elements.{All-nil, All-push}
 use Rattle.std.proofs.lemmas.List.Sums.{sum_by-append, sum_by_push}
 use Rattle.fault_counts.specs.Counts.{HasRisenBy, incremented_if}
 use Rattle.fault_counts.proofs.CountLaws.{HasRisenBy-push}
-use Rattle.booking_recorder.specs.Going.{Journals}
-use Rattle.booking_recorder.proofs.Journaled.{journals_none, journals_then}
+use Rattle.line_answers.specs.booking_recorder.specs.Going.{Journals}
+use Rattle.line_answers.specs.booking_recorder.proofs.Journaled.{journals_none, journals_then}
 use Rattle.booking_rule.specs.declared.view.View.{View}
 use Rattle.line_answers.specs.declared.limits.TheConstants.{ENTRIES_EACH}
 use Rattle.line_answers.proofs.FewEntries.{reported_few}

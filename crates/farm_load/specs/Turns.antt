@@ -1,7 +1,7 @@
 -- What one report of a load does to the hosts that wait for their turn and to the counts.
 use Rattle.std.specs.Prelude.{ℕ, Bool, ◌≡◌, ◌≤◌, ◌<◌, ◌+◌, ◌*◌, ◌^◌, List, [], true, length, Result, Ok, Err}
-use Rattle.booking_recorder.specs.Going.{Journals}
-use Rattle.booking_recorder.specs.Recording.{Recording}
+use Rattle.line_answers.specs.booking_recorder.specs.Going.{Journals}
+use Rattle.line_answers.specs.booking_recorder.specs.Recording.{Recording}
 use Rattle.farm_keeper.specs.Keeping.{Continues}
 use Rattle.std.specs.List.{All}
 use Rattle.farm_types.specs.declared.attempt.Attempt.{Attempt}

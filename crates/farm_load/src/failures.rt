@@ -9,9 +9,9 @@ ghost use Rattle.farm_types.specs.declared.entry.Act.TheVariants as act;
 ghost use Rattle.farm_lines.specs.Asked.{entry_at};
 ghost use Rattle.farm_load.specs.Loads.{failed_in, fails};
 
-use farm_core::Farm;
 use farm_gen::load_exit;
 use farm_types::{Attempt, DoneItem, HeardAct, HostNo, HostRow, SILENT_SECONDS};
+use line_answers::farm_core::Farm;
 
 /// How many completions of the report change the farm when it is taken at the moment (seconds), and are of attempts that fail.
 #[tactic(auto, using(crate::proofs::FailureLemmas::failed_nowhere))]

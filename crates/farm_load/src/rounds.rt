@@ -1,13 +1,13 @@
 //! The rounds of a load.
 
 ghost use Rattle.std.specs.Prelude.{◌≡◌, ◌≤◌, ◌<◌, ◌+◌, ◌*◌, ◌^◌, IfOk, length};
-ghost use Rattle.booking_recorder.specs.Going.{Journals};
+ghost use Rattle.line_answers.specs.booking_recorder.specs.Going.{Journals};
 ghost use Rattle.farm_gen.specs.Load.{IsLoad};
 ghost use Rattle.farm_load.specs.Loads.{has_finished, load_hosts, most_reports, new_host};
 ghost use Rattle.farm_load.specs.Summaries.{RunsLoad, rounds_of};
 ghost use Rattle.farm_load.specs.declared.load_end.LoadEnd.TheVariants.{Finished};
 ghost use Rattle.line_answers.specs.declared.limits.TheConstants.{ENTRIES_EACH};
-ghost use Rattle.recording_turns.specs.Resting.{split_in};
+ghost use Rattle.line_answers.specs.recording_turns.specs.Resting.{split_in};
 
 use crate::counts::Counts;
 use crate::limits::{HOSTS, LOAD_JOB, MOST_ROUNDS};
@@ -15,11 +15,11 @@ use crate::load_end::LoadEnd;
 use crate::load_host::LoadHost;
 use crate::summary::Summary;
 use crate::turns::take_turn;
-use booking_recorder::{Naming, Recorder};
 use booking_table::Table;
-use farm_core::Farm;
 use farm_keeper::Keeper;
 use farm_types::{Items, JobNo, JobState, Text};
+use line_answers::booking_recorder::{Naming, Recorder};
+use line_answers::farm_core::Farm;
 use std::alloc::{AllocError, Global};
 use std::collections::VecDeque;
 

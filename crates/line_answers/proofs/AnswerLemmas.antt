@@ -16,9 +16,9 @@ use Rattle.farm_lines.specs.declared.request.Request.{Request}
 use Rattle.farm_lines.specs.declared.request.Request.TheVariants as request
 use Rattle.farm_lines.specs.declared.request.RequestFault.{RequestFault}
 use Rattle.farm_lines.specs.declared.request.RequestFault.TheVariants as fault
-use Rattle.farm_core.specs.Change.{after_change}
-use Rattle.farm_core.specs.Change.{Makes, Prepares}
-use Rattle.farm_core.specs.declared.change.Change.{Change}
+use Rattle.dispatcher.specs.farm_core.specs.Change.{after_change}
+use Rattle.dispatcher.specs.farm_core.specs.Change.{Makes, Prepares}
+use Rattle.dispatcher.specs.farm_core.specs.declared.change.Change.{Change}
 use Rattle.farm_types.specs.declared.fault.FarmFault.{FarmFault}
 use Rattle.farm_types.specs.declared.fault.FarmFault.TheVariants as prepare
 use Rattle.farm_types.specs.EntryAnswers.{answer_of}
@@ -31,7 +31,7 @@ use Rattle.farm_types.specs.Step.{HasCondition, refusal_of, after}
 use Rattle.farm_lines.specs.Asked.{IsFormedAsked, asked_of, entry_at, heard_entry}
 use Rattle.farm_lines.specs.Transcript.{Mark, Plain, Memory, Store, Answered, answer_to, asked_answer, entry_answer, is_store_mark, list_reply, only_reply, request_answer, unless_memory}
 use Rattle.report_codec.specs.Reads.{Fails}
-use Rattle.recorder.specs.Recording.{ChangesNone, ChangesRows, IsOfEntry, IsUnstored}
+use Rattle.dispatcher.specs.recorder.specs.Recording.{ChangesNone, ChangesRows, IsOfEntry, IsUnstored}
 use Rattle.line_answers.specs.Asking.{Asks, IsNoBooking, IsUnbooked}
 use Rattle.line_answers.specs.declared.hindered.Hindered.{Hindered}
 use Rattle.line_answers.specs.LineAnswers.{AnswersAsked, AnswersEntry, AnswersLine, AnswersReport, Going, IsAnswer, IsMarked, IsMarkedAnswer, IsRecorded, IsUnprepared, MayStore, MayStoreEntry, fault_reply, reported}

@@ -11,14 +11,14 @@ use Rattle.farm_types.specs.Step.{refusal_of}
 use Rattle.farm_keeper.specs.Keeping.{Committing, Continues}
 use Rattle.booking_rule.specs.declared.view.View.{View}
 use Rattle.recording_core.specs.Machine.{IsBooking}
-use Rattle.recording_turns.specs.Resting.{split_in}
-use Rattle.booking_recorder.specs.declared.refusal.RecordFault.{RecordFault}
-use Rattle.booking_recorder.specs.declared.refusal.RecordFault.TheVariants as fault
-use Rattle.booking_recorder.specs.Entries.{FailsToRecord, HeldAtFault, TellsAtFault}
-use Rattle.booking_recorder.specs.Faults.{is_of_held, is_of_store, is_spent_fault}
-use Rattle.booking_recorder.specs.Going.{GoesOn}
-use Rattle.booking_recorder.specs.Recording.{Recording, most_entries}
-use Rattle.booking_recorder.specs.Views.{Stays}
+use Rattle.dispatcher.specs.recording_turns.specs.Resting.{split_in}
+use Rattle.dispatcher.specs.booking_recorder.specs.declared.refusal.RecordFault.{RecordFault}
+use Rattle.dispatcher.specs.booking_recorder.specs.declared.refusal.RecordFault.TheVariants as fault
+use Rattle.dispatcher.specs.booking_recorder.specs.Entries.{FailsToRecord, HeldAtFault, TellsAtFault}
+use Rattle.dispatcher.specs.booking_recorder.specs.Faults.{is_of_held, is_of_store, is_spent_fault}
+use Rattle.dispatcher.specs.booking_recorder.specs.Going.{GoesOn}
+use Rattle.dispatcher.specs.booking_recorder.specs.Recording.{Recording, most_entries}
+use Rattle.dispatcher.specs.booking_recorder.specs.Views.{Stays}
 use Rattle.line_answers.specs.Asking.{IsNoBooking}
 use Rattle.line_answers.specs.declared.hindered.Hindered.{Hindered}
 use Rattle.line_answers.specs.declared.hindered.Hindered.TheVariants as hindered

@@ -10,20 +10,20 @@ use Rattle.farm_types.specs.Farm.{Farm}
 use Rattle.farm_types.specs.Step.{refusal_of}
 use Rattle.farm_keeper.specs.Keeping.{Committing}
 use Rattle.farm_changes.specs.Change.{HasHeard}
-use Rattle.farm_core.specs.Change.{Makes, Prepares, after_change}
-use Rattle.farm_core.specs.declared.change.Change.{Change}
+use Rattle.dispatcher.specs.farm_core.specs.Change.{Makes, Prepares, after_change}
+use Rattle.dispatcher.specs.farm_core.specs.declared.change.Change.{Change}
 use Rattle.booking_rule.specs.declared.view.View.{View}
-use Rattle.recorder.specs.Recording.{ChangesRows}
-use Rattle.recording_turns.specs.Resting.{split_in}
-use Rattle.booking_recorder.specs.declared.refusal.CommitRefusal.{CommitRefusal}
-use Rattle.booking_recorder.specs.declared.refusal.CommitRefusal.TheVariants as refusal
-use Rattle.booking_recorder.specs.declared.refusal.RecordFault.{RecordFault}
-use Rattle.booking_recorder.specs.declared.refusal.RecordFault.TheVariants as fault
-use Rattle.booking_recorder.specs.Entries.{FailsToRecord, HeldAtFault, IsHeldIn, IsSpentAt, TellsAtFault, TellsCommit}
-use Rattle.booking_recorder.specs.Faults.{is_by_held, is_by_store, is_held_refusal, is_of_held, is_of_store, is_spent_fault, is_store_refusal, of_farm, of_record}
-use Rattle.booking_recorder.specs.Recording.{most_entries}
-use Rattle.booking_recorder.specs.Views.{Enters, Stays}
-use Rattle.booking_recorder.proofs.Journaled.{journals_entered, journals_stays}
+use Rattle.dispatcher.specs.recorder.specs.Recording.{ChangesRows}
+use Rattle.dispatcher.specs.recording_turns.specs.Resting.{split_in}
+use Rattle.dispatcher.specs.booking_recorder.specs.declared.refusal.CommitRefusal.{CommitRefusal}
+use Rattle.dispatcher.specs.booking_recorder.specs.declared.refusal.CommitRefusal.TheVariants as refusal
+use Rattle.dispatcher.specs.booking_recorder.specs.declared.refusal.RecordFault.{RecordFault}
+use Rattle.dispatcher.specs.booking_recorder.specs.declared.refusal.RecordFault.TheVariants as fault
+use Rattle.dispatcher.specs.booking_recorder.specs.Entries.{FailsToRecord, HeldAtFault, IsHeldIn, IsSpentAt, TellsAtFault, TellsCommit}
+use Rattle.dispatcher.specs.booking_recorder.specs.Faults.{is_by_held, is_by_store, is_held_refusal, is_of_held, is_of_store, is_spent_fault, is_store_refusal, of_farm, of_record}
+use Rattle.dispatcher.specs.booking_recorder.specs.Recording.{most_entries}
+use Rattle.dispatcher.specs.booking_recorder.specs.Views.{Enters, Stays}
+use Rattle.dispatcher.specs.booking_recorder.proofs.Journaled.{journals_entered, journals_stays}
 use Rattle.line_answers.specs.declared.limits.TheConstants.{ENTRIES_EACH}
 use Rattle.line_answers.specs.Entering.{is_hindered}
 use Rattle.line_answers.specs.LineAnswers.{Hears}

@@ -25,10 +25,10 @@ use Rattle.farm_types.specs.Run.{run_of}
 use Rattle.farm_types.specs.Step.{refusal_of, after, host_refusal}
 use Rattle.farm_lines.specs.Asked.{heard_entry}
 use Rattle.farm_lines.specs.Transcript.{Mark, Plain, Memory, Store, CutAfter, StoreAfter, LatePlain, LateCut, LateStore, Answered, accepted_answer, is_store_mark, marked_answer, only_reply, report_answer, unless_memory}
-use Rattle.booking_recorder.specs.declared.refusal.CommitRefusal.{CommitRefusal}
-use Rattle.booking_recorder.specs.declared.refusal.CommitRefusal.TheVariants as refusal
-use Rattle.booking_recorder.specs.Faults.{is_by_store}
-use Rattle.recorder.specs.Recording.{ChangesNone, IsUnstored}
+use Rattle.dispatcher.specs.booking_recorder.specs.declared.refusal.CommitRefusal.{CommitRefusal}
+use Rattle.dispatcher.specs.booking_recorder.specs.declared.refusal.CommitRefusal.TheVariants as refusal
+use Rattle.dispatcher.specs.booking_recorder.specs.Faults.{is_by_store}
+use Rattle.dispatcher.specs.recorder.specs.Recording.{ChangesNone, IsUnstored}
 use Rattle.line_answers.specs.Entering.{is_hindrance}
 use Rattle.line_answers.specs.LineAnswers.{AnswersReport, Going, Hears, MayCutRound, MayStore, TakesReport, TakesRound, bookings_in, is_calm, reported, tells_memory, unrecorded_reply}
 use Rattle.line_answers.specs.Lines.{IsLineOf, IsLineOfOther, is_store_reply}

@@ -9,16 +9,16 @@ use Rattle.farm_keeper.proofs.KeepingLaws.{Continues-same, Continues-then}
 use Rattle.farm_lines.specs.Asked.{heard_entry}
 use Rattle.farm_lines.specs.declared.report.Report.{Report}
 use Rattle.farm_lines.specs.Transcript.{Answered, Plain}
-use Rattle.recorder.specs.Telling.{EndsTelling, TakesEach, Tells}
-use Rattle.recorder.proofs.Told.{tells_all, tells_behind, tells_none, tells_still}
-use Rattle.booking_recorder.specs.declared.refusal.CommitRefusal.{CommitRefusal}
-use Rattle.booking_recorder.specs.declared.refusal.CommitRefusal.TheVariants as refusal
-use Rattle.booking_recorder.specs.Entries.{TellsCommit}
-use Rattle.booking_recorder.specs.Faults.{is_by_store}
-use Rattle.booking_recorder.specs.Going.{GoesOn}
-use Rattle.booking_recorder.specs.Recording.{Recording}
-use Rattle.booking_recorder.specs.Views.{Entered, Stays}
-use Rattle.booking_recorder.proofs.Journaled.{journals_entered, journals_none, journals_stays, journals_then}
+use Rattle.dispatcher.specs.recorder.specs.Telling.{EndsTelling, TakesEach, Tells}
+use Rattle.dispatcher.specs.recorder.proofs.Told.{tells_all, tells_behind, tells_none, tells_still}
+use Rattle.dispatcher.specs.booking_recorder.specs.declared.refusal.CommitRefusal.{CommitRefusal}
+use Rattle.dispatcher.specs.booking_recorder.specs.declared.refusal.CommitRefusal.TheVariants as refusal
+use Rattle.dispatcher.specs.booking_recorder.specs.Entries.{TellsCommit}
+use Rattle.dispatcher.specs.booking_recorder.specs.Faults.{is_by_store}
+use Rattle.dispatcher.specs.booking_recorder.specs.Going.{GoesOn}
+use Rattle.dispatcher.specs.booking_recorder.specs.Recording.{Recording}
+use Rattle.dispatcher.specs.booking_recorder.specs.Views.{Entered, Stays}
+use Rattle.dispatcher.specs.booking_recorder.proofs.Journaled.{journals_entered, journals_none, journals_stays, journals_then}
 use Rattle.line_answers.specs.Entering.{WasHeard}
 use Rattle.line_answers.specs.LineAnswers.{Hears, reported}
 use Rattle.line_answers.proofs.ReportLemmas.{accepted_is, host_of}

@@ -5,15 +5,15 @@ use Rattle.farm_types.specs.Farm.{Farm}
 use Rattle.farm_types.specs.Step.{refusal_of}
 use Rattle.farm_keeper.specs.Keeping.{Committing, Continues}
 use Rattle.booking_rule.specs.declared.view.View.{View}
-use Rattle.recording_turns.specs.Resting.{split_in}
-use Rattle.booking_recorder.specs.declared.refusal.CommitRefusal.{CommitRefusal}
-use Rattle.booking_recorder.specs.declared.refusal.CommitRefusal.TheVariants as commit
-use Rattle.booking_recorder.specs.declared.refusal.RecordFault.{RecordFault}
-use Rattle.booking_recorder.specs.declared.refusal.RecordFault.TheVariants as fault
-use Rattle.booking_recorder.specs.Entries.{IsHeld, TellsCommit}
-use Rattle.booking_recorder.specs.Faults.{is_store_refusal}
-use Rattle.booking_recorder.specs.Recording.{Recording, most_entries}
-use Rattle.booking_recorder.specs.Views.{Entered, Enters, Stays}
+use Rattle.dispatcher.specs.recording_turns.specs.Resting.{split_in}
+use Rattle.dispatcher.specs.booking_recorder.specs.declared.refusal.CommitRefusal.{CommitRefusal}
+use Rattle.dispatcher.specs.booking_recorder.specs.declared.refusal.CommitRefusal.TheVariants as commit
+use Rattle.dispatcher.specs.booking_recorder.specs.declared.refusal.RecordFault.{RecordFault}
+use Rattle.dispatcher.specs.booking_recorder.specs.declared.refusal.RecordFault.TheVariants as fault
+use Rattle.dispatcher.specs.booking_recorder.specs.Entries.{IsHeld, TellsCommit}
+use Rattle.dispatcher.specs.booking_recorder.specs.Faults.{is_store_refusal}
+use Rattle.dispatcher.specs.booking_recorder.specs.Recording.{Recording, most_entries}
+use Rattle.dispatcher.specs.booking_recorder.specs.Views.{Entered, Enters, Stays}
 use Rattle.line_answers.specs.declared.hindered.Hindered.{Hindered}
 use Rattle.line_answers.specs.declared.hindered.Hindered.TheVariants as hindered
 use Rattle.line_answers.specs.declared.reply_line.ReplyLine.{ReplyLine}

@@ -6,3 +6,7 @@ pub mod Lines
 pub mod Outcomes
 pub mod Reports
 pub mod Told
+pub use Rattle.dispatcher.specs.booking_recorder
+pub use Rattle.dispatcher.specs.farm_core
+pub use Rattle.dispatcher.specs.recorder
+pub use Rattle.dispatcher.specs.recording_turns

@@ -21,9 +21,9 @@ use Rattle.line_answers.specs.declared.reply_line.ReplyLine.TheVariants as reply
 use Rattle.line_answers.specs.Lines.{IsLineOf}
 use Rattle.line_answers.specs.Told.{Tells}
 use Rattle.line_answers.specs.declared.told.Taken.{Taken}
-use Rattle.booking_recorder.specs.declared.refusal.CommitRefusal.{CommitRefusal}
-use Rattle.booking_recorder.specs.declared.refusal.CommitRefusal.TheVariants as commit
-use Rattle.recorder.specs.Recording.{ChangesRows}
+use Rattle.dispatcher.specs.booking_recorder.specs.declared.refusal.CommitRefusal.{CommitRefusal}
+use Rattle.dispatcher.specs.booking_recorder.specs.declared.refusal.CommitRefusal.TheVariants as commit
+use Rattle.dispatcher.specs.recorder.specs.Recording.{ChangesRows}
 use Rattle.farm_changes.specs.Change.{HasHeard}
 use Rattle.farm_lines.specs.Asked.{asked_of, entry_at, heard_entry}
 use Rattle.farm_lines.specs.Request.{request_of}

@@ -8,7 +8,7 @@ ghost use Rattle.line_answers.specs.Launches.{HasWritten, Writes, due_at, launch
 ghost use Rattle.object_writer.specs.Tokens.{added, tokens_of};
 
 use command_text::{expand, frame_name};
-use farm_core::Farm;
+use dispatcher::farm_core::Farm;
 use farm_lines::LAUNCHES_EACH;
 use farm_types::{
     Attempt, DoneItem, Frame, HeardAct, HostNo, Items, JobRow, LayerRow, ProcRow, Slot, SlotRow,

@@ -30,3 +30,6 @@ pub use one_entry::answer_entry;
 pub use reply_line::ReplyLine;
 pub use reporting::report_line;
 pub use told::{ReportLine, Taken, Told};
+
+// What the crates above name through this one. They don't list it too: a build sums a crate up once for each way that leads to it.
+pub use dispatcher::{booking_recorder, farm_core, recorder, recording_turns};

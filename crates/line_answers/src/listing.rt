@@ -6,7 +6,7 @@ ghost use Rattle.line_answers.specs.Lines.{IsLineOf, shown};
 
 use crate::reply_line::{ReplyLine, line_of, refusal_line};
 use cue_query::list;
-use farm_core::Farm;
+use dispatcher::farm_core::Farm;
 use farm_lines::{Query, Reply};
 use farm_types::FarmFault;
 use std::alloc::Global;

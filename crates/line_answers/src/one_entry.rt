@@ -2,12 +2,12 @@
 
 ghost use Rattle.std.specs.Prelude.{◌≡◌, ◌++◌, ◌∷◌, [], IfErr, IfOk, false};
 ghost use Rattle.fault_counts.specs.Counts.{incremented_if};
-ghost use Rattle.farm_core.specs.Change.{Makes, after_change};
+ghost use Rattle.dispatcher.specs.farm_core.specs.Change.{Makes, after_change};
 ghost use Rattle.farm_lines.specs.Reply.{job_named, ok_reply, reply_text};
 ghost use Rattle.farm_types.specs.Formed.{IsFormed};
 ghost use Rattle.farm_types.specs.Step.{after};
-ghost use Rattle.recorder.specs.Recording.{HasSameRows, IsOfEntry, IsUnstored};
-ghost use Rattle.booking_recorder.specs.Going.{GoesOn};
+ghost use Rattle.dispatcher.specs.recorder.specs.Recording.{HasSameRows, IsOfEntry, IsUnstored};
+ghost use Rattle.dispatcher.specs.booking_recorder.specs.Going.{GoesOn};
 ghost use Rattle.line_answers.specs.Asking.{IsNoBooking};
 ghost use Rattle.line_answers.specs.Entering.{EntersAnswer, IsHindered, is_store_answer, unrecorded};
 ghost use Rattle.line_answers.specs.LineAnswers.{AnswersEntry, IsRecorded, IsUnprepared};
@@ -15,9 +15,9 @@ ghost use Rattle.line_answers.specs.Lines.{is_store_line, recorded_by, shown};
 
 use crate::hindered::Hindered;
 use crate::reply_line::{ReplyLine, refusal_line, write_line};
-use booking_recorder::{Naming, RecordFault, Recorder};
 use booking_table::Table;
-use farm_core::Change;
+use dispatcher::booking_recorder::{Naming, RecordFault, Recorder};
+use dispatcher::farm_core::Change;
 use farm_keeper::Keeper;
 use farm_lines::Reply;
 use farm_types::{Act, Answer, Entry, FarmFault, Items, Text};

@@ -9,7 +9,7 @@ ghost use Rattle.line_answers.specs.Told.{Reports};
 use crate::launches::{DueLaunches, acks, kills};
 use crate::reply_line::ReplyLine;
 use crate::told::ReportLine;
-use farm_core::Farm;
+use dispatcher::farm_core::Farm;
 use farm_types::{Attempt, Cut, HeardAct, HostNo};
 use report_codec::{WrittenReport, write_report_reply};
 use std::alloc::{AllocError, Global};

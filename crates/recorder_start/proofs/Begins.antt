@@ -2,7 +2,7 @@
 use Rattle.std.proofs.Common.{◌≡◌, refl, sym, subst}
 use Rattle.booking_rule.specs.declared.view.View.{View}
 use Rattle.booking_rule.specs.Kept.{first_view, no_desk}
-use Rattle.recording_turns.specs.Resting.{IsUnplaced}
+use Rattle.booking_recorder.specs.recording_turns.specs.Resting.{IsUnplaced}
 
 unplaced : IsUnplaced first_view
 unplaced =

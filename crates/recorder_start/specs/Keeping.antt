@@ -3,7 +3,7 @@ use Rattle.std.specs.Prelude.{◌≡◌}
 use Rattle.farm_types.specs.Farm.{Farm}
 use Rattle.farm_keeper.specs.Keeping.{MayRemain}
 use Rattle.farm_keeper.specs.Memory.{Kept}
-use Rattle.recorder.specs.Recording.{HasRecorded}
+use Rattle.booking_recorder.specs.recorder.specs.Recording.{HasRecorded}
 
 -- the keeper holds the farm's rows, and a stop leaves these, or those of the farm one legal entry further
 abbrev pub IsKeptBy : Farm → Kept → Type 0

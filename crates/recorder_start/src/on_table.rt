@@ -5,9 +5,9 @@ ghost use Rattle.booking_rule.specs.Kept.{first_view};
 ghost use Rattle.booking_table.specs.Seats.{view, IsSeatOf};
 ghost use Rattle.recorder_start.specs.Keeping.{IsKeptBy};
 
+use booking_recorder::farm_core::Farm;
 use booking_recorder::{Naming, Recorder};
 use booking_table::{Seat, Table};
-use farm_core::Farm;
 use farm_keeper::MemoryKeeper;
 use std::alloc::Global;
 

@@ -5,7 +5,7 @@ ghost use Rattle.farm_rows.specs.declared.head_row.TheConstants.{ROW_FORMAT};
 ghost use Rattle.recovery.specs.Recovered.{recovered};
 ghost use Rattle.recorder_start.specs.Keeping.{IsKeptBy};
 
-use farm_core::Farm;
+use booking_recorder::farm_core::Farm;
 use farm_keeper::{Keeper, KeeperFault, MemoryKeeper, Row};
 use farm_rows::ROW_FORMAT;
 use recovery::{RecoverFault, Recovered, recover, rows_recovered_are_the_farms};

@@ -12,9 +12,9 @@ use Rattle.farm_lines.specs.Reply.{reply_text}
 use Rattle.farm_lines.specs.Transcript.{Answered, Mark, Plain, answer_to, is_store_mark}
 use Rattle.session.specs.declared.exchanged.Exchanged.{Exchanged}
 use Rattle.session.specs.declared.exchanged.Exchanged.TheVariants as exchanged
-use Rattle.line_answers.specs.LineAnswers.{AnswersLine, Going, IsAnswer}
-use Rattle.line_answers.specs.Outcomes.{IsAnsweredFully}
-use Rattle.recorder.specs.Recording.{ChangesNone}
+use Rattle.farm_load.specs.line_answers.specs.LineAnswers.{AnswersLine, Going, IsAnswer}
+use Rattle.farm_load.specs.line_answers.specs.Outcomes.{IsAnsweredFully}
+use Rattle.farm_load.specs.recorder.specs.Recording.{ChangesNone}
 use Rattle.session.specs.Sessions.{Answers, Sends, Exchanges, IsExchange, IsStep, MayStand, StaysAt, entries_by}
 
 -- a front of the text was written

@@ -8,9 +8,9 @@ use Rattle.farm_keeper.specs.Rows.{Rows}
 use Rattle.fault_counts.proofs.CountLaws.{HasRisenBy-cons, last_count-stays}
 use Rattle.farm_lines.specs.Transcript.{Exchange, answer_at, entries_in, farm_after, farm_next, is_store_mark}
 use Rattle.farm_types.specs.declared.entry.Entry.{Entry}
-use Rattle.booking_recorder.specs.Going.{Journals}
-use Rattle.booking_recorder.specs.Recording.{Recording}
-use Rattle.booking_recorder.proofs.Journaled.{journals_then}
+use Rattle.farm_load.specs.booking_recorder.specs.Going.{Journals}
+use Rattle.farm_load.specs.booking_recorder.specs.Recording.{Recording}
+use Rattle.farm_load.specs.booking_recorder.proofs.Journaled.{journals_then}
 use Rattle.session.specs.Sessions.{GoesOnAt, GoesOnOver, RecordsOver, WentOn, store_marks}
 use Rattle.session.proofs.SeatLemmas.{entries_more}
 use Rattle.session.proofs.SessionLemmas.{GoesOnBy}

@@ -17,11 +17,11 @@ use Rattle.farm_load.specs.Summaries.{RunsLoad}
 use Rattle.recovery.specs.declared.fault.RecoverFault.{RecoverFault}
 use Rattle.session.specs.Loads.{AnswersLoad, TellsEnd, TellsSummary}
 use Rattle.atomic_table.specs.declared.shared.Seat.{Seat}
-use Rattle.booking_recorder.specs.Going.{Journals}
-use Rattle.booking_recorder.specs.Recording.{Recording}
+use Rattle.farm_load.specs.booking_recorder.specs.Going.{Journals}
+use Rattle.farm_load.specs.booking_recorder.specs.Recording.{Recording}
 use Rattle.booking_rule.specs.declared.view.View.{View}
 use Rattle.booking_table.specs.Seats.{view}
-use Rattle.recording_turns.specs.Resting.{IsAtRest}
+use Rattle.farm_load.specs.recording_turns.specs.Resting.{IsAtRest}
 use Rattle.session.specs.Opening.{IsOpened}
 use Rattle.session.specs.Seats.{GivesSeat}
 use Rattle.session.specs.Sessions.{AnswersLoadCall, Call, EndsEarly, EndsWell, IsCall, Streams, streams}

@@ -4,7 +4,7 @@ use Rattle.farm_types.specs.declared.entry.Entry.{Entry}
 use Rattle.farm_types.specs.Farm.{Farm}
 use Rattle.farm_types.specs.Run.{run_of}
 use Rattle.farm_keeper.specs.Memory.{Commits, Kept}
-use Rattle.recorder.specs.Telling.{EndsTelling, Tells}
+use Rattle.farm_load.specs.recorder.specs.Telling.{EndsTelling, Tells}
 use Rattle.session.specs.Stops.{has_just_failed}
 
 -- it failed as the last entry was told

@@ -7,7 +7,7 @@ use Rattle.farm_types.specs.Run.{IsLegal, run_of}
 use Rattle.farm_types.specs.Step.{after}
 use Rattle.farm_gen.specs.Load.{load_entries}
 use Rattle.farm_law.specs.DemoRun.{demo_entries}
-use Rattle.recorder.specs.declared.refusal.RecordFault.{RecordFault}
+use Rattle.farm_load.specs.recorder.specs.declared.refusal.RecordFault.{RecordFault}
 use Rattle.session.specs.Opening.{GoesThrough}
 use Rattle.session.specs.Words.{WordForm, Demo, Load, Script, opened_at, opened_entry, opening_entries}
 

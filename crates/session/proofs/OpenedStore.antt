@@ -11,7 +11,7 @@ use Rattle.farm_keeper.specs.Keeping.{HasKept, Keeps, MayRemain}
 use Rattle.farm_keeper.specs.Rows.{Lists, Rows, rows_from}
 use Rattle.farm_keeper.specs.Rows as batched
 use Rattle.farm_keeper.proofs.RowLaws.{Lists-from, Lists-only}
-use Rattle.recorder.specs.Recording.{HasRecorded}
+use Rattle.farm_load.specs.recorder.specs.Recording.{HasRecorded}
 use Rattle.recovery.specs.Migration.{HasRows}
 use Rattle.recovery.specs.Recovered.{recovered, spelled_rows}
 use Rattle.recovery.specs.declared.fault.RecoverFault.{RecoverFault}

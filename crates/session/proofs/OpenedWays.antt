@@ -9,11 +9,11 @@ use Rattle.fault_counts.specs.Counts.{HasRisen, incremented_if}
 use Rattle.farm_keeper.specs.Faults.{is_failed}
 use Rattle.farm_keeper.specs.Keeping.{Continues, Keeps}
 use Rattle.farm_keeper.specs.Rows.{Lists, Rows}
-use Rattle.recorder.specs.declared.refusal.RecordFault.{RecordFault}
-use Rattle.recorder.specs.declared.refusal.RecordFault.TheVariants as record_fault
-use Rattle.recorder.specs.Faults as recorded
-use Rattle.booking_recorder.specs.Going.{Journals}
-use Rattle.booking_recorder.specs.Recording.{Recording}
+use Rattle.farm_load.specs.recorder.specs.declared.refusal.RecordFault.{RecordFault}
+use Rattle.farm_load.specs.recorder.specs.declared.refusal.RecordFault.TheVariants as record_fault
+use Rattle.farm_load.specs.recorder.specs.Faults as recorded
+use Rattle.farm_load.specs.booking_recorder.specs.Going.{Journals}
+use Rattle.farm_load.specs.booking_recorder.specs.Recording.{Recording}
 use Rattle.recovery.specs.declared.fault.RecoverFault.{RecoverFault}
 use Rattle.recovery.specs.declared.fault.RecoverFault.TheVariants as recover_fault
 use Rattle.recovery.specs.declared.recovering.Recovered.{Recovered}

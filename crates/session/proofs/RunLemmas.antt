@@ -30,11 +30,11 @@ use Rattle.session.specs.Opening.{BeginsWith, HasFailed, HoldsFarm, IsLeftOld, I
 use Rattle.session.specs.Loads.{AnswersLoad}
 use Rattle.session.specs.Sessions.{AnswersAll, AnswersForm, AnswersLoadCall, Call, EndsEarly, EndsSession, EndsWell, GoesOnOpened, GoesOnOver, RecordsOver, HasLines, HasMoved, IsBadStore, IsCall, IsOldStore, IsOpening, IsUnopened, MayTell, Streams, TellsBad, TellsFault, TellsLine, status_of, store_marks, streams}
 use Rattle.atomic_table.specs.declared.shared.Seat.{Seat}
-use Rattle.booking_recorder.specs.Going.{Journals}
-use Rattle.booking_recorder.specs.Recording.{Recording}
+use Rattle.farm_load.specs.booking_recorder.specs.Going.{Journals}
+use Rattle.farm_load.specs.booking_recorder.specs.Recording.{Recording}
 use Rattle.booking_rule.specs.declared.view.View.{View}
 use Rattle.booking_table.specs.Seats.{view}
-use Rattle.recording_turns.specs.Resting.{IsAtRest}
+use Rattle.farm_load.specs.recording_turns.specs.Resting.{IsAtRest}
 use Rattle.session.specs.Words.{WordForm, Demo, Script, Load, TakesLines, form_of, opened_farm, opening_entries, word_form}
 use Rattle.session.proofs.KeeperLemmas.{over_risen}
 use Rattle.session.proofs.LoadLemmas.{called_load}

@@ -11,15 +11,15 @@ use Rattle.farm_types.specs.Farm.{Farm}
 use Rattle.booking_rule.specs.declared.view.View.{View}
 use Rattle.booking_rule.specs.Kept.{first_view, no_desk}
 use Rattle.booking_table.specs.Seats.{view}
-use Rattle.booking_recorder.specs.Going.{Journals}
-use Rattle.booking_recorder.specs.Recording.{most_entries}
-use Rattle.booking_recorder.proofs.Journaled.{journals_then}
-use Rattle.recorder.specs.declared.refusal.RecordFault.{RecordFault}
-use Rattle.recording_turns.specs.Resting.{IsAtRest, IsPlaced, IsUnplaced}
+use Rattle.farm_load.specs.booking_recorder.specs.Going.{Journals}
+use Rattle.farm_load.specs.booking_recorder.specs.Recording.{most_entries}
+use Rattle.farm_load.specs.booking_recorder.proofs.Journaled.{journals_then}
+use Rattle.farm_load.specs.recorder.specs.declared.refusal.RecordFault.{RecordFault}
+use Rattle.farm_load.specs.recording_turns.specs.Resting.{IsAtRest, IsPlaced, IsUnplaced}
 use Rattle.farm_lines.specs.Transcript.{Exchange, answer_at, entries_in, farm_after, farm_next}
 use Rattle.farm_load.specs.Loads.{most_reports}
-use Rattle.line_answers.specs.declared.limits.TheConstants.{ENTRIES_EACH}
-use Rattle.line_answers.proofs.FewEntries.{line_few}
+use Rattle.farm_load.specs.line_answers.specs.declared.limits.TheConstants.{ENTRIES_EACH}
+use Rattle.farm_load.specs.line_answers.proofs.FewEntries.{line_few}
 use Rattle.session.specs.Seats.{GivesSeat, HasRoom, IsBegun}
 use Rattle.session.specs.Words.{WordForm, Demo, Load, Script, opened_at, opened_entry, opening_entries}
 use Rattle.session.proofs.OpenedRun.{later_entries, opening_is}

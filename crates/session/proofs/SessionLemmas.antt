@@ -19,8 +19,8 @@ use Rattle.farm_lines.specs.Reply.{reply_text}
 use Rattle.farm_lines.specs.Transcript.{Mark, Plain, Exchange, answer_to, answer_at, farm_next, farm_after, is_store_mark, only_reply, request_answer, unless_memory, transcript, lines_in, moments_in}
 use Rattle.session.specs.declared.exchanged.Exchanged.{Exchanged}
 use Rattle.session.specs.declared.exchanged.Exchanged.TheVariants as exchanged
-use Rattle.line_answers.specs.LineAnswers.{Going, IsAnswer, IsMarked}
-use Rattle.recorder.specs.Recording.{ChangesNone}
+use Rattle.farm_load.specs.line_answers.specs.LineAnswers.{Going, IsAnswer, IsMarked}
+use Rattle.farm_load.specs.recorder.specs.Recording.{ChangesNone}
 use Rattle.session.specs.Sessions.{Answers, AreMarked, Call, EndsSession, HasAnswered, HasLines, HasMoved, HasReplies, HasServed, IsExchange, IsNoExchange, IsStep, MayStand, StaysAt, Streams, entries_by}
 use Rattle.farm_lines.specs.declared.limits.TheConstants.{LINE_LIMIT}
 

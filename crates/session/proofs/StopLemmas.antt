@@ -9,7 +9,7 @@ use Rattle.farm_types.specs.Farm.{Farm}
 use Rattle.farm_types.specs.Kept.{IsKeptFarm}
 use Rattle.farm_types.specs.Run.{IsLegal, run_of}
 use Rattle.farm_types.specs.Step.{after}
-use Rattle.recorder.specs.Recording.{MayBe}
+use Rattle.farm_load.specs.recorder.specs.Recording.{MayBe}
 use Rattle.recovery.specs.Recovered.{recovered}
 use Rattle.farm_rows.specs.declared.head_row.TheConstants.{ROW_FORMAT}
 use Rattle.farm_rows.specs.Rows.{HasRowsIn}

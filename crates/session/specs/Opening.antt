@@ -9,9 +9,9 @@ use Rattle.farm_keeper.specs.Rows.{Lists, Rows}
 use Rattle.farm_types.specs.declared.entry.Entry.{Entry}
 use Rattle.farm_keeper.specs.declared.fault.KeeperFault.{KeeperFault}
 use Rattle.farm_keeper.specs.declared.fault.KeeperFault.TheVariants as keeper_fault
-use Rattle.recorder.specs.declared.refusal.RecordFault.{RecordFault}
-use Rattle.recorder.specs.declared.refusal.RecordFault.TheVariants as record_fault
-use Rattle.recorder.specs.Recording.{HasRecorded}
+use Rattle.farm_load.specs.recorder.specs.declared.refusal.RecordFault.{RecordFault}
+use Rattle.farm_load.specs.recorder.specs.declared.refusal.RecordFault.TheVariants as record_fault
+use Rattle.farm_load.specs.recorder.specs.Recording.{HasRecorded}
 use Rattle.booking_rule.specs.declared.view.View.{View}
 use Rattle.recording_core.specs.Machine.{IsBooking}
 use Rattle.recovery.specs.declared.fault.RecoverFault.TheVariants as recover_fault

@@ -7,8 +7,8 @@ use Rattle.farm_types.specs.Farm.{Farm}
 use Rattle.booking_rule.specs.declared.view.View.{View}
 use Rattle.booking_rule.specs.Link.{opening_of}
 use Rattle.booking_table.specs.Seats.{view}
-use Rattle.line_answers.specs.declared.limits.TheConstants.{ENTRIES_EACH}
-use Rattle.recording_turns.specs.Resting.{IsAtRest, split_in}
+use Rattle.farm_load.specs.line_answers.specs.declared.limits.TheConstants.{ENTRIES_EACH}
+use Rattle.farm_load.specs.recording_turns.specs.Resting.{IsAtRest, split_in}
 
 -- Each word shows what the farm of the journal says, and the seat holds nothing. The journal starts from this farm and has exactly these entries.
 pub record HasJournal (v : View) (first : Farm) (entries : List Entry) : Type 0 where

@@ -21,12 +21,12 @@ use Rattle.farm_lines.specs.Reply.{bad_store_line, reply_text}
 use Rattle.farm_lines.specs.Transcript.{Mark, Plain, Exchange, answer_at, answer_to, transcript, farm_after, farm_next, entries_in, is_store_mark}
 use Rattle.farm_lines.specs.Transcript.{lines_in, moments_in}
 use Rattle.atomic_table.specs.declared.shared.Seat.{Seat}
-use Rattle.booking_recorder.specs.Going.{GoesOn, Journals}
-use Rattle.booking_recorder.specs.Recording.{Recording}
+use Rattle.farm_load.specs.booking_recorder.specs.Going.{GoesOn, Journals}
+use Rattle.farm_load.specs.booking_recorder.specs.Recording.{Recording}
 use Rattle.booking_rule.specs.declared.view.View.{View}
-use Rattle.line_answers.specs.LineAnswers.{Going, IsAnswer, IsMarked}
-use Rattle.recorder.specs.Recording.{ChangesNone}
-use Rattle.recorder.specs.Telling.{Tells as TellsKeeper}
+use Rattle.farm_load.specs.line_answers.specs.LineAnswers.{Going, IsAnswer, IsMarked}
+use Rattle.farm_load.specs.recorder.specs.Recording.{ChangesNone}
+use Rattle.farm_load.specs.recorder.specs.Telling.{Tells as TellsKeeper}
 use Rattle.recovery.specs.declared.fault.RecoverFault.{RecoverFault}
 use Rattle.recovery.specs.declared.fault.RecoverFault.TheVariants.{BadBytes, BreaksFarm, NoMemory}
 use Rattle.session.specs.declared.exchanged.Exchanged.{Exchanged}

@@ -7,18 +7,18 @@ ghost use Rattle.cue_io.specs.Output.{Adds};
 ghost use Rattle.cue_io.specs.Reader.{IsPending};
 ghost use Rattle.cue_io.specs.Readings.{Tells};
 ghost use Rattle.session.specs.Sessions.{IsStep, Sends, WentOn};
-ghost use Rattle.line_answers.specs.Lines.{shown};
-ghost use Rattle.line_answers.specs.declared.limits.TheConstants.{ENTRIES_EACH};
-ghost use Rattle.recording_turns.specs.Resting.{split_in};
+ghost use Rattle.farm_load.specs.line_answers.specs.Lines.{shown};
+ghost use Rattle.farm_load.specs.line_answers.specs.declared.limits.TheConstants.{ENTRIES_EACH};
+ghost use Rattle.farm_load.specs.recording_turns.specs.Resting.{split_in};
 ghost use Rattle.farm_lines.specs.declared.limits.TheConstants.{LINE_LIMIT};
 
 use crate::exchanged::Exchanged;
-use booking_recorder::{Naming, Recorder};
 use booking_table::Table;
 use cue_io::{Clock, Line, LineFault, LineReader, Sink, Source, write_all};
 use farm_keeper::Keeper;
+use farm_load::booking_recorder::{Naming, Recorder};
+use farm_load::line_answers::{ReplyLine, answer_line, lines_are_answered_by_what_they_ask};
 use json::Scratch;
-use line_answers::{ReplyLine, answer_line, lines_are_answered_by_what_they_ask};
 use std::alloc::Global;
 
 /// Reads one line, answers it, and writes its reply. No seat was split off of the recorder's.

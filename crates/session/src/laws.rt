@@ -10,7 +10,7 @@ ghost use Rattle.farm_lines.specs.Transcript.{Exchange, farm_after, is_store_mar
 ghost use Rattle.farm_types.specs.Farm.{Farm, empty_farm};
 ghost use Rattle.farm_types.specs.Kept.{IsKeptFarm};
 ghost use Rattle.farm_types.specs.Run.{IsLegal};
-ghost use Rattle.recorder.specs.Recording.{MayBe};
+ghost use Rattle.farm_load.specs.recorder.specs.Recording.{MayBe};
 ghost use Rattle.farm_rows.specs.Rows.{HasRowsIn};
 ghost use Rattle.recovery.specs.Recovered.{recovered};
 ghost use Rattle.session.specs.Opening.{AreOf};
@@ -19,7 +19,7 @@ ghost use Rattle.session.specs.Stops.{IsOpenedAgain, MayBeOld, has_just_failed};
 ghost use Rattle.session.specs.Words.{WordForm, opened_farm, opening_entries};
 
 use depend_law::legal_runs_keep_farms;
-use line_answers::sessions_are_legal;
+use farm_load::line_answers::sessions_are_legal;
 use recovery::{farms_are_recovered, rows_recovered_are_the_farms};
 use store_law::{rows_fit, stores_are_listed_in_order};
 

@@ -1,23 +1,23 @@
 //! The run of a load over a farm that was opened.
 
 ghost use Rattle.std.specs.Prelude.{◌≡◌, ℕ, List};
-ghost use Rattle.booking_recorder.specs.Going.{Journals};
+ghost use Rattle.farm_load.specs.booking_recorder.specs.Going.{Journals};
 ghost use Rattle.booking_table.specs.Seats.{view};
 ghost use Rattle.fault_counts.specs.Counts.{HasRisen};
 ghost use Rattle.cue_io.specs.Output.{Adds};
 ghost use Rattle.farm_gen.specs.Load.{IsLoad};
 ghost use Rattle.farm_load.specs.Summaries.{summary_text};
-ghost use Rattle.recording_turns.specs.Resting.{IsAtRest, split_in};
+ghost use Rattle.farm_load.specs.recording_turns.specs.Resting.{IsAtRest, split_in};
 ghost use Rattle.session.specs.Loads.{AnswersLoad, TellsEnd, TellsSummary};
 ghost use Rattle.session.specs.Opening.{HoldsFarm};
 ghost use Rattle.session.specs.Seats.{HasRoom};
 
-use booking_recorder::{Naming, Recorder};
 use booking_table::{Seat, Table};
 use command_line::Status;
 use cue_io::{Sink, write_all};
 use farm_keeper::Keeper;
 use farm_law::legal_runs_are_safe;
+use farm_load::booking_recorder::{Naming, Recorder};
 use farm_load::{LoadEnd, Summary, loads_are_legal, run_load, write_summary};
 use std::alloc::Global;
 

@@ -2,13 +2,13 @@
 
 ghost use Rattle.std.specs.Prelude.{◌≡◌, ◌<◌, ◌+◌, ◌^◌, ◌∷◌, [], IfOk, length};
 ghost use Rattle.std.specs.List.{All};
-ghost use Rattle.booking_recorder.specs.Going.{Journals};
+ghost use Rattle.farm_load.specs.booking_recorder.specs.Going.{Journals};
 ghost use Rattle.booking_table.specs.Seats.{IsSeatOf, view};
 ghost use Rattle.farm_law.specs.DemoRun.{demo_entries};
 ghost use Rattle.farm_types.specs.Run.{IsLegal, IsLegalStep};
-ghost use Rattle.recorder.specs.Faults.{is_store_fault};
-ghost use Rattle.recorder.specs.Recording.{HasRecorded};
-ghost use Rattle.recording_turns.specs.Resting.{IsUnplaced, split_in};
+ghost use Rattle.farm_load.specs.recorder.specs.Faults.{is_store_fault};
+ghost use Rattle.farm_load.specs.recorder.specs.Recording.{HasRecorded};
+ghost use Rattle.farm_load.specs.recording_turns.specs.Resting.{IsUnplaced, split_in};
 ghost use Rattle.farm_keeper.specs.Keeping.{Continues, Keeps};
 ghost use Rattle.farm_rows.specs.Rows.{HasRowsIn};
 ghost use Rattle.recovery.specs.Migration.{HasRows};
@@ -19,15 +19,15 @@ ghost use Rattle.farm_gen.specs.Load.{IsLoad, load_entries};
 ghost use Rattle.session.specs.Words.{IsScript, IsStated, IsWithin, opened_at, opened_entry, opening_entries, word_form};
 
 use crate::words::Form;
-use booking_recorder::{CommitRefusal, Naming, Recorder};
 use booking_table::{Seat, Table};
-use farm_core::Farm;
 use farm_gen::{demo_entries, load_entries, loads_are_runs};
 use farm_keeper::{Keeper, KeeperFault, Row};
 use farm_law::the_demonstration_is_a_run;
+use farm_load::booking_recorder::{CommitRefusal, Naming, Recorder};
+use farm_load::farm_core::Farm;
+use farm_load::recorder::RecordFault;
 use farm_rows::ROW_FORMAT;
 use farm_types::{Act, Entry};
-use recorder::RecordFault;
 use recovery::{RecoverFault, Recovered, migrate, recover, rows_recovered_are_the_farms};
 use std::alloc::Global;
 

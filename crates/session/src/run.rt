@@ -1,7 +1,7 @@
 //! The top call of the program `cuebot`.
 
 ghost use Rattle.std.specs.Prelude.{◌≡◌, ◌↔◌, ℕ, List, None, Some};
-ghost use Rattle.booking_recorder.specs.Going.{Journals};
+ghost use Rattle.farm_load.specs.booking_recorder.specs.Going.{Journals};
 ghost use Rattle.booking_table.specs.Seats.{IsSeatOf, view};
 ghost use Rattle.fault_counts.specs.Counts.{HasRisen};
 ghost use Rattle.cue_io.specs.Output.{Adds};
@@ -9,7 +9,7 @@ ghost use Rattle.cue_io.specs.Reader.{new_reader};
 ghost use Rattle.farm_lines.specs.Reply.{bad_store_line};
 ghost use Rattle.farm_lines.specs.declared.limits.TheConstants.{LINE_LIMIT};
 ghost use Rattle.session.specs.Opening.{BeginsBad, BeginsWith, HoldsFarm, IsUnmigrated, IsUntouched, MayOpen};
-ghost use Rattle.recording_turns.specs.Resting.{IsAtRest, IsUnplaced, split_in};
+ghost use Rattle.farm_load.specs.recording_turns.specs.Resting.{IsAtRest, IsUnplaced, split_in};
 ghost use Rattle.session.specs.Seats.{HasRoom};
 ghost use Rattle.session.specs.Sessions.{AnswersAll, AnswersForm, Call, GoesOnOpened, IsCall, MayTell, RecordsOver, TellsBad, TellsFault, TellsLine};
 ghost use Rattle.session.specs.Sessions.{status_of, streams};
@@ -21,16 +21,16 @@ use crate::opening::{OpenFault, Opening, open};
 use crate::serve::serve;
 use crate::word_forms::form;
 use crate::words::Form;
-use booking_recorder::{Naming, Recorder};
 use booking_table::{Seat, Table};
 use command_line::Status;
 use cue_io::{Clock, LineReader, Sink, Source, write_all};
 use farm_keeper::Keeper;
 use farm_law::legal_runs_are_safe;
 use farm_lines::LINE_LIMIT;
+use farm_load::booking_recorder::{Naming, Recorder};
+use farm_load::line_answers::sessions_are_legal;
 use farm_types::Text;
 use json::Scratch;
-use line_answers::sessions_are_legal;
 use recovery::RecoverFault;
 use report_codec::write_bad_store;
 use std::alloc::Global;

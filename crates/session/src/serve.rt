@@ -1,7 +1,7 @@
 //! A session: exchanges until one ends it.
 
 ghost use Rattle.std.specs.Prelude.{◌≡◌};
-ghost use Rattle.recording_turns.specs.Resting.{split_in};
+ghost use Rattle.farm_load.specs.recording_turns.specs.Resting.{split_in};
 ghost use Rattle.session.specs.Seats.{HasRoom};
 ghost use Rattle.fault_counts.specs.Counts.{HasRisen};
 ghost use Rattle.cue_io.specs.Reader.{new_reader};
@@ -10,10 +10,10 @@ ghost use Rattle.farm_lines.specs.declared.limits.TheConstants.{LINE_LIMIT};
 
 use crate::exchange::exchange;
 use crate::exchanged::Exchanged;
-use booking_recorder::{Naming, Recorder};
 use booking_table::Table;
 use cue_io::{Clock, LineReader, Sink, Source};
 use farm_keeper::Keeper;
+use farm_load::booking_recorder::{Naming, Recorder};
 use json::Scratch;
 use std::alloc::Global;
 

@@ -3,7 +3,7 @@ use Rattle.farm_types.specs.declared.dispatch.Candidate.{Candidate}
 use Rattle.farm_types.specs.declared.limits.TheConstants.{BOOKINGS_EACH}
 use Rattle.farm_types.specs.Dispatch.{plan_for, round_from}
 use Rattle.farm_types.specs.Farm.{Farm}
-use Rattle.recorder.specs.Recording.{ChangesNone}
+use Rattle.booking_recorder.specs.recorder.specs.Recording.{ChangesNone}
 use Rattle.booking_recorder.specs.Going.{GoesOn}
 use Rattle.dispatcher.specs.Ready.{AreReady}
 use Rattle.dispatcher.specs.Rounds.{HasWalked, is_store_cut}

@@ -1,5 +1,5 @@
 use Rattle.std.proofs.Common.{ℕ, subst, arith, Result}
-use Rattle.recorder.specs.declared.refusal.RecordFault.{RecordFault}
+use Rattle.booking_recorder.specs.recorder.specs.declared.refusal.RecordFault.{RecordFault}
 use Rattle.dispatcher.specs.Rounds.{Offers}
 use Rattle.dispatcher.proofs.Walking.{alone_at, begins_walking, ready_now, room_left, walk_ends, walk_stops, walks_on}
 use Rattle.dispatcher.proofs.rounds.book_in_turn.Goals as goal

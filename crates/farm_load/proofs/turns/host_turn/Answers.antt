@@ -3,7 +3,7 @@ use Rattle.farm_types.specs.Formed.{IsFormed}
 use Rattle.farm_lines.specs.Asked.{heard_entry}
 use Rattle.farm_lines.specs.declared.report.Report.{Report}
 use Rattle.farm_load.specs.Turns.{Recorded}
-use Rattle.booking_recorder.proofs.Journaled.{journals_none}
+use Rattle.line_answers.specs.booking_recorder.proofs.Journaled.{journals_none}
 use Rattle.farm_load.specs.Loads.{load_report, round_after}
 use Rattle.farm_load.proofs.LegalLemmas.{report_formed}
 use Rattle.farm_load.proofs.TurnLemmas.{not_reported}

@@ -5,7 +5,7 @@ use Rattle.farm_lines.specs.Asked.{heard_entry}
 use Rattle.farm_lines.specs.declared.limits.TheConstants.{LAUNCHES_EACH}
 use Rattle.farm_load.specs.Loads.{failed_in}
 use Rattle.farm_load.proofs.TurnLemmas.{has_reported}
-use Rattle.booking_recorder.specs.Going.{GoesOn}
+use Rattle.line_answers.specs.booking_recorder.specs.Going.{GoesOn}
 use Rattle.farm_load.specs.Turns.{Recorded}
 use Rattle.farm_load.proofs.turns.take_counted.Goals as goal
 

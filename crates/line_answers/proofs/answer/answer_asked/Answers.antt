@@ -1,5 +1,5 @@
 -- A list is only replied to.
-use Rattle.booking_recorder.specs.Going.{GoesOn}
+use Rattle.dispatcher.specs.booking_recorder.specs.Going.{GoesOn}
 use Rattle.line_answers.specs.Lines.{shown}
 use Rattle.line_answers.proofs.AnswerLemmas.{act_unbooked, answered_list, unstored_act, unstored_report}
 use Rattle.line_answers.proofs.ToldLemmas.{GoesOn-same}

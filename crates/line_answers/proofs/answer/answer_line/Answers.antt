@@ -1,5 +1,5 @@
 -- What the line asks is answered, or its fault told.
-use Rattle.booking_recorder.specs.Going.{GoesOn}
+use Rattle.dispatcher.specs.booking_recorder.specs.Going.{GoesOn}
 use Rattle.line_answers.specs.Lines.{shown}
 use Rattle.line_answers.proofs.AnswerLemmas.{asked_line, unasked_line, unstored_asked}
 use Rattle.line_answers.proofs.ToldLemmas.{GoesOn-same}

@@ -1,5 +1,5 @@
 -- The line of what is replied.
-use Rattle.booking_recorder.specs.Going.{GoesOn}
+use Rattle.dispatcher.specs.booking_recorder.specs.Going.{GoesOn}
 use Rattle.line_answers.specs.Lines.{shown}
 use Rattle.line_answers.proofs.ReportLemmas.{told_report}
 use Rattle.line_answers.proofs.answer_report.answer_report.Goals as goal

@@ -5,8 +5,8 @@ use Rattle.farm_types.specs.Dispatch.{round_for}
 use Rattle.farm_lines.specs.Asked.{heard_entry}
 use Rattle.farm_lines.specs.declared.report.Report.{Report}
 use Rattle.farm_lines.specs.declared.reply.Reply.{Reply}
-use Rattle.booking_recorder.specs.declared.refusal.CommitRefusal.{CommitRefusal}
-use Rattle.booking_recorder.specs.Going.{GoesOn}
+use Rattle.dispatcher.specs.booking_recorder.specs.declared.refusal.CommitRefusal.{CommitRefusal}
+use Rattle.dispatcher.specs.booking_recorder.specs.Going.{GoesOn}
 use Rattle.line_answers.specs.Entering.{WasHeard, is_hindered}
 use Rattle.line_answers.specs.Launches.{told}
 use Rattle.line_answers.specs.declared.told.Told.TheVariants as variants

@@ -2,7 +2,7 @@
 use Rattle.std.proofs.Common.{refl, subst}
 use Rattle.farm_types.specs.Farm.{Farm}
 use Rattle.farm_lines.specs.Reply.{report_reply}
-use Rattle.booking_recorder.specs.Going.{GoesOn}
+use Rattle.dispatcher.specs.booking_recorder.specs.Going.{GoesOn}
 use Rattle.line_answers.specs.Launches.{told}
 use Rattle.line_answers.specs.Told.{Reports}
 use Rattle.line_answers.proofs.ReportLemmas.{round_replied, round_unreplied}

@@ -2,8 +2,8 @@
 use Rattle.std.proofs.Common.{ap, false, sym}
 use Rattle.fault_counts.specs.Counts.{incremented_if}
 use Rattle.farm_keeper.proofs.KeepingLaws.{Continues-as, Continues-same}
-use Rattle.booking_recorder.specs.Faults.{is_store_refusal}
-use Rattle.booking_recorder.proofs.Rests.{stays_same}
+use Rattle.dispatcher.specs.booking_recorder.specs.Faults.{is_store_refusal}
+use Rattle.dispatcher.specs.booking_recorder.proofs.Rests.{stays_same}
 use Rattle.line_answers.proofs.AnswerLemmas.{entry_made, no_booking}
 use Rattle.line_answers.proofs.HearLemmas.{never_held, never_store, never_told, unentered, unprepared}
 use Rattle.line_answers.proofs.hearing.hear.Goals as goal

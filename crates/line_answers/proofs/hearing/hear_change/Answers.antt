@@ -2,7 +2,7 @@
 use Rattle.std.proofs.Common.{ap, sym, ◌∙◌}
 use Rattle.fault_counts.specs.Counts.{incremented_if}
 use Rattle.farm_keeper.proofs.KeepingLaws.{Continues-as}
-use Rattle.booking_recorder.specs.Faults.{is_store_refusal}
+use Rattle.dispatcher.specs.booking_recorder.specs.Faults.{is_store_refusal}
 use Rattle.line_answers.proofs.EntryLemmas.{never_books}
 use Rattle.line_answers.proofs.HearLemmas.{alone_told, held_told, spent_told, store_told, told_at_fault, unentered, unheard, was_heard}
 use Rattle.line_answers.proofs.hearing.hear_change.Goals as goal

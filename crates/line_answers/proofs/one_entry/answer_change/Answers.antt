@@ -1,8 +1,8 @@
 -- The line was written and the change recorded, or memory ran out.
 use Rattle.std.proofs.Common.{ap, sym, inr, ◌∙◌, ◌∷◌, [], ◌++◌}
 use Rattle.fault_counts.specs.Counts.{incremented_if}
-use Rattle.booking_recorder.specs.Going.{GoesOn}
-use Rattle.booking_recorder.proofs.Rests.{stays_same}
+use Rattle.dispatcher.specs.booking_recorder.specs.Going.{GoesOn}
+use Rattle.dispatcher.specs.booking_recorder.proofs.Rests.{stays_same}
 use Rattle.farm_lines.specs.Reply.{ok_reply, reply_text}
 use Rattle.farm_lines.specs.Transcript.{entry_answer}
 use Rattle.farm_types.specs.Step.{refusal_of}

@@ -1,8 +1,8 @@
 -- The change was prepared and its entry answered, or no change was prepared.
 use Rattle.std.proofs.Common.{ap, sym, inr}
 use Rattle.fault_counts.specs.Counts.{incremented_if}
-use Rattle.booking_recorder.specs.Going.{GoesOn}
-use Rattle.booking_recorder.proofs.Rests.{stays_same}
+use Rattle.dispatcher.specs.booking_recorder.specs.Going.{GoesOn}
+use Rattle.dispatcher.specs.booking_recorder.proofs.Rests.{stays_same}
 use Rattle.line_answers.specs.Lines.{shown}
 use Rattle.line_answers.proofs.AnswerLemmas.{no_booking, unprepared_entry}
 use Rattle.line_answers.proofs.ToldLemmas.{GoesOn-same}

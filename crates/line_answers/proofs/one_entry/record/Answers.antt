@@ -2,8 +2,8 @@
 use Rattle.std.proofs.Common.{IfOk, Result, ap, inl, sym, subst, ◌∙◌, ◌∷◌, []}
 use Rattle.std.specs.Prelude.{IfErr}
 use Rattle.fault_counts.specs.Counts.{incremented_if}
-use Rattle.farm_core.specs.Change.{after_change}
-use Rattle.booking_recorder.specs.Going.{GoesOn}
+use Rattle.dispatcher.specs.farm_core.specs.Change.{after_change}
+use Rattle.dispatcher.specs.booking_recorder.specs.Going.{GoesOn}
 use Rattle.line_answers.specs.declared.hindered.Hindered.{Hindered}
 use Rattle.line_answers.specs.declared.reply_line.ReplyLine.{ReplyLine}
 use Rattle.line_answers.specs.Entering.{EntersAnswer, IsHindered, is_store_answer}

@@ -4,13 +4,13 @@ use Rattle.cue_io.specs.Reader.{Whole, Long, given_by}
 use Rattle.farm_lines.specs.declared.reply.Reply.TheVariants as reply
 use Rattle.farm_lines.specs.Reply.{reply_text}
 use Rattle.farm_keeper.proofs.KeepingLaws.{Continues-same}
-use Rattle.recorder.specs.Recording.{HasRecorded}
-use Rattle.booking_recorder.specs.Going.{GoesOn}
-use Rattle.booking_recorder.proofs.Journaled.{journals_none}
-use Rattle.recorder.proofs.Told.{tells_still}
+use Rattle.farm_load.specs.recorder.specs.Recording.{HasRecorded}
+use Rattle.farm_load.specs.booking_recorder.specs.Going.{GoesOn}
+use Rattle.farm_load.specs.booking_recorder.proofs.Journaled.{journals_none}
+use Rattle.farm_load.specs.recorder.proofs.Told.{tells_still}
 use Rattle.farm_types.specs.Farm.{Farm}
-use Rattle.line_answers.specs.LineAnswers.{Going}
-use Rattle.line_answers.specs.Lines.{shown}
+use Rattle.farm_load.specs.line_answers.specs.LineAnswers.{Going}
+use Rattle.farm_load.specs.line_answers.specs.Lines.{shown}
 use Rattle.session.specs.Sessions.{WentOn}
 use Rattle.session.proofs.ExchangeLemmas.{step_answered, line_fits, answers_long, answers_whole}
 use Rattle.session.proofs.exchange.exchange.Goals as goal

@@ -2,7 +2,7 @@
 use Rattle.std.proofs.Common.{Bool, subst}
 use Rattle.farm_keeper.specs.Memory.{Commits}
 use Rattle.farm_lines.specs.Transcript.{Plain, answer_at, answer_to}
-use Rattle.recorder.specs.Telling.{Tells}
+use Rattle.farm_load.specs.recorder.specs.Telling.{Tells}
 use Rattle.session.proofs.MemoryLemmas.{just_failed}
 use Rattle.session.proofs.laws.store_marks_stand_at_failed_calls.Goals as goal
 

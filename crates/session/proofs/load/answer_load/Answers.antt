@@ -2,7 +2,7 @@
 use Rattle.std.proofs.Common.{ℕ, sym, ap, subst}
 use Rattle.farm_types.specs.Farm.{Farm}
 use Rattle.farm_types.specs.Kept.{IsKeptFarm}
-use Rattle.booking_recorder.specs.Going.{Journals}
+use Rattle.farm_load.specs.booking_recorder.specs.Going.{Journals}
 use Rattle.booking_rule.specs.declared.view.View.{View}
 use Rattle.session.specs.Loads.{AnswersLoad}
 use Rattle.session.specs.Opening.{HoldsFarm}

@@ -1,8 +1,8 @@
 use Rattle.std.proofs.Common.{false, ◌≡◌, ◌∙◌, ◌+◌, List, ◌∷◌, [], drop, take, ap, sym, subst, arith}
 use Rattle.std.proofs.lemmas.List.{drop_all, drop_more, take_all}
 use Rattle.std.proofs.lemmas.List.Elements.{All-get_or}
-use Rattle.booking_recorder.specs.Going.{Journals}
-use Rattle.booking_recorder.proofs.Journaled.{journals_none}
+use Rattle.farm_load.specs.booking_recorder.specs.Going.{Journals}
+use Rattle.farm_load.specs.booking_recorder.proofs.Journaled.{journals_none}
 use Rattle.farm_types.specs.declared.entry.Entry.{Entry}
 use Rattle.farm_keeper.proofs.KeepingLaws.{Continues-same, Continues-then}
 use Rattle.session.specs.Opening.{IsUnbooked}

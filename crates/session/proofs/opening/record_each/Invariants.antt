@@ -1,6 +1,6 @@
 -- The entries that are left go on from the farm at hand, the keeper has only gone on from the one at entry, and the journal has those before.
 use Rattle.std.proofs.Common.{false, drop, take}
-use Rattle.booking_recorder.specs.Going.{Journals}
+use Rattle.farm_load.specs.booking_recorder.specs.Going.{Journals}
 use Rattle.farm_keeper.specs.Keeping.{Continues}
 use Rattle.session.proofs.OpenedRun.{IsUnderWay}
 use Rattle.session.proofs.opening.record_each.Given as goal

@@ -1,6 +1,6 @@
 use Rattle.std.proofs.Common.{◌<◌, ◌+◌, ◌^◌, ◌∙◌, length, sym, subst}
 use Rattle.std.specs.Prelude.{IfOk}
-use Rattle.booking_recorder.specs.Going.{Journals}
+use Rattle.farm_load.specs.booking_recorder.specs.Going.{Journals}
 use Rattle.session.specs.declared.words.Form.{Form}
 use Rattle.session.specs.Opening.{GoesThrough}
 use Rattle.session.specs.Words.{Demo, Load, opening_entries, word_form}

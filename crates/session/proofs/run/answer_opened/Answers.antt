@@ -4,7 +4,7 @@ use Rattle.farm_types.specs.Farm.{Farm}
 use Rattle.session.specs.declared.words.Form.{Form}
 use Rattle.session.specs.Opening.{HoldsFarm}
 use Rattle.farm_types.specs.declared.entry.Entry.{Entry}
-use Rattle.booking_recorder.specs.Going.{Journals}
+use Rattle.farm_load.specs.booking_recorder.specs.Going.{Journals}
 use Rattle.booking_table.specs.Seats.{view}
 use Rattle.session.specs.Sessions.{AnswersForm, RecordsOver, Streams, streams}
 use Rattle.session.specs.Words.{word_form}

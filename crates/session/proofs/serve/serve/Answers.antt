@@ -9,7 +9,7 @@ use Rattle.cue_io.specs.Reader.{Held, lines_left}
 use Rattle.cue_io.specs.declared.limits.TheConstants.{BYTE_LIMIT}
 use Rattle.cue_io.specs.Readings.{Tells-none}
 use Rattle.farm_lines.specs.Transcript.{Exchange}
-use Rattle.booking_recorder.proofs.Journaled.{journals_none}
+use Rattle.farm_load.specs.booking_recorder.proofs.Journaled.{journals_none}
 use Rattle.session.specs.Sessions.{Call, RecordsOver, Streams, WentOn, streams}
 use Rattle.session.proofs.ExchangeLemmas.{line_taken}
 use Rattle.session.proofs.KeeperLemmas.{records_more, records_still}
