@@ -1,10 +1,10 @@
 //! A text in the first bytes of a vector, which is written on where it ends. Each call gives where it ends then; at an error the text is as before.
 //! A member's name is put in place, so that a literal's bytes are known there.
 
-ghost use Rattle.std.specs.Prelude.{◌≡◌, ◌+◌, ◌≤◌, ◌++◌, ◌∷◌, [], cond, decimal, length, take, IfOk, OnErr, OnOk};
+ghost use Rattle.std.specs.Prelude.{◌≡◌, ◌+◌, ◌≤◌, ◌++◌, ◌∷◌, [], cond, decimal, length, take, true, IfOk, OnErr, OnOk};
 ghost use Rattle.std.specs.Fmt.{signed_decimal};
 ghost use Rattle.json.specs.Print.{quoted};
-ghost use Rattle.object_writer.specs.Written.{HasWritten, KeepsText};
+ghost use Rattle.object_writer.specs.Written.{HasWritten, KeepsText, is_plain};
 
 use crate::put::{
     escaped, is_plain, put, put_comma, put_decimal, put_name, put_quoted, put_signed, put_text,
@@ -108,6 +108,24 @@ pub(crate) fn write_text(
     if !is_plain(value.as_bytes()) {
         return write_escaped(room, len, comma, name, value);
     }
+    write_plain_text(room, len, comma, name, value)
+}
+
+/// The same of a value whose bytes stand for themselves, as those of a word do.
+#[inline(always)]
+pub(crate) fn write_word(
+    room: &mut Vec<u8>,
+    len: usize,
+    comma: bool,
+    name: &str,
+    value: &str,
+) -> Result<usize, AllocError>
+    requires len { len ≤ length room.old.items }
+    requires plain { is_plain value.now ≡ true }
+    ensures kept { OnErr result (KeepsText room.old.items room.new.items len) }
+    ensures wrote { IfOk result (HasWritten room.old.items room.new.items len
+        (cond comma (44 ∷ []) [] ++ 34 ∷ (name.now ++ 34 ∷ 58 ∷ quoted value.now))) }
+{
     write_plain_text(room, len, comma, name, value)
 }
 

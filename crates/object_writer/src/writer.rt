@@ -8,7 +8,9 @@ ghost use Rattle.object_writer.specs.Tokens.{added};
 ghost use Rattle.object_writer.specs.Written.{is_plain};
 
 use crate::put::truth_word;
-use crate::text::{write_bare, write_member, write_number, write_quoted, write_signed, write_text};
+use crate::text::{
+    write_bare, write_member, write_number, write_quoted, write_signed, write_text, write_word,
+};
 use farm_types::{AllocNo, Cores, HostNo, Items, JobNo, Kb, ShowNo, Slot, Text, Version};
 use std::alloc::{AllocError, Global};
 use std::marker::Model;
@@ -256,6 +258,18 @@ impl ObjectWriter {
         ensures { OnOk result (self.new ≡ added self.old (key name.now ∷ string value.now ∷ [])) }
     {
         self.len = write_text(&mut self.room, self.len, self.after_value, name, value)?;
+        self.after_value = true;
+        Ok(())
+    }
+
+    /// A member that is a text whose bytes stand for themselves. They aren't looked through.
+    #[inline(always)]
+    pub fn word(&mut self, name: &str, value: &str) -> Result<(), AllocError>
+        requires name { is_plain name.now ≡ true }
+        requires value { is_plain value.now ≡ true }
+        ensures { OnOk result (self.new ≡ added self.old (key name.now ∷ string value.now ∷ [])) }
+    {
+        self.len = write_word(&mut self.room, self.len, self.after_value, name, value)?;
         self.after_value = true;
         Ok(())
     }

@@ -3,6 +3,7 @@ pub mod FieldsRead
 pub mod FramesRead
 pub mod Numbers
 pub mod Objects
+pub mod PlainWords
 pub mod Prepended
 pub mod Printed
 pub mod ReadBack

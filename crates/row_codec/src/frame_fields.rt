@@ -1,11 +1,13 @@
 //! The fields of frame slots.
 
-ghost use Rattle.std.specs.Prelude.{◌≡◌, OnOk};
+ghost use Rattle.std.specs.Prelude.{◌≡◌, true, OnOk};
 ghost use Rattle.cue_json.specs.View.{members_view};
 ghost use Rattle.cue_json.specs.Fields.{Gives};
 ghost use Rattle.row_codec.specs.RowFields.{fields_in_state, frame_fields, free_fields, resting_fields, running_fields};
 ghost use Rattle.row_codec.specs.RowReading.{frame_at, resting_of, running_at, state_at, stored_at, stored_if, without_attempt};
 ghost use Rattle.object_writer.specs.Tokens.{added, object_tokens};
+ghost use Rattle.object_writer.specs.Written.{is_plain};
+ghost use Rattle.state_names.specs.Words.{state_word};
 
 use crate::members::write_signed;
 use crate::read_fields::{read_i32, read_u16, read_u32, read_u64};
@@ -32,7 +34,7 @@ fn write_free(out: &mut ObjectWriter, version: Version) -> Result<(), AllocError
     ensures { OnOk result (out.new ≡ added out.old (object_tokens (free_fields version))) }
 {
     out.begin_object()?;
-    out.text("state", "FREE")?;
+    out.word("state", "FREE")?;
     out.version("version", version)?;
     out.end_object()
 }
@@ -67,9 +69,18 @@ fn write_resting(
     out.number("layer", frame.layer)?;
     write_signed(out, "number", frame.number)?;
     out.number("retries", frame.retries)?;
-    out.text("state", state_word(frame.state.state()))?;
+    out.word("state", plain_state(frame.state.state()))?;
     out.version("version", version)?;
     out.end_object()
+}
+
+// The word of a state. Its bytes stand for themselves.
+#[inline(always)]
+fn plain_state(state: FrameState) -> &'static str
+    ensures word { result.now ≡ state_word state }
+    ensures plain { is_plain result.now ≡ true }
+{
+    state_word(state)
 }
 
 // A running frame, with its attempt.
@@ -92,7 +103,7 @@ fn write_running(
     write_signed(out, "number", frame.number)?;
     out.number("retries", frame.retries)?;
     out.whole("since", since)?;
-    out.text("state", "RUNNING")?;
+    out.word("state", "RUNNING")?;
     out.version("version", version)?;
     out.end_object()
 }
