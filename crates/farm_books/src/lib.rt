@@ -6,6 +6,7 @@ mod booking;
 mod books;
 mod check;
 mod clearing;
+mod copy;
 mod depending;
 mod finish;
 mod install;

@@ -48,6 +48,15 @@ impl Shows {
         })
     }
 
+    // An equal book, with the memory of all.
+    pub(crate) fn copy(&self, alloc: Global) -> Result<Shows, AllocError>
+        ensures { IfOk result (λ b. b ≡ self.now) }
+    {
+        Ok(Shows {
+            rows: copy_rows(alloc, self.rows.as_slice())?,
+        })
+    }
+
     // The shows, each at its number.
     pub(crate) fn rows(&self) -> &[ShowRow]
         ensures value { result.now ≡ self.now }
@@ -116,4 +125,16 @@ fn with_room(rows: Vec<ShowRow>) -> Result<Vec<ShowRow>, AllocError>
     let mut rows = rows;
     rows.reserve((MOST_SHOWS as usize).saturating_sub(rows.len()))?;
     Ok(rows)
+}
+
+// Equal shows, with the capacity for all.
+fn copy_rows(alloc: Global, rows: &[ShowRow]) -> Result<Vec<ShowRow>, AllocError>
+    ensures items { IfOk result (λ copies. copies.items ≡ rows.now) }
+    ensures capacity { IfOk result (λ copies. MOST_SHOWS ≤ vec_capacity copies) }
+{
+    let mut copies = Vec::with_capacity(alloc, MOST_SHOWS as usize)?;
+    for row in rows {
+        copies.push(row.copy(alloc)?)?;
+    }
+    Ok(copies)
 }

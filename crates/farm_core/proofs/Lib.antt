@@ -3,6 +3,7 @@ pub mod Applying
 pub mod BookedRows
 pub mod HeadAfter
 pub mod Kept
+pub mod Listed
 pub mod MarksTold
 pub mod NamedRows
 pub mod Numbers

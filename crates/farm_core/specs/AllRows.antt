@@ -39,3 +39,23 @@ marks_told watches (n ∷ ns) = map row.Met (marks_there watches n) ++ marks_tol
 -- the rows of all depends, and their marks
 abbrev pub depend_rows : DependLists → List FarmRow
 depend_rows b = map row.Depend b.rows ++ map row.Met (marks_of b.graph.depends)
+
+-- ---- rows by kind
+
+-- the depends among rows
+abbrev pub depend_listed : FarmRow → List DependRow
+depend_listed (row.Depend d) = d ∷ []
+depend_listed other = []
+
+abbrev pub depends_listed : List FarmRow → List DependRow
+depends_listed [] = []
+depends_listed (r ∷ rs) = depend_listed r ++ depends_listed rs
+
+-- the marks among rows
+abbrev pub mark_listed : FarmRow → List MetRow
+mark_listed (row.Met m) = m ∷ []
+mark_listed other = []
+
+abbrev pub marks_listed : List FarmRow → List MetRow
+marks_listed [] = []
+marks_listed (r ∷ rs) = mark_listed r ++ marks_listed rs

@@ -4,6 +4,7 @@
 mod booking;
 mod change;
 mod changes;
+mod copy;
 mod farm;
 mod following;
 mod old_rows;

@@ -33,8 +33,12 @@ impl Farm {
     }
 }
 
-// The rows of depends go behind the others, and behind them those of their marks.
-fn push_depends(alloc: Global, books: &Books, rows: &mut Vec<FarmRow>) -> Result<(), AllocError>
+/// The rows of depends go behind the others, and behind them those of their marks.
+pub(crate) fn push_depends(
+    alloc: Global,
+    books: &Books,
+    rows: &mut Vec<FarmRow>,
+) -> Result<(), AllocError>
     requires { IsWhole books.now }
     ensures { OnOk result (rows.new.items ≡ rows.old.items ++ depend_rows (depends_of books.now)) }
 {
