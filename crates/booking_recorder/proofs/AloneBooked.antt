@@ -1,5 +1,5 @@
 -- What became of a booking by the recorder alone.
-use Rattle.std.proofs.Common.{◌≡◌, ℕ, ◌+◌, ◌<◌, ◌^◌, ◌==◌, ◌&&◌, not, Bool, true, false, if◌then◌else◌, [], ◌∷◌, ◌++◌, length, length-append, Result, Ok, Err, sym, refl, ap, ◌∙◌, subst}
+use Rattle.std.proofs.Common.{◌≡◌, ℕ, ◌+◌, ◌<◌, ◌^◌, ◌==◌, ◌&&◌, not, Bool, true, false, if◌then◌else◌, [], ◌∷◌, ◌++◌, length, Result, Ok, Err, sym, refl, ap, ◌∙◌, subst}
 use Rattle.std.proofs.lemmas.Bool.{false≢true}
 use Rattle.atomic_table.specs.Seated.{TableId}
 use Rattle.atomic_table.specs.declared.shared.Seat.{Seat}
@@ -24,9 +24,10 @@ use Rattle.booking_recorder.specs.Alone.{BooksAlone, EntersAlone, EntersBook, En
 use Rattle.booking_recorder.specs.Claims.{BooksAhead, CanStill, IsCause, TellsAhead}
 use Rattle.booking_recorder.specs.Faults.{is_store_stop}
 use Rattle.booking_recorder.specs.Recording.{IsHome, most_entries}
-use Rattle.booking_recorder.specs.Views.{Entered, Stays}
+use Rattle.booking_recorder.specs.Views.{Entered}
 use Rattle.booking_recorder.proofs.Confirmed.{below_most}
-use Rattle.booking_recorder.proofs.Homes.{count_after}
+use Rattle.booking_recorder.proofs.Booked.{booking_legal}
+use Rattle.booking_recorder.proofs.Homes.{home_entered, home_stays}
 use Rattle.booking_recorder.proofs.AloneViews.{farm_went, stays_rested}
 use Rattle.booking_recorder.proofs.Rests.{farm_more, prefix_then}
 
@@ -213,33 +214,20 @@ pub may_count_book : (count : ℕ) (r : BookResult) (more : Bool) → count < 2 
     → more ≡ is_booked_now r → more ≡ true → count < most_entries
 may_count_book count r more lt unspent is more_is = below_most count count lt refl (unspent (sym is ∙ more_is))
 
-module _ (t : TableId) (f g : Farm) (s s' : Seat (Unit {0}) View) (count count' split : ℕ) (e : Entry) (more : Bool) (home : IsHome t f s count split)
-    (same : IsSameSeat s s') (rests : IsAtRest (view s')) (leads : g ≡ farm_in (view s')) (counts : count' ≡ (if more then count + 1 else count)) where
-  home_entered : Entered (view s) e (view s') → more ≡ true → IsHome t g s' count' split
-  home_entered entered is = record {
-    seat = (same.0 ∙ home.seat.0, same.2);
-    rests = rests;
-    farm = leads;
-    counted = counts ∙ ap (count_after count) is ∙ ap (λ (n : ℕ). n + 1) home.counted
-        ∙ sym (ap (λ (v : View). length v.journal) entered.like ∙ length-append (view s).journal (e ∷ []));
-    split_off = home.split_off ∙ sym entered.split;
-    few = home.few;
-  }
-
-  home_stays : Stays (view s) (view s') → more ≡ false → IsHome t g s' count' split
-  home_stays stays is = record {
-    seat = (same.0 ∙ home.seat.0, same.2);
-    rests = rests;
-    farm = leads;
-    counted = counts ∙ ap (count_after count) is ∙ home.counted ∙ sym (ap (λ (v : View). length v.journal) stays.like);
-    split_off = home.split_off ∙ sym stays.split;
-    few = home.few;
-  }
-
-  pub booked_home : (r : BookResult) → EntersAlone (view s) e r (view s') → more ≡ is_booked_now r → IsHome t g s' count' split
-  booked_home (book.Booked row) enters is = home_entered enters is
-  booked_home (book.Burst why) enters is = home_stays enters is
-  booked_home (book.Limit why) enters is = home_stays enters is
-  booked_home (book.Host why) enters is = home_stays enters is
-  booked_home (book.Taken found) enters is = home_stays enters is
-  booked_home (book.Confirm why) enters is = home_stays enters is
+pub booked_home : (t : TableId) (f g : Farm) (s s' : Seat (Unit {0}) View) (count count' split slot host moment n : ℕ) (r : BookResult) (more : Bool)
+    → IsHome t f s count split → moment < 2 ^ 64 → BooksAlone f n slot host moment r g → IsSameSeat s s' → IsAtRest (view s') → g ≡ farm_in (view s')
+    → count' ≡ (if more then count + 1 else count) → EntersAlone (view s) (booking slot host moment) r (view s') → more ≡ is_booked_now r
+    → IsHome t g s' count' split
+booked_home t f g s s' count count' split slot host moment n (book.Booked row) more home within books same rests leads counts enters is =
+    home_entered t f g s s' count count' split (booking slot host moment) more home same rests leads counts enters is
+    (booking_legal f slot host moment within books.0)
+booked_home t f g s s' count count' split slot host moment n (book.Burst why) more home within books same rests leads counts enters is =
+    home_stays t f g s s' count count' split (booking slot host moment) more home same rests leads counts enters is
+booked_home t f g s s' count count' split slot host moment n (book.Limit why) more home within books same rests leads counts enters is =
+    home_stays t f g s s' count count' split (booking slot host moment) more home same rests leads counts enters is
+booked_home t f g s s' count count' split slot host moment n (book.Host why) more home within books same rests leads counts enters is =
+    home_stays t f g s s' count count' split (booking slot host moment) more home same rests leads counts enters is
+booked_home t f g s s' count count' split slot host moment n (book.Taken found) more home within books same rests leads counts enters is =
+    home_stays t f g s s' count count' split (booking slot host moment) more home same rests leads counts enters is
+booked_home t f g s s' count count' split slot host moment n (book.Confirm why) more home within books same rests leads counts enters is =
+    home_stays t f g s s' count count' split (booking slot host moment) more home same rests leads counts enters is

@@ -12,10 +12,10 @@ use Rattle.booking_rule.specs.declared.noted.Noted.{Noted}
 use Rattle.booking_rule.specs.declared.view.View.{View}
 use Rattle.booking_rule.specs.Splits.{IsNote, Settles, if_desk, informed, longer_of, look_at, note_of, numbered, settled, without_receipts}
 use Rattle.booking_table.specs.Seats.{IsSameSeat, view}
-use Rattle.recording_turns.specs.Resting.{IsAtRest}
-use Rattle.booking_recorder.specs.Passing.{CatchesUp, GivesOn, IsNumbered, IsPass, Learns}
+use Rattle.recording_turns.specs.Resting.{IsAtRest, split_in}
+use Rattle.booking_recorder.specs.Passing.{CatchesUp, GivesOn, IsBehind, IsNumbered, IsPass, Learns, Notices}
 use Rattle.booking_recorder.specs.Recording.{IsHome}
-use Rattle.booking_recorder.proofs.Rests.{farm_same, prefix_then}
+use Rattle.booking_recorder.proofs.Rests.{begins_same, farm_same, legal_same, prefix_then}
 
 -- ---- two beginnings
 
@@ -67,10 +67,15 @@ module _ (v p : View) (a b : ℕ) (rests : IsAtRest v) (other : p.desk ≡ None)
     trail_more : IsPrefix v.trail told.trail
     trail_more = (look_at 0 a ∷ [], refl)
 
+    trail_behind : IsPrefix p.desk_trail v.trail
+    trail_behind =
+        subst (λ (o : Option Desk). IsPrefix (if_desk o p.trail p.desk_trail) v.trail) other (settles.own rests.settled.desk rests.settled.first)
+
+    behind : IsBehind p v
+    behind = record { journal = begins; trail = trail_behind }
+
     trail_begins : IsPrefix p.desk_trail told.trail
-    trail_begins =
-        prefix_then p.desk_trail v.trail told.trail
-        (subst (λ (o : Option Desk). IsPrefix (if_desk o p.trail p.desk_trail) v.trail) other (settles.own rests.settled.desk rests.settled.first)) trail_more
+    trail_begins = prefix_then p.desk_trail v.trail told.trail trail_behind trail_more
 
     journal_is : caught.journal ≡ v.journal
     journal_is = ap (longer_of p.journal) journal_stays ∙ met p.journal v.journal begins
@@ -81,6 +86,9 @@ module _ (v p : View) (a b : ℕ) (rests : IsAtRest v) (other : p.desk ≡ None)
 
     receipts_told : told.receipts ≡ v.receipts
     receipts_told = ap (λ (o : Option Desk). v.receipts ++ if_desk o p.receipts []) other ∙ append-nil v.receipts
+
+    notices : Notices v told
+    notices = record { like = λ i. record told { journal = journal_stays i; receipts = receipts_told i }; trail = trail_more }
 
     receipts_is : caught.receipts ≡ p.receipts ++ v.receipts
     receipts_is =
@@ -103,7 +111,17 @@ module _ (v p : View) (a b : ℕ) (rests : IsAtRest v) (other : p.desk ≡ None)
     gives = record { like = λ i. record given { journal = journal_stays i; receipts = gave i }; trail = trail_more }
 
     catches_as : CatchesUp v p given caught
-    catches_as = record { journal = journal_is; trail = trail_is; receipts = receipts_is; learns = learns; gives = gives }
+    catches_as =
+        record {
+          journal = journal_is;
+          trail = trail_is;
+          receipts = receipts_is;
+          learns = learns;
+          gives = gives;
+          behind = behind;
+          found = b;
+          look = refl;
+        }
 
 catches : (v p w1 w q1 q : View) (a b : ℕ) → IsAtRest v → IsNumbered p → w1 ≡ settled (informed v (note_of p)) a → Settles (informed v (note_of p)) w1
     → w ≡ without_receipts w1 → q1 ≡ without_receipts p → q ≡ settled (informed q1 (note_of w1)) b → CatchesUp v p w q
@@ -122,49 +140,79 @@ catches_by v p n1 w1 w n2 q1 q rests passing noted learned settles left second h
     let last_so : q ≡ settled (informed q1 (note_of w1)) last.0 = last.1 ∙ ap (λ (n : View). settled (informed q1 n) last.0) second in
     catches v p w1 w q1 q learned.0 last.0 rests passing learned_so (subst (λ (n : View). Settles (informed v n) w1) noted settles) left held last_so
 
+-- the recorder's seat takes the note of a pass in
+pub sees_by : (v p n w : View) → IsAtRest v → IsNumbered p → n ≡ note_of p → (a : ℕ) × (w ≡ settled (informed v n) a) → Settles (informed v n) w
+    → IsBehind p v × Notices v w
+sees_by v p n w rests passing noted learned settles =
+    let is : w ≡ told v p learned.0 0 rests passing.other = learned.1 ∙ ap (λ (x : View). settled (informed v x) learned.0) noted in
+    let so : Settles (informed v (note_of p)) (told v p learned.0 0 rests passing.other) =
+    subst (Settles (informed v (note_of p))) is (subst (λ (x : View). Settles (informed v x) w) noted settles) in
+    (behind v p learned.0 0 rests passing.other so, subst (Notices v) (sym is) (notices v p learned.0 0 rests passing.other so))
+
+-- a note of a pass leaves it as it is
+pub noted_same : (p q : View) → IsNumbered p → q ≡ without_receipts p → q ≡ p
+noted_same p q passing kept = kept ∙ λ i. record p { receipts = if_desk (passing.other i) [] p.receipts }
+
 -- a note may be taken in
 pub note_is : (v n : View) → n ≡ note_of v → IsNote n
 note_is v n is = subst IsNote (sym is) (refl, refl, refl, refl)
 
 -- ---- what they are then
 
+rests_in_full : (v : View) → IsAtRest v → (news : List Entry) (trail desk_trail told_trail : List Noted) (receipts : List ℕ)
+    → IsAtRest (record v { told = news; trail = trail; desk_trail = desk_trail; told_trail = told_trail; receipts = receipts })
+rests_in_full v rests news trail desk_trail told_trail receipts =
+    record {
+      settled = record {
+        desk = rests.settled.desk;
+        first = rests.settled.first;
+        log = rests.settled.log;
+        placed = rests.settled.placed;
+        pending = rests.settled.pending;
+        done = rests.settled.done;
+      };
+      free = record {
+        takes = rests.free.takes;
+        limits = rests.free.limits;
+        rooms = rests.free.rooms;
+        claims = rests.free.claims;
+        burst = rests.free.burst;
+        place = rests.free.place;
+      };
+    }
+
 pub rests_still : (v w : View) → IsAtRest v → GivesOn v w → IsAtRest w
-rests_still v w rests gives = subst IsAtRest (sym gives.like) (in_full v rests w.told w.trail w.desk_trail w.told_trail)
-  where
-    in_full : (v : View) → IsAtRest v → (news : List Entry) (trail desk_trail told_trail : List Noted)
-        → IsAtRest (record v { told = news; trail = trail; desk_trail = desk_trail; told_trail = told_trail; receipts = [] })
-    in_full v rests news trail desk_trail told_trail =
-        record {
-          settled = record {
-            desk = rests.settled.desk;
-            first = rests.settled.first;
-            log = rests.settled.log;
-            placed = rests.settled.placed;
-            pending = rests.settled.pending;
-            done = rests.settled.done;
-          };
-          free = record {
-            takes = rests.free.takes;
-            limits = rests.free.limits;
-            rooms = rests.free.rooms;
-            claims = rests.free.claims;
-            burst = rests.free.burst;
-            place = rests.free.place;
-          };
-        }
+rests_still v w rests gives = subst IsAtRest (sym gives.like) (rests_in_full v rests w.told w.trail w.desk_trail w.told_trail [])
+
+rests_noticed : (v w : View) → IsAtRest v → Notices v w → IsAtRest w
+rests_noticed v w rests notices = subst IsAtRest (sym notices.like) (rests_in_full v rests w.told w.trail w.desk_trail w.told_trail v.receipts)
+
+-- the seat still rests, with the same desk, and starts from the same farm with the same entries
+home_same : (t : TableId) (f : Farm) (s s' : Seat (Unit {0}) View) (count split : ℕ) → IsHome t f s count split → IsSameSeat s s' → IsAtRest (view s')
+    → (view s').opening ≡ (view s).opening → (view s').journal ≡ (view s).journal → (view s').desk ≡ (view s).desk → IsHome t f s' count split
+home_same t f s s' count split home same rests opening journal desk =
+    record {
+      seat = (same.0 ∙ home.seat.0, same.2);
+      rests = rests;
+      farm = home.farm ∙ sym (farm_same (view s) (view s') opening journal);
+      begins = begins_same (view s) (view s') opening home.begins;
+      legal = legal_same (view s) (view s') opening journal home.legal;
+      counted = home.counted ∙ sym (ap (λ (l : List Entry). length l) journal);
+      split_off = home.split_off ∙ sym (ap split_in desk);
+      few = home.few;
+    }
 
 pub home_still : (t : TableId) (f : Farm) (s s' : Seat (Unit {0}) View) (count split : ℕ) → IsHome t f s count split → IsSameSeat s s' → GivesOn (view s) (view s')
     → IsHome t f s' count split
 home_still t f s s' count split home same gives =
-    let journal : (view s').journal ≡ (view s).journal = ap (λ (x : View). x.journal) gives.like in
-    record {
-      seat = (same.0 ∙ home.seat.0, same.2);
-      rests = rests_still (view s) (view s') home.rests gives;
-      farm = home.farm ∙ sym (farm_same (view s) (view s') (ap (λ (x : View). x.opening) gives.like) journal);
-      counted = home.counted ∙ sym (ap (λ (l : List Entry). length l) journal);
-      split_off = home.split_off ∙ sym (ap (λ (x : View). Rattle.recording_turns.specs.Resting.split_in x.desk) gives.like);
-      few = home.few;
-    }
+    home_same t f s s' count split home same (rests_still (view s) (view s') home.rests gives) (ap (λ (x : View). x.opening) gives.like)
+    (ap (λ (x : View). x.journal) gives.like) (ap (λ (x : View). x.desk) gives.like)
+
+pub home_noticed : (t : TableId) (f : Farm) (s s' : Seat (Unit {0}) View) (count split : ℕ) → IsHome t f s count split → IsSameSeat s s'
+    → Notices (view s) (view s') → IsHome t f s' count split
+home_noticed t f s s' count split home same notices =
+    home_same t f s s' count split home same (rests_noticed (view s) (view s') home.rests notices) (ap (λ (x : View). x.opening) notices.like)
+    (ap (λ (x : View). x.journal) notices.like) (ap (λ (x : View). x.desk) notices.like)
 
 numbered_still : (v w : View) → Learns v w → IsNumbered v → IsNumbered w
 numbered_still v w learns numbered =

@@ -6,11 +6,14 @@ use Rattle.atomic_table.specs.Seated.{TableId}
 use Rattle.atomic_table.specs.declared.shared.Seat.{Seat}
 use Rattle.farm_types.specs.declared.entry.Entry.{Entry}
 use Rattle.farm_types.specs.Farm.{Farm}
-use Rattle.farm_types.specs.Run.{run_of}
+use Rattle.farm_types.specs.Kept.{IsKeptFarm}
+use Rattle.farm_types.specs.Run.{IsLegal, IsLegalStep, run_of}
 use Rattle.farm_types.specs.Step.{after}
+use Rattle.farm_law.proofs.LegalRuns.{legal_append}
 use Rattle.booking_rule.specs.declared.desk.Desk.{Desk}
 use Rattle.booking_rule.specs.declared.view.View.{View}
 use Rattle.booking_rule.specs.Link.{farm_of}
+use Rattle.booking_rule.specs.declared.opening.Opening.{Opening}
 use Rattle.booking_rule.specs.Kept.{farm_in}
 use Rattle.booking_rule.specs.Splits.{MaySplit, desk_split, one_more, one_split}
 use Rattle.booking_table.specs.Seats.{IsSameSeat, view}
@@ -41,6 +44,23 @@ farm_stays v w s = farm_same v w (ap (λ (x : View). x.opening) s.like) (ap (λ 
 
 pub farm_entered : (v w : View) (e : Entry) → Entered v e w → farm_in w ≡ after (farm_in v) e
 farm_entered v w e s = farm_more v w e (ap (λ (x : View). x.opening) s.like) (ap (λ (x : View). x.journal) s.like)
+
+-- ---- journals that are legal runs, from a farm that keeps what every farm does
+
+-- from the same farm, with the same entries
+pub begins_same : (v w : View) → w.opening ≡ v.opening → IsKeptFarm (farm_of v.opening) → IsKeptFarm (farm_of w.opening)
+begins_same v w opening begins = subst (λ (o : Opening). IsKeptFarm (farm_of o)) (sym opening) begins
+
+pub legal_same : (v w : View) → w.opening ≡ v.opening → w.journal ≡ v.journal → IsLegal (farm_of v.opening) v.journal → IsLegal (farm_of w.opening) w.journal
+legal_same v w opening journal legal =
+    subst (λ (x : Opening × List Entry). IsLegal (farm_of x.0) x.1) (λ i. (sym opening i, sym journal i)) legal
+
+-- one legal entry more
+pub legal_more : (v w : View) (e : Entry) → w.opening ≡ v.opening → w.journal ≡ v.journal ++ e ∷ [] → IsLegal (farm_of v.opening) v.journal
+    → IsLegalStep (farm_in v) e → IsLegal (farm_of w.opening) w.journal
+legal_more v w e opening journal legal step =
+    subst (λ (x : Opening × List Entry). IsLegal (farm_of x.0) x.1) (λ i. (sym opening i, sym journal i))
+    (legal_append (farm_of v.opening) v.journal (e ∷ []) legal (step, tt))
 
 -- ---- nothing happened
 
@@ -110,6 +130,8 @@ split_home t f s s' count split home same is few = record {
   seat = (same.0 ∙ home.seat.0, same.2);
   rests = subst IsAtRest (sym is) (rests_split (view s) home.rests);
   farm = home.farm ∙ sym (ap farm_in is);
+  begins = begins_same (view s) (view s') (ap (λ (v : View). v.opening) is) home.begins;
+  legal = legal_same (view s) (view s') (ap (λ (v : View). v.opening) is) (ap (λ (v : View). v.journal) is) home.legal;
   counted = home.counted ∙ sym (ap (λ (v : View). length v.journal) is);
   split_off = count_split (view s) split home.rests home.split_off ∙ sym (ap (λ (v : View). split_in v.desk) is);
   few = omega (arith, few);

@@ -1,9 +1,10 @@
 -- Passes: seats with a number, and what they learn.
-use Rattle.std.specs.Prelude.{◌≡◌, ℕ, ◌+◌, ◌++◌, [], min, length, None, Some}
+use Rattle.std.specs.Prelude.{◌≡◌, ℕ, ◌+◌, ◌++◌, ◌∷◌, [], min, length, None, Some}
 use mathlib.Core.List.{IsPrefix}
 use Rattle.atomic_table.specs.Seated.{TableId}
 use Rattle.atomic_table.specs.declared.shared.Seat.{Seat}
 use Rattle.booking_rule.specs.declared.view.View.{View}
+use Rattle.booking_rule.specs.Splits.{look_at}
 use Rattle.booking_table.specs.Seats.{view, IsSeatOf}
 use Rattle.booking_recorder.specs.Recording.{Recording, most_entries}
 
@@ -36,7 +37,12 @@ pub record Learns (v w : View) : Type 0 where
   pub trail : IsPrefix v.trail w.trail
   pub desk_trail : IsPrefix v.desk_trail w.desk_trail
 
--- the recorder's seat gave its receipts away; of what it knows only trails are others, and its own grew
+-- of what the recorder's seat knows only trails are others, and its own grew
+pub record Notices (v w : View) : Type 0 where
+  pub like : w ≡ record v { told = w.told; trail = w.trail; desk_trail = w.desk_trail; told_trail = w.told_trail }
+  pub trail : IsPrefix v.trail w.trail
+
+-- .. and it gave its receipts away
 pub record GivesOn (v w : View) : Type 0 where
   pub like : w ≡ record v { told = w.told; trail = w.trail; desk_trail = w.desk_trail; told_trail = w.told_trail; receipts = [] }
   pub trail : IsPrefix v.trail w.trail
@@ -48,14 +54,25 @@ pub record HandsOver {K : Type 0} (before now : Recording K) : Type 0 where
   pub gives : GivesOn before.view now.view
   pub faults : now.faults ≡ 0
 
+-- ---- a pass beside the recorder
+
+-- what a pass has seen, of the journal and of the recorder's trail, are beginnings of what the recorder has
+pub record IsBehind (p v : View) : Type 0 where
+  pub journal : IsPrefix p.journal v.journal
+  pub trail : IsPrefix p.desk_trail v.trail
+
 -- two counts together; they stay at the last number
 abbrev pub counted_up : ℕ → ℕ → ℕ
 counted_up n more = min (n + more) most_entries
 
--- the recorder's seat and the pass's, before and after: the pass has then seen all that the recorder has, and has its receipts
+-- the recorder's seat and the pass's, before and after: the pass has then seen all that the recorder has, and has its receipts.
+-- Before, what it had seen was a beginning of that. Its own trail has one look at the journal's word more.
 pub record CatchesUp (v p w q : View) : Type 0 where
   pub journal : q.journal ≡ v.journal
   pub trail : q.desk_trail ≡ w.trail
   pub receipts : q.receipts ≡ p.receipts ++ v.receipts
   pub learns : Learns p q
   pub gives : GivesOn v w
+  pub behind : IsBehind p v
+  pub found : ℕ
+  pub look : q.trail ≡ p.trail ++ look_at 0 found ∷ []

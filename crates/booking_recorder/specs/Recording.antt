@@ -3,8 +3,11 @@ use Rattle.std.specs.Prelude.{◌≡◌, ◌≤◌, ℕ, [], length}
 use Rattle.atomic_table.specs.Seated.{TableId}
 use Rattle.atomic_table.specs.declared.shared.Seat.{Seat}
 use Rattle.farm_types.specs.Farm.{Farm}
+use Rattle.farm_types.specs.Kept.{IsKeptFarm}
+use Rattle.farm_types.specs.Run.{IsLegal}
 use Rattle.booking_rule.specs.declared.view.View.{View}
 use Rattle.booking_rule.specs.Kept.{farm_in}
+use Rattle.booking_rule.specs.Link.{farm_of}
 use Rattle.booking_table.specs.Seats.{view, IsSeatOf}
 use Rattle.recording_turns.specs.Resting.{IsAtRest, split_in}
 
@@ -25,12 +28,14 @@ most_entries = 18446744073709551615
 abbrev pub most_seats : ℕ
 most_seats = 64
 
--- The seat is the recorder's of that table, between two entries, and its journal leads to the farm. The journal's entries, and the seats that were split
--- off, are counted.
+-- The seat is the recorder's of that table, between two entries, and its journal leads to the farm, and is a legal run from the farm with which the words
+-- began. The journal's entries, and the seats that were split off, are counted.
 pub record IsHome (t : TableId) (f : Farm) (s : Seat (Unit {0}) View) (count split : ℕ) : Type 0 where
   pub seat : IsSeatOf t s
   pub rests : IsAtRest (view s)
   pub farm : f ≡ farm_in (view s)
+  pub begins : IsKeptFarm (farm_of (view s).opening)
+  pub legal : IsLegal (farm_of (view s).opening) (view s).journal
   pub counted : count ≡ length (view s).journal
   pub split_off : split ≡ split_in (view s).desk
   pub few : split ≤ most_seats

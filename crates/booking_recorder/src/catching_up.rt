@@ -1,11 +1,11 @@
 //! What passes are told: by the recorder, and by one another.
 
-ghost use Rattle.std.specs.Prelude.{◌≡◌, ◌<◌, ◌++◌, MatchResult};
+ghost use Rattle.std.specs.Prelude.{ℕ, ◌≡◌, ◌<◌, ◌++◌, ◌∷◌, [], MatchResult};
 ghost use mathlib.Core.List.{IsPrefix};
-ghost use Rattle.booking_rule.specs.Splits.{longer_of, numbered, one_more};
+ghost use Rattle.booking_rule.specs.Splits.{longer_of, look_at, numbered, one_more};
 ghost use Rattle.booking_table.specs.Seats.{view, IsSeatOf, IsSameSeat};
 ghost use Rattle.recording_turns.specs.Resting.{IsAtRest, split_in};
-ghost use Rattle.booking_recorder.specs.Passing.{CatchesUp, HandsOver, IsNumbered, Learns, counted_up};
+ghost use Rattle.booking_recorder.specs.Passing.{CatchesUp, HandsOver, IsBehind, IsNumbered, Learns, Notices, counted_up};
 ghost use Rattle.booking_recorder.specs.Recording.{most_seats};
 
 use crate::farm_recorder::Recorder;
@@ -37,6 +37,17 @@ impl<K: Keeper, N: Naming> Recorder<K, N> {
         }
     }
 
+    /// What the pass has seen is a beginning of what the recorder has: the recorder looks, and learns nothing else.
+    pub fn notice(&mut self, table: &Table, pass: &mut Pass<N>)
+        requires table { table.now ≡ N.table }
+        ensures same { pass.new ≡ pass.old }
+        ensures behind { IsBehind pass.old.view self.old.view }
+        ensures like { self.new ≡ record self.old { view = self.new.view } }
+        ensures notices { Notices self.old.view self.new.view }
+    {
+        see(table, &mut self.seat, &mut pass.seat);
+    }
+
     /// The pass has then seen all that the recorder has, and takes the receipts and the failures of the store that no pass had taken.
     pub fn catch_up(&mut self, table: &Table, pass: &mut Pass<N>)
         requires table { table.now ≡ N.table }
@@ -45,6 +56,8 @@ impl<K: Keeper, N: Naming> Recorder<K, N> {
         ensures receipts { pass.new.view.receipts ≡ pass.old.view.receipts ++ self.old.view.receipts }
         ensures faults { pass.new.faults ≡ counted_up pass.old.faults self.old.faults }
         ensures learns { Learns pass.old.view pass.new.view }
+        ensures look { (found : ℕ) × (pass.new.view.trail ≡ pass.old.view.trail ++ look_at 0 found ∷ []) }
+        ensures behind { IsBehind pass.old.view self.old.view }
         ensures hands_over { HandsOver self.old self.new }
     {
         inform(table, &mut self.seat, &mut pass.seat);
@@ -70,6 +83,22 @@ impl<N: Naming> Pass<N> {
         table.learn(&mut into.seat, note);
         into.count = into.count.max(self.count);
     }
+}
+
+// The recorder's seat sees that what the pass has seen is a beginning of what itself did.
+fn see(table: &Table, first: &mut Seat, pass: &mut Seat)
+    requires first { IsSeatOf table.now first.old }
+    requires pass { IsSeatOf table.now pass.old }
+    requires home { IsAtRest (view first.old) }
+    requires numbered { IsNumbered (view pass.old) }
+    ensures first { IsSameSeat first.old first.new }
+    ensures pass { IsSameSeat pass.old pass.new }
+    ensures same { view pass.new ≡ view pass.old }
+    ensures behind { IsBehind (view pass.old) (view first.old) }
+    ensures notices { Notices (view first.old) (view first.new) }
+{
+    let seen = table.note(pass);
+    table.learn(first, seen);
 }
 
 // The recorder's seat sees that what the pass has seen is a beginning of what itself did, and then the pass takes all of that.

@@ -1,13 +1,13 @@
 //! The steps of a dispatcher: each is the table's, with the seat of a pass. What is asked of a seat beside, a pass always has.
 
-ghost use Rattle.std.specs.Prelude.{◌≡◌, ◌<◌, ℕ, None, MatchResult};
+ghost use Rattle.std.specs.Prelude.{◌≡◌, ◌<◌, ◌^◌, ℕ, None, MatchResult};
 ghost use Rattle.farm_types.specs.Limits.{IsBetween};
 ghost use Rattle.farm_types.specs.declared.limits.TheConstants.{LEAST_CORES, LEAST_MEMORY, MOST_CORES, MOST_MEMORY};
 ghost use Rattle.booking_core.specs.Kinds.{gave_burst};
 ghost use Rattle.booking_rule.specs.Looks.{HasLook};
 ghost use Rattle.booking_table.specs.Calls.{IsBurstFull, IsBurstTaken, IsClaimed, IsDropped, IsLimitFull, IsLimitTaken, IsRoomTaken, IsSeenFor, IsShort};
 ghost use Rattle.booking_table.specs.Calls.{IsTaken, SuitsAt, claim_by, hold_given, look_by, looked, place_given, seen_of};
-ghost use Rattle.booking_table.specs.Holds.{HasBurst, HasClaim, HasHold, IsBurst, burst_hold, hold_of, with_place, without_place};
+ghost use Rattle.booking_table.specs.Holds.{HasBurst, HasClaim, HasHold, IsBurst, IsLimit, burst_hold, hold_of, with_place, without_place};
 
 use crate::naming::Naming;
 use crate::pass::Pass;
@@ -25,6 +25,7 @@ impl<N: Naming> Pass<N> {
         ensures cores { result.phase ≡ 1 → IsBetween LEAST_CORES MOST_CORES result.cores }
         ensures memory { result.phase ≡ 1 → IsBetween LEAST_MEMORY MOST_MEMORY result.memory }
         ensures look { result.phase ≡ 1 → result.version < 16777215 → HasLook self.new.view.trail (look_by result) }
+        ensures fits { (result.phase < 16) × (result.version < 2 ^ 24) × (result.cores < 2 ^ 20) × IsLimit result.limit }
         ensures faults { self.new.faults ≡ self.old.faults }
     {
         table.look(&mut self.seat, slot)

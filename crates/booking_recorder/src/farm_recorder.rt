@@ -2,11 +2,14 @@
 
 ghost use Rattle.std.specs.Prelude.{◌≡◌, ◌==◌, ◌<◌, ◌+◌, true, false, length, MatchResult, if◌then◌else◌};
 ghost use Rattle.farm_types.specs.Formed.{IsFormed};
+ghost use Rattle.farm_types.specs.Kept.{IsKeptFarm};
+ghost use Rattle.farm_types.specs.Run.{IsLegal};
 ghost use Rattle.farm_types.specs.Step.{HasCondition, after};
 ghost use Rattle.farm_keeper.specs.Keeping.{Continues};
 ghost use Rattle.farm_core.specs.Change.{Prepares, after_change};
 ghost use Rattle.fault_counts.specs.Counts.{incremented_if};
 ghost use Rattle.booking_rule.specs.Kept.{farm_in};
+ghost use Rattle.booking_rule.specs.Link.{farm_of};
 ghost use Rattle.booking_rule.specs.Splits.{numbered, one_more};
 ghost use Rattle.booking_table.specs.Holds.{claim_of};
 ghost use Rattle.booking_table.specs.Seats.{view, IsSeatOf};
@@ -72,6 +75,7 @@ impl<K: Keeper, N: Naming> Recorder<K, N> {
         ensures faults { result.faults ≡ 0 }
     {
         let mut seat = seat;
+        farm.kept();
         place_farm(table, &mut seat, &farm);
         Recorder {
             plain: RecordedFarm::make(alloc, farm, keeper),
@@ -100,6 +104,13 @@ impl<K: Keeper, N: Naming> Recorder<K, N> {
     /// What the recorder's seat knows between two calls: nothing is left to do, it holds nothing, and its journal leads to the farm.
     pub fn rests(&self)
         ensures { IsAtRest self.now.view × (self.now.farm ≡ farm_in self.now.view) }
+    {
+        let _seat = &self.seat;
+    }
+
+    /// What its journal is: a legal run from the farm with which the words began, which keeps what every farm does.
+    pub fn legal(&self)
+        ensures { IsKeptFarm (farm_of self.now.view.opening) × IsLegal (farm_of self.now.view.opening) self.now.view.journal }
     {
         let _seat = &self.seat;
     }

@@ -1,5 +1,5 @@
 mod Booked
-mod Candidates
+pub mod Candidates
 mod Journaling
 mod Told
 mod UnderWay

@@ -4,7 +4,7 @@
 mod rounds;
 mod walked;
 
-pub use rounds::book_alone;
+pub use rounds::{book_alone, left_after};
 pub use walked::Walked;
 
 // What the crates above name through this one. They don't list it too: a build sums a crate up once for each way that leads to it.

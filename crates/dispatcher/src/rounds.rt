@@ -146,8 +146,8 @@ fn offer_due<K: Keeper, N: Naming>(
     left_after(left, &came)
 }
 
-// How many bookings are left after one was tried, or the fault that ends the round.
-fn left_after(left: u32, came: &BookResult) -> Result<u32, RecordFault>
+/// How many bookings are left after one was tried, or the fault that ends the round.
+pub fn left_after(left: u32, came: &BookResult) -> Result<u32, RecordFault>
     requires { 0 < left }
     ensures { result ≡ left_after left came.now }
 {

@@ -1,5 +1,4 @@
 use Rattle.std.proofs.Common.{rules}
-use Rattle.recorder.specs.Recording.{booking}
 use Rattle.booking_recorder.proofs.AloneBooked.{booked_home, may_count_book}
 use Rattle.booking_recorder.proofs.farm_recorder.Recorder.book.Goals as goal
 
@@ -10,6 +9,6 @@ counted-self-inside-requires g c =
 pub invariant_of-self : goal.invariant_of-self
 invariant_of-self g c =
     booked_home g.N.Naming.table c.self.inside.plain.farm c.book_in-result.new.plain.farm c.self.inside.seat c.book_in-result.new.seat c.self.inside.count
-    c.counted-self-inside.result c.self.inside.split (booking c.args.slot c.args.host c.args.moment) c.is_booked.result c.self.invariant
-    c.book_in-result.ensures.seat c.book_in-result.ensures.rests c.book_in-result.ensures.leads c.counted-self-inside.ensures c.book_in-result.result
-    c.book_in-result.ensures.journal c.is_booked.ensures
+    c.counted-self-inside.result c.self.inside.split c.args.slot c.args.host c.args.moment c.self.inside.count c.book_in-result.result c.is_booked.result
+    c.self.invariant (search rules) c.book_in-result.ensures.farm c.book_in-result.ensures.seat c.book_in-result.ensures.rests c.book_in-result.ensures.leads
+    c.counted-self-inside.ensures c.book_in-result.ensures.journal c.is_booked.ensures

@@ -13,5 +13,5 @@ pub invariant_of-self : goal.invariant_of-self
 invariant_of-self g c =
     confirmed_home g.N.Naming.table c.self.inside.plain.farm c.confirm_in-result.new.plain.farm c.self.inside.seat c.confirm_in-result.new.seat
     c.self.inside.count c.counted-self-inside.result c.self.inside.split c.args.claim c.args.moment c.confirm_in-result.result c.is_ok.result c.self.invariant
-    c.confirm_in-result.ensures.seat c.confirm_in-result.ensures.rests c.confirm_in-result.ensures.leads c.confirm_in-result.ensures.confirms
+    (search rules) c.confirm_in-result.ensures.seat c.confirm_in-result.ensures.rests c.confirm_in-result.ensures.leads c.confirm_in-result.ensures.confirms
     c.is_ok.ensures.value c.counted-self-inside.ensures
