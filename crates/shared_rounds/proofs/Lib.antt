@@ -1,0 +1,7 @@
+mod Booked
+mod Ended
+mod Held
+mod Planned
+mod Sought
+mod Tried
+mod Walked
