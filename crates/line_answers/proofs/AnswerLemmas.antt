@@ -1,5 +1,5 @@
 -- The answer to a line, by cases.
-use Rattle.std.proofs.Common.{◌≡◌, ℕ, true, false, ◌<◌, ◌≤◌, ◌^◌, cond, List, [], ◌∷◌, ◌++◌, length, refl, sym, ap, ◌∙◌, subst, Option, None, Result, Ok, Err, IfOk, inl, inr}
+use Rattle.std.proofs.Common.{◌≡◌, ℕ, Bool, true, false, ◌<◌, ◌≤◌, ◌^◌, cond, List, [], ◌∷◌, ◌++◌, length, refl, sym, ap, ◌∙◌, subst, Option, None, Result, Ok, Err, IfOk, inl, inr}
 use Rattle.std.proofs.lemmas.Bool.{le-ltb, lt-ltb, false≢true}
 use Rattle.farm_types.specs.declared.entry.Act.{Act}
 use Rattle.farm_types.specs.declared.entry.Act.TheVariants as act
@@ -63,6 +63,17 @@ retold f new text goes one other may later same stands answered = record {
   keeper =
       subst (λ (a : Answered). goes a.entries (other answered.mark).entries (is_store_mark answered.mark)) (same Plain)
       (subst (λ (a : Answered). goes (one Plain).entries a.entries (is_store_mark answered.mark)) (same answered.mark) answered.keeper);
+}
+
+-- and where a keeper that went on so went on so too
+pub went_as : (f new : Farm) (text : List ℕ) (answers : Mark → Answered) (may : Mark → Type 0) (one other : Going)
+    → ((all done : List Entry) (failed : Bool) → one all done failed → other all done failed) → IsMarkedAnswer f answers may new text one
+    → IsMarkedAnswer f answers may new text other
+went_as f new text answers may one other to answered = record {
+  mark = answered.mark;
+  answer = answered.answer;
+  may_stand = answered.may_stand;
+  keeper = to (answers Plain).entries (answers answered.mark).entries (is_store_mark answered.mark) answered.keeper;
 }
 
 -- a line is answered by what is asked
@@ -235,10 +246,10 @@ pub entry_made : (f : Farm) (e : Entry) (change : Change) → HasCondition f e.a
 entry_made f e change condition formed makes = record { legal = record { formed = formed; accepted = makes.planned.accepted; condition = condition }; makes = makes }
 
 -- what came of it, where nothing hindered it
-pub recorded_answer : (f new : Farm) (e : Entry) (change : Change) (written : List ℕ) (came : Result ReplyLine Hindered) (goes : Going) → Makes f e change
+pub recorded_answer : (f new : Farm) (e : Entry) (change : Change) (written : List ℕ) (came : Result ReplyLine Hindered) (goes : ReplyLine → Going) → Makes f e change
     → written ≡ reply_text (ok_reply e.act (answer_of f e)) ++ 10 ∷ [] → IfOk came (λ told. IsRecorded f (after_change f change) written new told)
-    → IfOk came (λ told. goes (e ∷ []) (recorded_by e told) (is_store_line told)) → IfOk came (λ told. AnswersEntry f e new (shown told) goes)
-recorded_answer f new e change written (Ok told) goes makes is recorded keeper = recorded_entry f new e change written told goes makes is recorded keeper
+    → IfOk came (λ told. goes told (e ∷ []) (recorded_by e told) (is_store_line told)) → IfOk came (λ told. AnswersEntry f e new (shown told) (goes told))
+recorded_answer f new e change written (Ok told) goes makes is recorded keeper = recorded_entry f new e change written told (goes told) makes is recorded keeper
 recorded_answer f new e change written (Err why) goes makes is recorded keeper = tt
 
 -- ---- what changes no row

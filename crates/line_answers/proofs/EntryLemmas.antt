@@ -1,7 +1,7 @@
 -- An entry that a line asks, on the words: what comes of it, and what hinders it.
 use Rattle.std.proofs.Common.{◌≡◌, ℕ, ◌==◌, ◌<◌, ◌+◌, ◌^◌, true, false, List, [], ◌∷◌, length, IfOk, inr, refl, sym, arith}
 use Rattle.std.proofs.Common.{true≢false}
-use Rattle.std.specs.Prelude.{IfErr, None}
+use Rattle.std.specs.Prelude.{IfErr, None, Result, Ok, Err}
 use Rattle.std.proofs.lemmas.Bool.{eqb-true}
 use Rattle.farm_types.specs.declared.entry.Act.{Act}
 use Rattle.farm_types.specs.declared.entry.Act.TheVariants as act
@@ -16,17 +16,18 @@ use Rattle.dispatcher.specs.booking_recorder.specs.declared.refusal.RecordFault.
 use Rattle.dispatcher.specs.booking_recorder.specs.declared.refusal.RecordFault.TheVariants as fault
 use Rattle.dispatcher.specs.booking_recorder.specs.Entries.{FailsToRecord, HeldAtFault, TellsAtFault}
 use Rattle.dispatcher.specs.booking_recorder.specs.Faults.{is_of_held, is_of_store, is_spent_fault}
-use Rattle.dispatcher.specs.booking_recorder.specs.Going.{GoesOn}
 use Rattle.dispatcher.specs.booking_recorder.specs.Recording.{Recording, most_entries}
 use Rattle.dispatcher.specs.booking_recorder.specs.Views.{Stays}
 use Rattle.line_answers.specs.Asking.{IsNoBooking}
 use Rattle.line_answers.specs.declared.hindered.Hindered.{Hindered}
 use Rattle.line_answers.specs.declared.hindered.Hindered.TheVariants as hindered
 use Rattle.line_answers.specs.declared.limits.TheConstants.{ENTRIES_EACH}
-use Rattle.line_answers.specs.Entering.{EntersAnswer, IsHindered, is_store_answer, unrecorded}
+use Rattle.line_answers.specs.declared.reply_line.ReplyLine.{ReplyLine}
+use Rattle.line_answers.specs.declared.reply_line.ReplyLine.TheVariants as reply_line
+use Rattle.line_answers.specs.Entering.{AnswersOn, EntersAnswer, IsHindered, is_store_answer, unrecorded}
 use Rattle.line_answers.specs.LineAnswers.{IsRecorded}
 use Rattle.line_answers.specs.Lines.{is_store_line, recorded_by}
-use Rattle.line_answers.proofs.ToldLemmas.{GoesOn-none}
+use Rattle.line_answers.proofs.ToldLemmas.{AnswersOn-asked, GoesOn-none}
 
 -- what is no booking for requests is none for the recorder
 pub never_books : (does : Act) → IsNoBooking does → IsBooking does → ⊥
@@ -57,11 +58,16 @@ fails_counted fault.NoMemory = refl
 module _ {K : Type 0} (commits : Committing K) (tells : K → Type 0) (faults : K → ℕ) (before now : Recording K) (e : Entry) where
   pub fails_went : (why : RecordFault) → Continues tells faults before.keeper now.keeper (is_of_store why)
       → TellsAtFault commits before.farm e why before.keeper now.keeper → Stays before.view now.view
-      → IfOk (unrecorded why) (λ told. GoesOn commits tells faults before now (e ∷ []) (recorded_by e told) (is_store_line told))
-  fails_went fault.Spent goes told stays = tt
-  fails_went (fault.Held cores memory) goes told stays = tt
-  fails_went fault.Store goes told stays = GoesOn-none commits tells faults before now (e ∷ []) true goes told stays
-  fails_went fault.NoMemory goes told stays = GoesOn-none commits tells faults before now (e ∷ []) false goes told stays
+      → is_spent_fault why ≡ (length before.view.journal == most_entries)
+      → IfOk (unrecorded why) (λ told. AnswersOn commits tells faults before now told (e ∷ []) (recorded_by e told) (is_store_line told))
+  fails_went fault.Spent goes told stays spent = tt
+  fails_went (fault.Held cores memory) goes told stays spent = tt
+  fails_went fault.Store goes told stays spent =
+      AnswersOn-asked commits tells faults before now reply_line.Store (e ∷ []) [] spent
+      (GoesOn-none commits tells faults before now (e ∷ []) true goes told stays)
+  fails_went fault.NoMemory goes told stays spent =
+      AnswersOn-asked commits tells faults before now reply_line.NoMemory (e ∷ []) [] spent
+      (GoesOn-none commits tells faults before now (e ∷ []) false goes told stays)
 
   pub fails_hindered : (changed : Farm) (why : RecordFault) → refusal_of before.farm e ≡ None → FailsToRecord before.farm changed why now.farm
       → TellsAtFault commits before.farm e why before.keeper now.keeper → HeldAtFault before.farm e before.view why now.view
@@ -70,7 +76,7 @@ module _ {K : Type 0} (commits : Committing K) (tells : K → Type 0) (faults : 
   fails_hindered changed fault.Spent accepts fails told held alone spent =
       record { accepted = accepts; farm = fails; keeper = told; hinders = sym spent }
   fails_hindered changed (fault.Held cores memory) accepts fails told held alone spent =
-      record { accepted = accepts; farm = fails; keeper = told; hinders = (λ one. true≢false (alone one), held) }
+      record { accepted = accepts; farm = fails; keeper = told; hinders = (λ one. true≢false (alone one), sym spent, held) }
   fails_hindered changed fault.Store accepts fails told held alone spent = tt
   fails_hindered changed fault.NoMemory accepts fails told held alone spent = tt
 
@@ -84,3 +90,8 @@ pub unhindered : {K : Type 0} (before now : Recording K) (e : Entry) (why : Hind
     → length before.view.journal + ENTRIES_EACH < 2 ^ 64 → IsHindered before e why now → ⊥
 unhindered before now e (hindered.Held cores memory) alone room is = is.hinders.0 alone
 unhindered before now e hindered.Spent alone room is = has_room (length before.view.journal) room is.hinders
+
+pub never_hindered : {K : Type 0} (before now : Recording K) (e : Entry) (came : Result ReplyLine Hindered) → split_in before.view.desk ≡ 0
+    → length before.view.journal + ENTRIES_EACH < 2 ^ 64 → IfErr came (λ why. IsHindered before e why now) → IfErr came (λ why. ⊥)
+never_hindered before now e (Ok line) alone room is = tt
+never_hindered before now e (Err why) alone room is = unhindered before now e why alone room is

@@ -1,4 +1,4 @@
-mod AnswerLemmas
+pub mod AnswerLemmas
 mod BookingLemmas
 mod EntryLemmas
 mod HearLemmas
@@ -6,7 +6,7 @@ pub mod FewEntries
 mod LegalLemmas
 mod LineLemmas
 mod OutcomeLemmas
-mod ReportLemmas
+pub mod ReportLemmas
 mod ToldLemmas
 mod WalkLemmas
 mod WrittenLaunches

@@ -1,5 +1,5 @@
 -- What a keeper was told of a line, and what the journal gained, from what each entry did.
-use Rattle.std.proofs.Common.{◌≡◌, ℕ, Bool, false, List, [], ◌∷◌, Option, None, Err, inl, inr, refl, sym, ap, subst}
+use Rattle.std.proofs.Common.{◌≡◌, ◌∙◌, ◌==◌, ℕ, Bool, false, List, [], ◌∷◌, length, Option, None, Result, Ok, Err, IfOk, inl, inr, refl, sym, ap, subst, true≢false}
 use Rattle.farm_types.specs.declared.entry.Entry.{Entry}
 use Rattle.farm_types.specs.Dispatch.{round_for}
 use Rattle.farm_types.specs.Farm.{host_named}
@@ -8,7 +8,7 @@ use Rattle.farm_keeper.specs.Keeping.{Committing, Continues}
 use Rattle.farm_keeper.proofs.KeepingLaws.{Continues-same, Continues-then}
 use Rattle.farm_lines.specs.Asked.{heard_entry}
 use Rattle.farm_lines.specs.declared.report.Report.{Report}
-use Rattle.farm_lines.specs.Transcript.{Answered, Plain}
+use Rattle.farm_lines.specs.Transcript.{Answered, Plain, entry_answer, unless_memory}
 use Rattle.dispatcher.specs.recorder.specs.Telling.{EndsTelling, TakesEach, Tells}
 use Rattle.dispatcher.specs.recorder.proofs.Told.{tells_all, tells_behind, tells_none, tells_still}
 use Rattle.dispatcher.specs.booking_recorder.specs.declared.refusal.CommitRefusal.{CommitRefusal}
@@ -16,11 +16,15 @@ use Rattle.dispatcher.specs.booking_recorder.specs.declared.refusal.CommitRefusa
 use Rattle.dispatcher.specs.booking_recorder.specs.Entries.{TellsCommit}
 use Rattle.dispatcher.specs.booking_recorder.specs.Faults.{is_by_store}
 use Rattle.dispatcher.specs.booking_recorder.specs.Going.{GoesOn}
-use Rattle.dispatcher.specs.booking_recorder.specs.Recording.{Recording}
+use Rattle.dispatcher.specs.booking_recorder.specs.Recording.{Recording, most_entries}
 use Rattle.dispatcher.specs.booking_recorder.specs.Views.{Entered, Stays}
 use Rattle.dispatcher.specs.booking_recorder.proofs.Journaled.{journals_entered, journals_none, journals_stays, journals_then}
-use Rattle.line_answers.specs.Entering.{WasHeard}
-use Rattle.line_answers.specs.LineAnswers.{Hears, reported}
+use Rattle.line_answers.specs.declared.hindered.Hindered.{Hindered}
+use Rattle.line_answers.specs.declared.reply_line.ReplyLine.{ReplyLine}
+use Rattle.line_answers.specs.Entering.{AnswersOn, WasHeard}
+use Rattle.line_answers.specs.LineAnswers.{AnswersEntry, Hears, MayStoreEntry, reported}
+use Rattle.line_answers.specs.Lines.{is_store_line, shown}
+use Rattle.line_answers.proofs.AnswerLemmas.{went_as}
 use Rattle.line_answers.proofs.ReportLemmas.{accepted_is, host_of}
 
 module _ {K : Type 0} (commits : Committing K) (tells : K → Type 0) (faults : K → ℕ) where
@@ -58,6 +62,30 @@ module _ {K : Type 0} (commits : Committing K) (tells : K → Type 0) (faults : 
     told = tells_behind commits before.farm mid.farm e es done failed before.keeper mid.keeper now.keeper is first later.told;
     journals = journals_then before.view mid.view now.view (e ∷ []) done (journals_entered before.view e mid.view entered) later.journals;
   }
+
+  -- ---- a line that tells of the store where it failed
+
+  -- the recorder wasn't asked, and the line tells of no store
+  pub AnswersOn-same : (r : Recording K) (line : ReplyLine) → is_store_line line ≡ false → (all : List Entry)
+      → AnswersOn commits tells faults r r line all [] false
+  AnswersOn-same r line never all = record { goes = GoesOn-same r all; told = sym never; room = λ full. (refl, refl) }
+
+  -- where it was asked, the journal had room
+  pub AnswersOn-asked : (before now : Recording K) (line : ReplyLine) (all done : List Entry) → false ≡ (length before.view.journal == most_entries)
+      → GoesOn commits tells faults before now all done (is_store_line line) → AnswersOn commits tells faults before now line all done (is_store_line line)
+  AnswersOn-asked before now line all done unspent goes =
+      record { goes = goes; told = refl; room = λ full. absurd (true≢false (sym (unspent ∙ full))) }
+
+  -- an entry that nothing hindered was answered
+  pub answered_alone : (before now : Recording K) (e : Entry) (came : Result ReplyLine Hindered) (line : ReplyLine) → came ≡ Ok line
+      → IfOk came (λ told. AnswersEntry before.farm e now.farm (shown told) (AnswersOn commits tells faults before now told))
+      → AnswersEntry before.farm e now.farm (shown line) (GoesOn commits tells faults before now)
+  answered_alone before now e came line is answered =
+      went_as before.farm now.farm (shown line) (λ mark. unless_memory mark (entry_answer before.farm e mark (refusal_of before.farm e)))
+      (MayStoreEntry before.farm e) (AnswersOn commits tells faults before now line) (GoesOn commits tells faults before now) (λ all done failed on. on.goes)
+      (subst
+      (λ (r : Result ReplyLine Hindered). IfOk r (λ told. AnswersEntry before.farm e now.farm (shown told) (AnswersOn commits tells faults before now told)))
+      is answered)
 
   -- ---- a report that wasn't recorded
 

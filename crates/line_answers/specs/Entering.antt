@@ -1,5 +1,5 @@
 -- Entries that a line asks, on a recorder that may stand beside others: recorded, or hindered.
-use Rattle.std.specs.Prelude.{◌≡◌, ◌≢◌, ◌⊎◌, ◌==◌, ℕ, Bool, true, false, Option, None, Result, Ok, Err, length}
+use Rattle.std.specs.Prelude.{◌≡◌, ◌≢◌, ◌⊎◌, ◌==◌, ℕ, Bool, true, false, List, [], Option, None, Result, Ok, Err, length}
 use Rattle.farm_types.specs.declared.entry.Entry.{Entry}
 use Rattle.farm_types.specs.Farm.{Farm}
 use Rattle.farm_types.specs.Step.{refusal_of}
@@ -12,6 +12,7 @@ use Rattle.dispatcher.specs.booking_recorder.specs.declared.refusal.RecordFault.
 use Rattle.dispatcher.specs.booking_recorder.specs.declared.refusal.RecordFault.TheVariants as fault
 use Rattle.dispatcher.specs.booking_recorder.specs.Entries.{IsHeld, TellsCommit}
 use Rattle.dispatcher.specs.booking_recorder.specs.Faults.{is_store_refusal}
+use Rattle.dispatcher.specs.booking_recorder.specs.Going.{GoesOn}
 use Rattle.dispatcher.specs.booking_recorder.specs.Recording.{Recording, most_entries}
 use Rattle.dispatcher.specs.booking_recorder.specs.Views.{Entered, Enters, Stays}
 use Rattle.line_answers.specs.declared.hindered.Hindered.{Hindered}
@@ -23,9 +24,11 @@ use Rattle.line_answers.specs.Lines.{is_store_line}
 
 -- ---- a request of one entry
 
--- room on the host that it resizes isn't free, and some seat was split off that may have it; or the journal has all the entries that it can count
+-- room on the host that it resizes isn't free, and some seat was split off that may have it; or the journal has all the entries that it can count, which is
+-- looked for first
 abbrev pub Hinders : Farm → Entry → View → Hindered → View → Type 0
-Hinders f e v (hindered.Held cores memory) w = (split_in v.desk ≢ 0) × IsHeld f e v cores memory w
+Hinders f e v (hindered.Held cores memory) w =
+    (split_in v.desk ≢ 0) × ((length v.journal == most_entries) ≡ false) × IsHeld f e v cores memory w
 Hinders f e v hindered.Spent w = (length v.journal == most_entries) ≡ true
 
 -- an entry that the farm takes was hindered so, and the farm and the keeper are as before
@@ -39,6 +42,14 @@ pub record IsHindered {K : Type 0} (old : Recording K) (e : Entry) (why : Hinder
 abbrev pub EntersAnswer : View → Entry → Result ReplyLine Hindered → View → Type 0
 EntersAnswer v e (Ok line) w = Entered v e w ⊎ Stays v w
 EntersAnswer v e (Err why) w = Stays v w
+
+-- The recorder went on so over what was asked. The line tells of the store exactly where it failed. A full journal took nothing, and then the store
+-- wasn't asked.
+pub record AnswersOn {K : Type 0} (commits : Committing K) (tells : K → Type 0) (faults : K → ℕ) (before now : Recording K) (line : ReplyLine)
+    (all done : List Entry) (failed : Bool) : Type 0 where
+  pub goes : GoesOn commits tells faults before now all done failed
+  pub told : failed ≡ is_store_line line
+  pub room : (length before.view.journal == most_entries) ≡ true → (done ≡ []) × (failed ≡ false)
 
 -- what comes of an entry that wasn't recorded
 abbrev pub unrecorded : RecordFault → Result ReplyLine Hindered

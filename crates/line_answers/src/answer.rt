@@ -1,6 +1,6 @@
 //! Answering one line, by a recorder alone.
 
-ghost use Rattle.std.specs.Prelude.{◌≡◌, ◌≤◌, ◌<◌, ◌^◌, ◌+◌, length};
+ghost use Rattle.std.specs.Prelude.{◌≡◌, ◌≤◌, ◌<◌, ◌^◌, ◌+◌, IfErr, Ok, length};
 ghost use Rattle.farm_lines.specs.Asked.{IsFormedAsked};
 ghost use Rattle.farm_lines.specs.Transcript.{Plain, answer_to, asked_answer};
 ghost use Rattle.farm_lines.specs.declared.limits.TheConstants.{LINE_LIMIT};
@@ -15,6 +15,7 @@ ghost use Rattle.line_answers.specs.declared.limits.TheConstants.{ENTRIES_EACH};
 
 use crate::answer_report::answer_report;
 use crate::asking::ask;
+use crate::hindered::Hindered;
 use crate::listing::answer_list;
 use crate::one_entry::answer_entry;
 use crate::reply_line::ReplyLine;
@@ -90,7 +91,34 @@ fn answer_act<K: Keeper, N: Naming>(
     ensures answer { AnswersEntry recorder.old.farm entry recorder.new.farm (shown result) (GoesOn K.commits K.tells K.faults recorder.old recorder.new) }
     ensures same { IsUnstored recorder.old.farm entry → recorder.new.keeper ≡ recorder.old.keeper }
 {
-    match answer_entry(alloc, table, recorder, &entry) {
+    answer_alone(alloc, table, recorder, &entry)
+}
+
+// Answers a request of one entry, which nothing hinders by a recorder alone that has room.
+fn answer_alone<K: Keeper, N: Naming>(
+    alloc: Global,
+    table: &Table,
+    recorder: &mut Recorder<K, N>,
+    entry: &Entry,
+) -> ReplyLine
+    requires formed { IsFormed entry.now }
+    requires unbooked { IsNoBooking entry.now.act }
+    requires table { table.now ≡ N.table }
+    requires alone { split_in recorder.old.view.desk ≡ 0 }
+    requires room { length recorder.old.view.journal + ENTRIES_EACH < 2 ^ 64 }
+    ensures answer { AnswersEntry recorder.old.farm entry.now recorder.new.farm (shown result) (GoesOn K.commits K.tells K.faults recorder.old recorder.new) }
+    ensures same { IsUnstored recorder.old.farm entry.now → recorder.new.keeper ≡ recorder.old.keeper }
+{
+    let came = answer_entry(alloc, table, recorder, entry);
+    unhindered(came)
+}
+
+// The line of an entry that nothing hindered.
+fn unhindered(came: Result<ReplyLine, Hindered>) -> ReplyLine
+    requires { IfErr came (λ why. ⊥) }
+    ensures { came ≡ Ok result }
+{
+    match came {
         Ok(line) => line,
         Err(_) => unreachable!(),
     }

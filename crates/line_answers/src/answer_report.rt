@@ -95,8 +95,8 @@ fn told_line(alloc: Global, told: Told) -> ReplyLine
     }
 }
 
-// The line of a reply that is to no report that was recorded, or that memory ran out.
-fn other_line(alloc: Global, reply: Reply) -> ReplyLine
+/// The line of a reply that is to no report that was recorded, or that memory ran out.
+pub fn other_line(alloc: Global, reply: Reply) -> ReplyLine
     ensures { IsLineOfOther reply (shown result) }
 {
     match reply {
@@ -140,8 +140,8 @@ fn take_recorded<K: Keeper, N: Naming>(
     }
 }
 
-// The host that was heard, and what it told.
-fn heard_by(told: Option<HostNo>, act: &Act) -> (HostNo, &HeardAct)
+/// The host that was heard, and what it told.
+pub fn heard_by(told: Option<HostNo>, act: &Act) -> (HostNo, &HeardAct)
     requires { TellsHost act.now told }
     ensures host { told ≡ Some result.0 }
     ensures heard { act.now ≡ acts.Heard result.1.now }
@@ -152,8 +152,8 @@ fn heard_by(told: Option<HostNo>, act: &Act) -> (HostNo, &HeardAct)
     }
 }
 
-// What is replied where the report wasn't recorded.
-fn unrecorded_reply(why: CommitRefusal) -> Reply
+/// What is replied where the report wasn't recorded.
+pub fn unrecorded_reply(why: CommitRefusal) -> Reply
     ensures { result ≡ unrecorded_reply why }
 {
     match why {

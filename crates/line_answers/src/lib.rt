@@ -16,7 +16,7 @@ mod reporting;
 mod told;
 
 pub use answer::answer_line;
-pub use answer_report::take_report;
+pub use answer_report::{heard_by, other_line, take_report, unrecorded_reply};
 pub use asking::{ask, asked_of};
 pub use hearing::hear;
 pub use hindered::Hindered;
@@ -27,7 +27,7 @@ pub use laws::{
 pub use limits::ENTRIES_EACH;
 pub use listing::answer_list;
 pub use one_entry::answer_entry;
-pub use reply_line::ReplyLine;
+pub use reply_line::{ReplyLine, line_of};
 pub use reporting::report_line;
 pub use told::{ReportLine, Taken, Told};
 

@@ -7,9 +7,8 @@ ghost use Rattle.farm_lines.specs.Reply.{job_named, ok_reply, reply_text};
 ghost use Rattle.farm_types.specs.Formed.{IsFormed};
 ghost use Rattle.farm_types.specs.Step.{after};
 ghost use Rattle.dispatcher.specs.recorder.specs.Recording.{HasSameRows, IsOfEntry, IsUnstored};
-ghost use Rattle.dispatcher.specs.booking_recorder.specs.Going.{GoesOn};
 ghost use Rattle.line_answers.specs.Asking.{IsNoBooking};
-ghost use Rattle.line_answers.specs.Entering.{EntersAnswer, IsHindered, is_store_answer, unrecorded};
+ghost use Rattle.line_answers.specs.Entering.{AnswersOn, EntersAnswer, IsHindered, is_store_answer, unrecorded};
 ghost use Rattle.line_answers.specs.LineAnswers.{AnswersEntry, IsRecorded, IsUnprepared};
 ghost use Rattle.line_answers.specs.Lines.{is_store_line, recorded_by, shown};
 
@@ -35,7 +34,7 @@ pub fn answer_entry<K: Keeper, N: Naming>(
     requires formed { IsFormed entry.now }
     requires unbooked { IsNoBooking entry.now.act }
     ensures answer { IfOk result (λ line. AnswersEntry recorder.old.farm entry.now recorder.new.farm (shown line)
-        (GoesOn K.commits K.tells K.faults recorder.old recorder.new)) }
+        (AnswersOn K.commits K.tells K.faults recorder.old recorder.new line)) }
     ensures hindered { IfErr result (λ why. IsHindered recorder.old entry.now why recorder.new) }
     ensures journal { EntersAnswer recorder.old.view entry.now result recorder.new.view }
     ensures same { IsUnstored recorder.old.farm entry.now → recorder.new.keeper ≡ recorder.old.keeper }
@@ -60,7 +59,7 @@ fn answer_change<K: Keeper, N: Naming>(
     requires unbooked { IsNoBooking entry.now.act }
     requires makes { Makes recorder.old.farm entry.now change }
     ensures answer { IfOk result (λ line. AnswersEntry recorder.old.farm entry.now recorder.new.farm (shown line)
-        (GoesOn K.commits K.tells K.faults recorder.old recorder.new)) }
+        (AnswersOn K.commits K.tells K.faults recorder.old recorder.new line)) }
     ensures hindered { IfErr result (λ why. IsHindered recorder.old entry.now why recorder.new) }
     ensures journal { EntersAnswer recorder.old.view entry.now result recorder.new.view }
     ensures same { HasSameRows recorder.old.farm (after recorder.old.farm entry.now) → recorder.new.keeper ≡ recorder.old.keeper }
@@ -85,7 +84,7 @@ fn record<K: Keeper, N: Naming>(
     requires of_entry { IsOfEntry recorder.old.farm entry.now change }
     requires unbooked { IsNoBooking entry.now.act }
     ensures recorded { IfOk result (λ told. IsRecorded recorder.old.farm (after_change recorder.old.farm change) line recorder.new.farm told) }
-    ensures went { IfOk result (λ told. GoesOn K.commits K.tells K.faults recorder.old recorder.new (entry.now ∷ []) (recorded_by entry.now told)
+    ensures went { IfOk result (λ told. AnswersOn K.commits K.tells K.faults recorder.old recorder.new told (entry.now ∷ []) (recorded_by entry.now told)
         (is_store_line told)) }
     ensures hindered { IfErr result (λ why. IsHindered recorder.old entry.now why recorder.new) }
     ensures journal { EntersAnswer recorder.old.view entry.now result recorder.new.view }

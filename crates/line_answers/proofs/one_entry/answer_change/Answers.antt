@@ -1,16 +1,16 @@
 -- The line was written and the change recorded, or memory ran out.
 use Rattle.std.proofs.Common.{ap, sym, inr, ◌∙◌, ◌∷◌, [], ◌++◌}
 use Rattle.fault_counts.specs.Counts.{incremented_if}
-use Rattle.dispatcher.specs.booking_recorder.specs.Going.{GoesOn}
 use Rattle.dispatcher.specs.booking_recorder.proofs.Rests.{stays_same}
 use Rattle.farm_lines.specs.Reply.{ok_reply, reply_text}
 use Rattle.farm_lines.specs.Transcript.{entry_answer}
 use Rattle.farm_types.specs.Step.{refusal_of}
 use Rattle.line_answers.specs.declared.reply_line.ReplyLine.{ReplyLine}
+use Rattle.line_answers.specs.Entering.{AnswersOn}
 use Rattle.line_answers.specs.LineAnswers.{MayStoreEntry}
 use Rattle.line_answers.specs.Lines.{is_store_line, shown}
 use Rattle.line_answers.proofs.AnswerLemmas.{entry_made, no_booking, recorded_answer, unreplied}
-use Rattle.line_answers.proofs.ToldLemmas.{GoesOn-same}
+use Rattle.line_answers.proofs.ToldLemmas.{AnswersOn-same}
 use Rattle.line_answers.proofs.one_entry.answer_change.Goals as goal
 
 pub record-requires-clause-of_entry : goal.record-requires-clause-of_entry
@@ -21,15 +21,16 @@ record-requires-clause-of_entry g c =
 pub returns-in-Ok-clause-answer : goal.returns-in-Ok-clause-answer
 returns-in-Ok-clause-answer g c =
     recorded_answer c.args.recorder.now.farm c.record.new.recorder.farm c.args.entry.now c.args.change c.in-Ok.line c.record.result
-    (GoesOn g.K.Keeper.commits g.K.Keeper.tells g.K.Keeper.faults c.args.recorder.now c.record.new.recorder) c.requires.makes
+    (AnswersOn g.K.Keeper.commits g.K.Keeper.tells g.K.Keeper.faults c.args.recorder.now c.record.new.recorder) c.requires.makes
     (c.in-Ok.ensures ∙ ap (λ told. reply_text (ok_reply c.args.entry.now.act told) ++ 10 ∷ []) (c.answer.ensures ∙ c.requires.makes.planned.answer))
     c.record.ensures.recorded c.record.ensures.went
 
 pub returns-in-Err-clause-answer : goal.returns-in-Err-clause-answer
 returns-in-Err-clause-answer g c =
     unreplied c.args.recorder.now.farm (shown c.without_memory.result)
-    (GoesOn g.K.Keeper.commits g.K.Keeper.tells g.K.Keeper.faults c.args.recorder.now c.args.recorder.now)
-    (GoesOn-same g.K.Keeper.commits g.K.Keeper.tells g.K.Keeper.faults c.args.recorder.now)
+    (AnswersOn g.K.Keeper.commits g.K.Keeper.tells g.K.Keeper.faults c.args.recorder.now c.args.recorder.now c.without_memory.result)
+    (AnswersOn-same g.K.Keeper.commits g.K.Keeper.tells g.K.Keeper.faults c.args.recorder.now c.without_memory.result
+    (ap is_store_line c.without_memory.ensures))
     (λ mark. entry_answer c.args.recorder.now.farm c.args.entry.now mark (refusal_of c.args.recorder.now.farm c.args.entry.now))
     (MayStoreEntry c.args.recorder.now.farm c.args.entry.now) tt (ap shown c.without_memory.ensures)
 

@@ -1,11 +1,11 @@
 -- The change was prepared and its entry answered, or no change was prepared.
 use Rattle.std.proofs.Common.{ap, sym, inr}
 use Rattle.fault_counts.specs.Counts.{incremented_if}
-use Rattle.dispatcher.specs.booking_recorder.specs.Going.{GoesOn}
 use Rattle.dispatcher.specs.booking_recorder.proofs.Rests.{stays_same}
+use Rattle.line_answers.specs.Entering.{AnswersOn}
 use Rattle.line_answers.specs.Lines.{shown}
 use Rattle.line_answers.proofs.AnswerLemmas.{no_booking, unprepared_entry}
-use Rattle.line_answers.proofs.ToldLemmas.{GoesOn-same}
+use Rattle.line_answers.proofs.ToldLemmas.{AnswersOn-same}
 use Rattle.line_answers.proofs.one_entry.answer_entry.Goals as goal
 
 pub prepare-requires-clause-condition : goal.prepare-requires-clause-condition
@@ -14,8 +14,9 @@ prepare-requires-clause-condition g c = no_booking c.args.recorder.now.farm c.ar
 pub returns-in-Err-clause-answer : goal.returns-in-Err-clause-answer
 returns-in-Err-clause-answer g c =
     unprepared_entry c.args.recorder.now.farm c.args.entry.now c.in-Err.fault (shown c.fault_line.result)
-    (GoesOn g.K.Keeper.commits g.K.Keeper.tells g.K.Keeper.faults c.args.recorder.now c.args.recorder.now)
-    (GoesOn-same g.K.Keeper.commits g.K.Keeper.tells g.K.Keeper.faults c.args.recorder.now) c.in-Err.ensures c.fault_line.ensures.line
+    (AnswersOn g.K.Keeper.commits g.K.Keeper.tells g.K.Keeper.faults c.args.recorder.now c.args.recorder.now c.fault_line.result)
+    (AnswersOn-same g.K.Keeper.commits g.K.Keeper.tells g.K.Keeper.faults c.args.recorder.now c.fault_line.result c.fault_line.ensures.never_store)
+    c.in-Err.ensures c.fault_line.ensures.line
 
 pub returns-in-Err-clause-journal : goal.returns-in-Err-clause-journal
 returns-in-Err-clause-journal g c = inr (stays_same c.args.recorder.now.view)

@@ -1,0 +1,5 @@
+mod EntryAnswers
+mod HeardAnswers
+mod LineAnswers
+mod ReportAnswers
+mod Worked
