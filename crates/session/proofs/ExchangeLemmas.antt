@@ -1,5 +1,5 @@
 -- One exchange, by what the reader gave and how much of the reply was written.
-use Rattle.std.proofs.Common.{◌≡◌, ℕ, ◌<◌, ◌≤◌, ◌^◌, Bool, true, false, List, [], ◌∷◌, ◌++◌, length, take, drop, refl, sym, ◌∙◌, subst, Option, Result, Ok, arith, append-nil, length-drop, take-append-drop}
+use Rattle.std.proofs.Common.{◌≡◌, ℕ, ◌<◌, ◌≤◌, ◌^◌, Bool, true, false, List, [], ◌∷◌, ◌++◌, length, refl, sym, ◌∙◌, subst, Option, Result, Ok, append-nil}
 use Rattle.cue_io.specs.declared.line.Line.{Line}
 use Rattle.cue_io.specs.declared.line.LineFault.{LineFault}
 use Rattle.cue_io.specs.Input.{IsAtEnd}
@@ -10,16 +10,13 @@ use Rattle.farm_types.specs.Run.{run_of}
 use Rattle.farm_lines.specs.declared.reply.Reply.TheVariants as reply
 use Rattle.farm_lines.specs.Reply.{reply_text}
 use Rattle.farm_lines.specs.Transcript.{Answered, Mark, Plain, answer_to, is_store_mark}
-use Rattle.session.specs.declared.exchanged.Exchanged.{Exchanged}
-use Rattle.session.specs.declared.exchanged.Exchanged.TheVariants as exchanged
+use Rattle.line_exchanges.specs.declared.exchanged.Exchanged.{Exchanged}
+use Rattle.line_exchanges.specs.declared.exchanged.Exchanged.TheVariants as exchanged
 use Rattle.farm_load.specs.line_answers.specs.LineAnswers.{AnswersLine, Going, IsAnswer}
 use Rattle.farm_load.specs.line_answers.specs.Outcomes.{IsAnsweredFully}
 use Rattle.farm_load.specs.recorder.specs.Recording.{ChangesNone}
-use Rattle.session.specs.Sessions.{Answers, Sends, Exchanges, IsExchange, IsStep, MayStand, StaysAt, entries_by}
-
--- a front of the text was written
-pub sent_part : (text : List ℕ) (count : ℕ) → count < length text → Sends exchanged.Write text (take count text)
-sent_part text count short = (drop count text, omega (arith, length-drop count text), take-append-drop count text)
+use Rattle.line_exchanges.specs.Exchanges.{Exchanges, Sends}
+use Rattle.session.specs.Sessions.{Answers, IsExchange, IsNoExchange, IsStep, MayStand, StaysAt, entries_by}
 
 -- What was given was answered, by a mark that may stand there, and the keeper went on as the mark says.
 pub record IsGivenAnswer (given : Given) (before after : Farm) (moment : ℕ) (text : List ℕ) (goes : Going) (same : Type 0) : Type 0 where
@@ -70,7 +67,7 @@ exchange_of given before after moment text wrote unwritten goes same low answer 
 
 exchange_answered : (result : Exchanged) (answer : Result Given LineFault) (given : Given) (before after : Farm) (moment : ℕ) (text wrote : List ℕ) (goes : Going) (same still : Type 0)
     → moment < 2 ^ 64 → answer ≡ Ok given → IsGivenAnswer given before after moment text goes same → Sends result text wrote
-    → Exchanges result answer before after wrote (moment ∷ []) goes same still
+    → Exchanges result answer wrote (λ given wrote unwritten. IsExchange given before after wrote unwritten (moment ∷ []) goes same) (IsNoExchange before after wrote (moment ∷ []) still)
 exchange_answered exchanged.Went answer given before after moment text wrote goes same still low is answers sent =
     (given, is, exchange_of given before after moment text wrote [] goes same low answers (append-nil wrote ∙ sent))
 exchange_answered exchanged.Write answer given before after moment text wrote goes same still low is answers sent =

@@ -1,6 +1,7 @@
 mod ExchangeLemmas
 mod KeeperLemmas
 mod LoadLemmas
+mod LoadedStore
 mod MemoryLemmas
 pub mod NewKeepers
 mod OpenedLegal
@@ -8,6 +9,6 @@ mod OpenedRun
 mod OpenedStore
 mod OpenedWays
 mod RunLemmas
-mod SeatLemmas
+pub mod SeatLemmas
 mod SessionLemmas
 mod StopLemmas

@@ -24,7 +24,8 @@ use Rattle.booking_table.specs.Seats.{view}
 use Rattle.farm_load.specs.recording_turns.specs.Resting.{IsAtRest}
 use Rattle.session.specs.Opening.{IsOpened}
 use Rattle.session.specs.Seats.{GivesSeat}
-use Rattle.session.specs.Sessions.{AnswersLoadCall, Call, EndsEarly, EndsWell, IsCall, Streams, streams}
+use Rattle.line_exchanges.specs.Calls.{Streams, streams}
+use Rattle.session.specs.Sessions.{AnswersLoadCall, Call, EndsEarly, EndsWell, IsCall}
 use Rattle.session.specs.Words.{Load, WordForm, form_of, is_load, opened_farm, opening_entries}
 use Rattle.session.proofs.SeatLemmas.{gives_seat}
 

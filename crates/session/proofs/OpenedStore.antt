@@ -67,7 +67,7 @@ stated_begins Demo tells held f stated is = is
 stated_begins (Script store) tells held f stated is = absurd stated
 stated_begins (Load n) tells held f stated is = is
 
-script_kept : (form : WordForm) (held left : Rows → Type 0) → IsScript form → MayOpen form held left → (rows : Rows) × HasKept held left rows []
+pub script_kept : (form : WordForm) (held left : Rows → Type 0) → IsScript form → MayOpen form held left → (rows : Rows) × HasKept held left rows []
 script_kept Demo held left script may = absurd script
 script_kept (Script store) held left script may = may
 script_kept (Load n) held left script may = absurd script

@@ -21,14 +21,15 @@ use Rattle.farm_lines.specs.Transcript.{Exchange, entries_in, lines_in}
 use Rattle.farm_lines.specs.Reply.{bad_store_line}
 use Rattle.recovery.specs.declared.fault.RecoverFault.{RecoverFault}
 use Rattle.recovery.specs.declared.fault.RecoverFault.TheVariants.{BadBytes, BreaksFarm, NoMemory}
-use Rattle.session.specs.declared.exchanged.Exchanged.{Exchanged}
+use Rattle.line_exchanges.specs.declared.exchanged.Exchanged.{Exchanged}
 use Rattle.session.specs.declared.words.Form.{Form}
-use Rattle.session.specs.declared.exchanged.Exchanged.TheVariants as exchanged
+use Rattle.line_exchanges.specs.declared.exchanged.Exchanged.TheVariants as exchanged
 use Rattle.session.specs.declared.opening.OpenFault.{OpenFault}
 use Rattle.session.specs.declared.opening.OpenFault.TheVariants as fault
 use Rattle.session.specs.Opening.{BeginsWith, HasFailed, HoldsFarm, IsLeftOld, IsOpened, IsPartOpened, is_of_store}
 use Rattle.session.specs.Loads.{AnswersLoad}
-use Rattle.session.specs.Sessions.{AnswersAll, AnswersForm, AnswersLoadCall, Call, EndsEarly, EndsSession, EndsWell, GoesOnOpened, GoesOnOver, RecordsOver, HasLines, HasMoved, IsBadStore, IsCall, IsOldStore, IsOpening, IsUnopened, MayTell, Streams, TellsBad, TellsFault, TellsLine, status_of, store_marks, streams}
+use Rattle.line_exchanges.specs.Calls.{HasLines, HasMoved, Streams, streams}
+use Rattle.session.specs.Sessions.{AnswersAll, AnswersForm, AnswersLoadCall, Call, EndsEarly, EndsSession, EndsWell, GoesOnOpened, GoesOnOver, RecordsOver, IsBadStore, IsCall, IsOldStore, IsOpening, IsUnopened, MayTell, TellsBad, TellsFault, TellsLine, status_of, store_marks}
 use Rattle.atomic_table.specs.declared.shared.Seat.{Seat}
 use Rattle.farm_load.specs.booking_recorder.specs.Going.{Journals}
 use Rattle.farm_load.specs.booking_recorder.specs.Recording.{Recording}

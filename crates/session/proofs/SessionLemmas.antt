@@ -3,25 +3,22 @@ use Rattle.std.proofs.Common.{◌≡◌, ◌<◌, ◌^◌, ◌+◌, ℕ, Bool, t
 use Rattle.std.proofs.lemmas.Bool.{lt-ltb}
 use Rattle.std.proofs.lemmas.List.{map-append}
 use Rattle.std.proofs.lemmas.List.Elements.{All-push}
-use Rattle.cue_io.specs.declared.line.LineFault.{LineFault}
-use Rattle.cue_io.specs.declared.line.LineFault.TheVariants as line_fault
-use Rattle.cue_io.specs.History.{HasGiven, HasGiven-next, HasGiven-first, Continues}
-use Rattle.cue_io.specs.Input.{Takes, Takes-append}
-use Rattle.cue_io.specs.Output.{Adds, Adds-append}
-use Rattle.cue_io.specs.Readings.{Tells, Tells-append}
-use Rattle.cue_io.specs.Reader.{Held, Given, Whole, Long, AtEnd, Goes}
-use Rattle.cue_io.specs.declared.limits.TheConstants.{BYTE_LIMIT}
+use Rattle.cue_io.specs.History.{HasGiven, HasGiven-first, Continues}
+use Rattle.cue_io.specs.Input.{Takes}
+use Rattle.cue_io.specs.Reader.{Held, Given, Whole, Long, AtEnd}
 use Rattle.farm_types.specs.declared.entry.Entry.{Entry}
 use Rattle.farm_types.specs.Farm.{Farm}
 use Rattle.farm_lines.specs.declared.reply.Reply.TheVariants.{TooLong}
 use Rattle.farm_lines.specs.Request.{request_of}
 use Rattle.farm_lines.specs.Reply.{reply_text}
 use Rattle.farm_lines.specs.Transcript.{Mark, Plain, Exchange, answer_to, answer_at, farm_next, farm_after, is_store_mark, only_reply, request_answer, unless_memory, transcript, lines_in, moments_in}
-use Rattle.session.specs.declared.exchanged.Exchanged.{Exchanged}
-use Rattle.session.specs.declared.exchanged.Exchanged.TheVariants as exchanged
+use Rattle.line_exchanges.proofs.Moves.{last_lines, stands}
+use Rattle.line_exchanges.specs.declared.exchanged.Exchanged.{Exchanged}
+use Rattle.line_exchanges.specs.declared.exchanged.Exchanged.TheVariants as exchanged
 use Rattle.farm_load.specs.line_answers.specs.LineAnswers.{Going, IsAnswer, IsMarked}
 use Rattle.farm_load.specs.recorder.specs.Recording.{ChangesNone}
-use Rattle.session.specs.Sessions.{Answers, AreMarked, Call, EndsSession, HasAnswered, HasLines, HasMoved, HasReplies, HasServed, IsExchange, IsNoExchange, IsStep, MayStand, StaysAt, Streams, entries_by}
+use Rattle.line_exchanges.specs.Calls.{HasLines, HasMoved, Streams}
+use Rattle.session.specs.Sessions.{Answers, AreMarked, Call, EndsSession, HasAnswered, HasReplies, HasServed, IsExchange, IsNoExchange, IsStep, MayStand, StaysAt, entries_by}
 use Rattle.farm_lines.specs.declared.limits.TheConstants.{LINE_LIMIT}
 
 -- ---- one exchange more
@@ -142,16 +139,6 @@ served_more first call farm after reader new left left' taken' given w u s goes 
 
 -- ---- a step of the loop
 
--- what was taken, written and read in one step more
-pub moved_more : (before mid after : Streams) (call : Call) (took w s : List ℕ) (exchanges : List Exchange) → HasMoved before mid call
-    → Takes mid.unread after.unread took → Adds mid.written after.written w → Tells mid.readings after.readings s
-    → HasMoved before after (record { taken = call.taken ++ took; written = call.written ++ w; readings = call.readings ++ s; exchanges = exchanges })
-moved_more before mid after call took w s exchanges moved takes adds tells = record {
-  taken = Takes-append before.unread mid.unread after.unread call.taken took moved.taken takes;
-  written = Adds-append before.written mid.written after.written call.written w moved.written adds;
-  readings = Tells-append before.readings mid.readings after.readings call.readings s moved.readings tells;
-}
-
 module _ (first : Farm) (call : Call) (farm after : Farm) (reader new : Held) (left left' : Option (List ℕ)) (took w s : List ℕ) (goes : Going) (same still : Type 0)
     (before now : List Exchange → Type 0) (on : GoesOnBy first farm goes same before now) (quietly : (ts : List Exchange) → still → before ts → now ts)
     (served : HasServed first call farm reader left before) (takes : Takes left left' took) where
@@ -159,20 +146,12 @@ module _ (first : Farm) (call : Call) (farm after : Farm) (reader new : Held) (l
   abbrev more_of : List Exchange → Call
   more_of exchanges = record { taken = call.taken ++ took; written = call.written ++ w; readings = call.readings ++ s; exchanges = exchanges }
 
-  -- where the reader stands after the step
-  stands : (answer : Result Given LineFault) (result : Exchanged) → (step : IsStep result reader new left' farm after took w s goes same still) → step.answer ≡ answer
-      → Continues LINE_LIMIT (call.taken ++ took) (lines_in call.exchanges) answer new left'
-  stands answer result step is =
-      let Stands : Result Given LineFault → Type 0 = λ a. Continues LINE_LIMIT (call.taken ++ took) (lines_in call.exchanges) a new left' in
-      subst Stands is (HasGiven-next LINE_LIMIT call.taken (lines_in call.exchanges) reader left step.answer new left' served.given
-      (record { took = took; takes = takes; goes = step.moves; end = step.at_end }))
-
   -- the line was answered
   pub served_went : (step : IsStep exchanged.Went reader new left' farm after took w s goes same still)
       → (exchanges : List Exchange) × HasServed first (more_of exchanges) after new left' now × (length exchanges ≡ length call.exchanges + 1)
   served_went step =
       let more = served_more first call farm after reader new left left' (call.taken ++ took) step.exchanges.0 w [] s goes same before now on served
-      (stands (Ok step.exchanges.0) exchanged.Went step step.exchanges.1) step.exchanges.2 in
+      (stands LINE_LIMIT call.taken (lines_in call.exchanges) reader new left left' took w _ _ served.given takes (Ok step.exchanges.0) exchanged.Went step step.exchanges.1) step.exchanges.2 in
       let exchanges : List Exchange = call.exchanges ++ more.0 ∷ [] in (
         exchanges,
         subst (λ (bytes : List ℕ). HasServed first (record { taken = call.taken ++ took; written = call.written ++ bytes; readings = call.readings ++ s; exchanges = exchanges }) after new left' now)
@@ -194,32 +173,24 @@ module _ (first : Farm) (call : Call) (farm after : Farm) (reader new : Held) (l
     keeper = quietly call.exchanges none.recorder_same served.answered.keeper;
   }
 
-  -- at the end of the source the reader took fewer bytes than it takes at most
-  unspent : (result : Exchanged) (step : IsStep result reader new left' farm after took w s goes same still) → step.answer ≡ Ok AtEnd → length (call.taken ++ took) < BYTE_LIMIT
-  unspent result step is =
-      let moves : Goes reader took (Ok AtEnd) new = subst (λ (a : Result Given LineFault). Goes reader took a new) is step.moves in
-      subst (λ (count : ℕ). count < BYTE_LIMIT)
-      (moves.taken_is ∙ ap (λ count. count + length took) served.given.taken_is ∙ sym (length-append call.taken took))
-      (moves.unspent (moves.leaves served.given.pending served.given.is_pending).cuts.ended)
-
   -- the session ended
   pub served_ended : (result : Exchanged) → (result ≡ exchanged.Went → ⊥) → IsStep result reader new left' farm after took w s goes same still
       → (exchanges : List Exchange) × EndsSession result first after (more_of exchanges) left' now
   served_ended exchanged.Went ends step = absurd (ends refl)
   served_ended exchanged.End ends step =
-      let at = stands (Ok AtEnd) exchanged.End step step.exchanges.0 in
-      (call.exchanges, quiet exchanged.End (record { cut = at.0; none_left = at.1 }, unspent exchanged.End step step.exchanges.0) (λ same. same) step.exchanges.1)
+      let at = last_lines LINE_LIMIT call.taken (lines_in call.exchanges) reader new left left' took w _ _ served.given takes exchanged.End tt step in
+      (call.exchanges, quiet exchanged.End at.0 (λ same. same) at.1)
   served_ended exchanged.Read ends step =
-      let at = stands (Err line_fault.Read) exchanged.Read step step.exchanges.0 in
-      (call.exchanges, quiet exchanged.Read (at.0, at.1) (λ same. same) step.exchanges.1)
+      let at = last_lines LINE_LIMIT call.taken (lines_in call.exchanges) reader new left left' took w _ _ served.given takes exchanged.Read tt step in
+      (call.exchanges, quiet exchanged.Read at.0 (λ same. same) at.1)
   served_ended exchanged.Spent ends step =
-      let at = stands (Err line_fault.Spent) exchanged.Spent step step.exchanges.0 in
-      (call.exchanges, quiet exchanged.Spent (at.0, at.1) (λ same. same) step.exchanges.1)
+      let at = last_lines LINE_LIMIT call.taken (lines_in call.exchanges) reader new left left' took w _ _ served.given takes exchanged.Spent tt step in
+      (call.exchanges, quiet exchanged.Spent at.0 (λ same. same) at.1)
   served_ended exchanged.Write ends step =
       let given = step.exchanges.0 in
       let unwritten = step.exchanges.1 in
       let more = served_more first call farm after reader new left left' (call.taken ++ took) given w unwritten s goes same before now on served
-      (stands (Ok given) exchanged.Write step step.exchanges.2) step.exchanges.4 in (
+      (stands LINE_LIMIT call.taken (lines_in call.exchanges) reader new left left' took w _ _ served.given takes (Ok given) exchanged.Write step step.exchanges.2) step.exchanges.4 in (
         call.exchanges ++ more.0 ∷ [],
         record {
           lines = HasGiven-first LINE_LIMIT (call.taken ++ took) (lines_in (call.exchanges ++ more.0 ∷ [])) new left' more.1.given;

@@ -22,6 +22,7 @@ use Rattle.recovery.specs.Migration.{HasOldRows, HasRows}
 use Rattle.farm_rows.specs.declared.head_row.TheConstants.{ROW_FORMAT}
 use Rattle.farm_rows.specs.Recovery.{Said}
 use Rattle.farm_rows.specs.Rows.{HasRowsIn}
+use Rattle.store_law.specs.Stored.{stored_in}
 use Rattle.session.specs.declared.opening.OpenFault.{OpenFault}
 use Rattle.session.specs.declared.opening.OpenFault.TheVariants as fault
 use Rattle.session.specs.declared.opening.Opening.{Opening}
@@ -120,6 +121,11 @@ Begins tells held left faults form moment first old (opening.Failed now why) =
     ((done : ℕ) × HoldsFarm (tells now) (held now) (left now) (run_of first (take done (opening_entries form moment)))) × IsRecordFault why
     × Continues tells faults old now (is_of_store why)
 
+-- the seat's journal begins with this farm, where one was opened
+abbrev pub HasBegun : {K N : Type 0} → WordForm → ℕ → Farm → Opening K N → Type 0
+HasBegun form moment first (opening.Opened r) = IsBegun r.view first (opening_entries form moment)
+HasBegun form moment first (opening.Failed now why) = Unit {0}
+
 -- the farm was opened: that of the rows, with the entries of the opening, which are a legal run, and are the seat's journal from the farm of the rows
 pub record IsOpened (says : Farm → Type 0) (form : WordForm) (moment : ℕ) (farm : Farm) (view : View) : Type 0 where
   pub first : Farm
@@ -181,6 +187,24 @@ Opens tells held left faults form moment old (opening.Failed now why) =
     (IsLeftOld (BeginsWith form (tells now) (held old)) (λ f. tells now → IsUnmigrated (held old) (held now) (left now) f))
     (IsPartOpened (BeginsWith form (tells now) (held old)) (HoldsFarm (tells now) (held now) (left now)) form moment)
     × Continues tells faults old now (is_of_store why)
+
+-- ---- loading a store
+
+-- The farm was loaded of a keeper, which then is another one: where that tells the truth, the rows that were held say this farm in this format, and are its rows,
+-- and it has them still.
+pub record IsLoadedFrom {K : Type 0} (tells : K → Type 0) (holds left : K → Rows → Type 0) (faults : K → ℕ) (given : K) (f : Farm) (format : ℕ) (now : K)
+    : Type 0 where
+  pub goes : Continues tells faults given now false
+  pub said : tells now → (rows : Rows) → holds given rows → (list : List Row) → Lists list rows → recovered list ≡ Ok (record { farm = f; format = format })
+  pub of_format : HasRowsIn format f
+  pub only : tells now → (rows : Rows) → holds given rows → rows ≡ stored_in format f
+  pub kept : tells now → HasRows (holds now) (left now) format f
+
+-- the farm that the rows of any store say was loaded; or none can be opened
+abbrev pub Loads : {K : Type 0} → (K → Type 0) → (K → Rows → Type 0) → (K → Rows → Type 0) → (K → ℕ) → K → Result Recovered OpenFault → K → Type 0
+Loads tells holds left faults given (Ok r) now = IsLoadedFrom tells holds left faults given r.farm r.format now
+Loads tells holds left faults given (Err why) now =
+    (store : List ℕ) (moment : ℕ) → Opens {N = Unit {0}} tells holds left faults (Script store) moment given (opening.Failed now why)
 
 -- ---- migration
 

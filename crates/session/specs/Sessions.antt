@@ -1,15 +1,10 @@
 -- What a whole call does: what it took, wrote and read of the clock, the exchanges that it made, and how it ended.
-use Rattle.std.specs.Prelude.{◌≡◌, ◌↔◌, ◌<◌, ◌^◌, ◌++◌, ◌∷◌, [], ◌⊎◌, ℕ, Bool, List, true, false, count_by, length, take, Option, None, Some, Result, Ok, Err}
+use Rattle.std.specs.Prelude.{◌≡◌, ◌↔◌, ◌<◌, ◌^◌, ◌++◌, ◌∷◌, [], ◌⊎◌, ℕ, Bool, List, true, false, count_by, length, take, Option, None, Some}
 use Rattle.std.specs.List.{All}
-use Rattle.cue_io.specs.declared.line.LineFault.{LineFault}
-use Rattle.cue_io.specs.declared.line.LineFault.TheVariants as line_fault
 use Rattle.fault_counts.specs.Counts.{HasRisen, HasRisenBy}
-use Rattle.cue_io.specs.History.{AreAllLines, AreFirstLines, HasGiven, IsUnfinished}
-use Rattle.cue_io.specs.Input.{IsAtEnd, Takes}
-use Rattle.cue_io.specs.Output.{Adds}
-use Rattle.cue_io.specs.Reader.{Held, Given, Whole, Long, AtEnd, Goes}
+use Rattle.cue_io.specs.History.{HasGiven}
+use Rattle.cue_io.specs.Reader.{Held, Given, Whole, Long, AtEnd}
 use Rattle.cue_io.specs.declared.limits.TheConstants.{BYTE_LIMIT}
-use Rattle.cue_io.specs.Readings.{Tells}
 use Rattle.command_line.specs.declared.status.Status.{Status}
 use Rattle.command_line.specs.declared.status.Status.TheVariants as exit
 use Rattle.farm_types.specs.Farm.{Farm}
@@ -29,8 +24,10 @@ use Rattle.farm_load.specs.recorder.specs.Recording.{ChangesNone}
 use Rattle.farm_load.specs.recorder.specs.Telling.{Tells as TellsKeeper}
 use Rattle.recovery.specs.declared.fault.RecoverFault.{RecoverFault}
 use Rattle.recovery.specs.declared.fault.RecoverFault.TheVariants.{BadBytes, BreaksFarm, NoMemory}
-use Rattle.session.specs.declared.exchanged.Exchanged.{Exchanged}
-use Rattle.session.specs.declared.exchanged.Exchanged.TheVariants as exchanged
+use Rattle.line_exchanges.specs.Calls.{CallOf, HasLines, HasMoved, Streams}
+use Rattle.line_exchanges.specs.declared.exchanged.Exchanged.{Exchanged}
+use Rattle.line_exchanges.specs.declared.exchanged.Exchanged.TheVariants as exchanged
+use Rattle.line_exchanges.specs.Exchanges.{IsStepOf}
 use Rattle.session.specs.declared.opening.OpenFault.{OpenFault}
 use Rattle.session.specs.declared.opening.OpenFault.TheVariants as fault
 use Rattle.session.specs.Loads.{AnswersLoad}
@@ -83,59 +80,17 @@ pub record IsNoExchange (old new : Farm) (wrote seen : List ℕ) (still : Type 0
   pub none_written : wrote ≡ []
   pub none_read : seen ≡ []
 
--- what came of a call of the reader, by what it gave
-abbrev pub Exchanges : Exchanged → Result Given LineFault → Farm → Farm → List ℕ → List ℕ → Going → Type 0 → Type 0 → Type 0
-Exchanges exchanged.Went answer old new wrote seen goes same still =
-    (given : Given) × (answer ≡ Ok given) × IsExchange given old new wrote [] seen goes same
-Exchanges exchanged.Write answer old new wrote seen goes same still =
-    (given : Given) × (unwritten : List ℕ) × (answer ≡ Ok given) × (0 < length unwritten) × IsExchange given old new wrote unwritten seen goes same
-Exchanges exchanged.End answer old new wrote seen goes same still = (answer ≡ Ok AtEnd) × IsNoExchange old new wrote seen still
-Exchanges exchanged.Read answer old new wrote seen goes same still = (answer ≡ Err line_fault.Read) × IsNoExchange old new wrote seen still
-Exchanges exchanged.Spent answer old new wrote seen goes same still = (answer ≡ Err line_fault.Spent) × IsNoExchange old new wrote seen still
-
--- all of the reply's text was written, or a front of it
-abbrev pub Sends : Exchanged → List ℕ → List ℕ → Type 0
-Sends exchanged.Went text wrote = wrote ≡ text
-Sends exchanged.Write text wrote = (unwritten : List ℕ) × (0 < length unwritten) × (wrote ++ unwritten ≡ text)
-Sends exchanged.End text wrote = ⊥
-Sends exchanged.Read text wrote = ⊥
-Sends exchanged.Spent text wrote = ⊥
-
 -- one step: what the reader did with the bytes taken, and what was done with what it gave
-pub record IsStep (result : Exchanged) (old new : Held) (unread : Option (List ℕ)) (before after : Farm) (took wrote seen : List ℕ) (goes : Going)
-    (same still : Type 0) : Type 0 where
-  pub answer : Result Given LineFault
-  pub moves : Goes old took answer new
-  pub at_end : old.ended ≡ false → new.ended ≡ true → IsAtEnd unread
-  pub exchanges : Exchanges result answer before after wrote seen goes same still
+abbrev pub IsStep : Exchanged → Held → Held → Option (List ℕ) → Farm → Farm → List ℕ → List ℕ → List ℕ → Going → Type 0 → Type 0 → Type 0
+IsStep result old new unread before after took wrote seen goes same still =
+    IsStepOf result old new unread took wrote (λ given wrote unwritten. IsExchange given before after wrote unwritten seen goes same)
+    (IsNoExchange before after wrote seen still)
 
 -- ---- what a call took, wrote and read
 
--- the bytes that a call took of its source and wrote to its sink, the clock's readings, and the exchanges that it made
-pub record Call : Type 0 where
-  pub taken : List ℕ
-  pub written : List ℕ
-  pub readings : List ℕ
-  pub exchanges : List Exchange
-
--- what a source has left, a sink was given and a clock has to come, each where it tells it, and the counts of faults, the keeper's too
-pub record Streams : Type 0 where
-  pub unread : Option (List ℕ)
-  pub read_faults : ℕ
-  pub written : Option (List ℕ)
-  pub write_faults : ℕ
-  pub readings : Option (List ℕ)
-  pub store_faults : ℕ
-
-abbrev pub streams : Option (List ℕ) → ℕ → Option (List ℕ) → ℕ → Option (List ℕ) → ℕ → Streams
-streams unread read_faults written write_faults readings store_faults =
-    record { unread = unread; read_faults = read_faults; written = written; write_faults = write_faults; readings = readings; store_faults = store_faults }
-
--- the bytes taken are the first that were left, those written came behind the earlier ones, and the readings are those that were to come
-pub record HasMoved (before after : Streams) (call : Call) : Type 0 where
-  pub taken : Takes before.unread after.unread call.taken
-  pub written : Adds before.written after.written call.written
-  pub readings : Tells before.readings after.readings call.readings
+-- a call, with the exchanges that it made
+abbrev pub Call : Type 0
+Call = CallOf Exchange
 
 -- ---- marks of the store
 
@@ -202,16 +157,6 @@ pub record HasAnswered (first : Farm) (exchanges : List Exchange) (farm : Farm) 
 pub record HasServed (first : Farm) (call : Call) (farm : Farm) (reader : Held) (unread : Option (List ℕ)) (goes_on : List Exchange → Type 0) : Type 0 where
   pub answered : HasAnswered first call.exchanges farm call.written call.readings goes_on
   pub given : HasGiven LINE_LIMIT call.taken (lines_in call.exchanges) reader unread
-
--- The lines that were answered, of the bytes taken, by how the session ended: all; or each whole one, and what was taken after it has no newline; or the
--- first ones, which are whole or, at the end of the source, all there was. It ends as Spent exactly where the bytes that one session takes are spent and
--- each whole line is answered.
-abbrev pub HasLines : Exchanged → List ℕ → List (List ℕ) → Option (List ℕ) → Type 0
-HasLines exchanged.Went taken lines unread = ⊥
-HasLines exchanged.End taken lines unread = AreAllLines taken lines unread × (length taken < BYTE_LIMIT)
-HasLines exchanged.Read taken lines unread = IsUnfinished taken lines × (length taken < BYTE_LIMIT)
-HasLines exchanged.Spent taken lines unread = IsUnfinished taken lines × (length taken ≡ BYTE_LIMIT)
-HasLines exchanged.Write taken lines unread = AreFirstLines taken lines unread
 
 -- The exchanges are those before and one last: the replies of those before were written, and a part of the last one's.
 pub record EndsInReply (first : Farm) (exchanges : List Exchange) (wrote : List ℕ) : Type 0 where

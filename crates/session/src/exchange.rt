@@ -6,19 +6,18 @@ ghost use Rattle.cue_io.specs.Input.{Takes};
 ghost use Rattle.cue_io.specs.Output.{Adds};
 ghost use Rattle.cue_io.specs.Reader.{IsPending};
 ghost use Rattle.cue_io.specs.Readings.{Tells};
-ghost use Rattle.session.specs.Sessions.{IsStep, Sends, WentOn};
-ghost use Rattle.farm_load.specs.line_answers.specs.Lines.{shown};
+ghost use Rattle.session.specs.Sessions.{IsStep, WentOn};
 ghost use Rattle.farm_load.specs.line_answers.specs.declared.limits.TheConstants.{ENTRIES_EACH};
 ghost use Rattle.farm_load.specs.recording_turns.specs.Resting.{split_in};
 ghost use Rattle.farm_lines.specs.declared.limits.TheConstants.{LINE_LIMIT};
 
-use crate::exchanged::Exchanged;
 use booking_table::Table;
-use cue_io::{Clock, Line, LineFault, LineReader, Sink, Source, write_all};
+use cue_io::{Clock, Line, LineFault, LineReader, Sink, Source};
 use farm_keeper::Keeper;
 use farm_load::booking_recorder::{Naming, Recorder};
 use farm_load::line_answers::{ReplyLine, answer_line, lines_are_answered_by_what_they_ask};
 use json::Scratch;
+use line_exchanges::{Exchanged, send};
 use std::alloc::Global;
 
 /// Reads one line, answers it, and writes its reply. No seat was split off of the recorder's.
@@ -52,28 +51,16 @@ pub fn exchange<S: Source, W: Sink, K: Keeper, C: Clock, N: Naming>(
             let moment = clock.now();
             let reply = answer_line(alloc, table, recorder, line, scratch, moment);
             recorder.recorded();
-            send(sink, &reply)
+            send(sink, reply.bytes())
         }
         Ok(Line::TooLong) => {
             let _moment = clock.now();
             lines_are_answered_by_what_they_ask();
             recorder.recorded();
-            send(sink, &ReplyLine::TooLong)
+            send(sink, ReplyLine::TooLong.bytes())
         }
         Ok(Line::End) => Exchanged::End,
         Err(LineFault::Read) => Exchanged::Read,
         Err(LineFault::Spent) => Exchanged::Spent,
-    }
-}
-
-// Writes a reply.
-fn send<W: Sink>(sink: &mut W, reply: &ReplyLine) -> Exchanged
-    ensures sends { (wrote : List ℕ) × Adds (W.written sink.old) (W.written sink.new) wrote × Sends result (shown reply.now) wrote }
-    ensures cause { result ≡ Exchanged.Write → HasRisen (W.faults sink.old) (W.faults sink.new) }
-    ensures rises { W.faults sink.old ≤ W.faults sink.new }
-{
-    match write_all(sink, reply.bytes()) {
-        Ok(()) => Exchanged::Went,
-        Err(_) => Exchanged::Write,
     }
 }

@@ -2,7 +2,6 @@
 #![tactic(auto)]
 
 mod exchange;
-mod exchanged;
 mod laws;
 mod load;
 mod number;
@@ -10,6 +9,7 @@ mod opening;
 mod program;
 mod run;
 mod serve;
+mod stored;
 mod word_forms;
 mod words;
 
@@ -17,7 +17,10 @@ pub use laws::{
     migrations_keep_farms, stops_keep_acknowledged_lines, stops_keep_farms,
     store_marks_stand_at_failed_calls,
 };
+pub use number::read_number;
+pub use opening::{OpenFault, Opening};
 pub use program::run_program;
 pub use run::run_cuebot;
+pub use stored::{load_stored, open_loaded};
 pub use word_forms::form;
 pub use words::Form;

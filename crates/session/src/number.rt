@@ -7,7 +7,7 @@ ghost use Rattle.session.specs.Words.{checked_between, number_between};
 use farm_lines::number_of;
 
 /// The number that 1 to 10 decimal digits write, where it is one from `least` to `most`. Zeros may stand in front.
-pub(crate) fn read_number(text: &str, least: u32, most: u32) -> Option<u32>
+pub fn read_number(text: &str, least: u32, most: u32) -> Option<u32>
     ensures value { result ≡ number_between least most text.now }
     ensures least { IfSome result (λ n. least ≤ n) }
     ensures most { IfSome result (λ n. n ≤ most) }

@@ -9,26 +9,23 @@ ghost use Rattle.farm_types.specs.Run.{IsLegal, IsLegalStep};
 ghost use Rattle.farm_load.specs.recorder.specs.Faults.{is_store_fault};
 ghost use Rattle.farm_load.specs.recorder.specs.Recording.{HasRecorded};
 ghost use Rattle.farm_load.specs.recording_turns.specs.Resting.{IsUnplaced, split_in};
-ghost use Rattle.farm_keeper.specs.Keeping.{Continues, Keeps};
-ghost use Rattle.farm_rows.specs.Rows.{HasRowsIn};
-ghost use Rattle.recovery.specs.Migration.{HasRows};
-ghost use Rattle.recovery.specs.Recovered.{recovered};
-ghost use Rattle.session.specs.Opening.{Begins, BeginsIn, GoesThrough, HasRecovered, IsLoaded, MayOpen, MigratesFrom, Opens};
-ghost use Rattle.session.specs.Opening.{IsUnbooked, is_store_failure, of_keeper, of_record, of_recovery};
+ghost use Rattle.farm_keeper.specs.Keeping.{Continues};
+ghost use Rattle.session.specs.Opening.{Begins, GoesThrough, MayOpen, Opens};
+ghost use Rattle.session.specs.Opening.{IsUnbooked, of_record};
 ghost use Rattle.farm_gen.specs.Load.{IsLoad, load_entries};
-ghost use Rattle.session.specs.Words.{IsScript, IsStated, IsWithin, opened_at, opened_entry, opening_entries, word_form};
+ghost use Rattle.session.specs.Words.{IsStated, IsWithin, opened_at, opened_entry, opening_entries, word_form};
 
+use crate::stored::open_stored;
 use crate::words::Form;
 use booking_table::{Seat, Table};
 use farm_gen::{demo_entries, load_entries, loads_are_runs};
-use farm_keeper::{Keeper, KeeperFault, Row};
+use farm_keeper::Keeper;
 use farm_law::the_demonstration_is_a_run;
 use farm_load::booking_recorder::{CommitRefusal, Naming, Recorder};
 use farm_load::farm_core::Farm;
 use farm_load::recorder::RecordFault;
-use farm_rows::ROW_FORMAT;
 use farm_types::{Act, Entry};
-use recovery::{RecoverFault, Recovered, migrate, recover, rows_recovered_are_the_farms};
+use recovery::RecoverFault;
 use std::alloc::Global;
 
 /// Why no farm was opened: the store failed, the first of its rows at fault is this one, or memory ran out.
@@ -98,112 +95,8 @@ fn open_new<K: Keeper, N: Naming>(
     }
 }
 
-// Opens the farm that the keeper's rows say.
-fn open_stored<K: Keeper, N: Naming>(
-    alloc: Global,
-    form: Form<'_>,
-    keeper: K,
-    table: &Table,
-    seat: Seat,
-    moment: u64,
-) -> Opening<K, N>
-    requires script { IsScript (word_form form) }
-    requires kept { K.tells keeper → MayOpen (word_form form) (K.holds keeper) (K.left keeper) }
-    requires table { table.now ≡ N.table }
-    requires seat { IsSeatOf table.now seat }
-    requires unplaced { IsUnplaced (view seat) }
-    ensures { Opens K.tells K.holds K.left K.faults (word_form form.entry) moment keeper result }
-{
-    rows_recovered_are_the_farms();
-    let mut keeper = keeper;
-    match load_farm(alloc, &mut keeper) {
-        Ok(recovered) => {
-            open_recovered(
-                alloc,
-                form,
-                keeper,
-                recovered.farm,
-                recovered.format,
-                table,
-                seat,
-                moment,
-            )
-        }
-        Err(fault) => Opening::Failed { keeper, fault },
-    }
-}
-
-// Opens the farm of the keeper's rows, which are of that format. A store of an older format is migrated first.
-fn open_recovered<K: Keeper, N: Naming>(
-    alloc: Global,
-    form: Form<'_>,
-    keeper: K,
-    farm: Farm,
-    format: u64,
-    table: &Table,
-    seat: Seat,
-    moment: u64,
-) -> Opening<K, N>
-    requires script { IsScript (word_form form) }
-    requires rows { HasRowsIn format farm }
-    requires kept { K.tells keeper → HasRows (K.holds keeper) (K.left keeper) format farm }
-    requires table { table.now ≡ N.table }
-    requires seat { IsSeatOf table.now seat }
-    requires unplaced { IsUnplaced (view seat) }
-    ensures { BeginsIn format K.tells K.holds K.left K.faults (word_form form.entry) moment farm keeper result }
-{
-    let mut keeper = keeper;
-    match migrated(alloc, &mut keeper, &farm, format) {
-        Ok(()) => begin(alloc, form, farm, keeper, table, seat, moment),
-        Err(fault) => Opening::Failed { keeper, fault },
-    }
-}
-
-// Makes rows of format 1 those of the format in which rows are written.
-fn migrated<K: Keeper>(
-    alloc: Global,
-    keeper: &mut K,
-    farm: &Farm,
-    format: u64,
-) -> Result<(), OpenFault>
-    requires { HasRowsIn format farm.now }
-    ensures rows { MigratesFrom format (K.holds keeper.old) (K.left keeper.old) (K.holds keeper.new) (K.left keeper.new) farm.now result }
-    ensures keeper { Continues K.tells K.faults keeper.old keeper.new (is_store_failure result) }
-{
-    if format == ROW_FORMAT {
-        return Ok(());
-    }
-    match migrate(alloc, keeper, farm) {
-        Ok(()) => Ok(()),
-        Err(fault) => Err(of_keeper(fault)),
-    }
-}
-
-// The farm that the keeper's rows say, and their format.
-fn load_farm<K: Keeper>(alloc: Global, keeper: &mut K) -> Result<Recovered, OpenFault>
-    ensures farm { IsLoaded (K.tells keeper.new) (K.holds keeper.old) result }
-    ensures keeper { Continues K.tells K.faults keeper.old keeper.new (is_store_failure result) }
-    ensures kept { Keeps (K.holds keeper.old) (K.holds keeper.new) }
-    ensures left { Keeps (K.left keeper.new) (K.left keeper.old) }
-{
-    match keeper.load(alloc) {
-        Ok(rows) => recover_farm(alloc, rows.as_slice()),
-        Err(fault) => Err(of_keeper(fault)),
-    }
-}
-
-// The farm of these rows, and their format.
-fn recover_farm(alloc: Global, rows: &[Row]) -> Result<Recovered, OpenFault>
-    ensures { HasRecovered (recovered rows.now) result }
-{
-    match recover(alloc, rows) {
-        Ok(recovered) => Ok(recovered),
-        Err(fault) => Err(of_recovery(fault)),
-    }
-}
-
-// Places a farm that its keeper holds, and records its opening.
-fn begin<K: Keeper, N: Naming>(
+/// Places a farm that its keeper holds, and records its opening.
+pub(crate) fn begin<K: Keeper, N: Naming>(
     alloc: Global,
     form: Form<'_>,
     farm: Farm,
@@ -374,24 +267,6 @@ fn record<K: Keeper, N: Naming>(
         Err(CommitRefusal::Held { .. }) => unreachable!(),
         Err(CommitRefusal::Store) => Err(RecordFault::Store),
         Err(CommitRefusal::NoMemory) => Err(RecordFault::NoMemory),
-    }
-}
-
-fn of_keeper(fault: KeeperFault) -> OpenFault
-    ensures { result ≡ of_keeper fault }
-{
-    match fault {
-        KeeperFault::Failed => OpenFault::Store,
-        KeeperFault::NoMemory => OpenFault::NoMemory,
-    }
-}
-
-fn of_recovery(fault: RecoverFault) -> OpenFault
-    ensures { result ≡ of_recovery fault }
-{
-    match fault {
-        RecoverFault::NoMemory => OpenFault::NoMemory,
-        fault => OpenFault::Bad { fault },
     }
 }
 

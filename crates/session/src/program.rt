@@ -4,7 +4,8 @@ ghost use Rattle.std.specs.Prelude.{◌≡◌, ◌↔◌, None, Some};
 ghost use Rattle.fault_counts.specs.Counts.{HasRisen};
 ghost use Rattle.session.specs.Opening.{BeginsBad, BeginsWith, HoldsFarm, IsUnmigrated, IsUntouched, MayOpen};
 ghost use Rattle.session.specs.Hints.{HasTold, hint_of};
-ghost use Rattle.session.specs.Sessions.{Call, GoesOnOpened, IsCall, streams};
+ghost use Rattle.line_exchanges.specs.Calls.{streams};
+ghost use Rattle.session.specs.Sessions.{Call, GoesOnOpened, IsCall};
 ghost use Rattle.session.specs.Words.{WordForm, form_of};
 
 use crate::run::run_cuebot;

@@ -12,10 +12,10 @@ ghost use Rattle.session.specs.Opening.{BeginsBad, BeginsWith, HoldsFarm, IsUnmi
 ghost use Rattle.farm_load.specs.recording_turns.specs.Resting.{IsAtRest, IsUnplaced, split_in};
 ghost use Rattle.session.specs.Seats.{HasRoom};
 ghost use Rattle.session.specs.Sessions.{AnswersAll, AnswersForm, Call, GoesOnOpened, IsCall, MayTell, RecordsOver, TellsBad, TellsFault, TellsLine};
-ghost use Rattle.session.specs.Sessions.{status_of, streams};
+ghost use Rattle.line_exchanges.specs.Calls.{streams};
+ghost use Rattle.session.specs.Sessions.{status_of};
 ghost use Rattle.session.specs.Words.{IsWithin, WordForm, form_of, word_form};
 
-use crate::exchanged::Exchanged;
 use crate::load::answer_load;
 use crate::opening::{OpenFault, Opening, open};
 use crate::serve::serve;
@@ -31,6 +31,7 @@ use farm_load::booking_recorder::{Naming, Recorder};
 use farm_load::line_answers::sessions_are_legal;
 use farm_types::Text;
 use json::Scratch;
+use line_exchanges::Exchanged;
 use recovery::RecoverFault;
 use report_codec::write_bad_store;
 use std::alloc::Global;

@@ -5,16 +5,17 @@ ghost use Rattle.farm_load.specs.recording_turns.specs.Resting.{split_in};
 ghost use Rattle.session.specs.Seats.{HasRoom};
 ghost use Rattle.fault_counts.specs.Counts.{HasRisen};
 ghost use Rattle.cue_io.specs.Reader.{new_reader};
-ghost use Rattle.session.specs.Sessions.{Call, EndsSession, HasMoved, RecordsOver, streams};
+ghost use Rattle.line_exchanges.specs.Calls.{HasMoved, streams};
+ghost use Rattle.session.specs.Sessions.{Call, EndsSession, RecordsOver};
 ghost use Rattle.farm_lines.specs.declared.limits.TheConstants.{LINE_LIMIT};
 
 use crate::exchange::exchange;
-use crate::exchanged::Exchanged;
 use booking_table::Table;
 use cue_io::{Clock, LineReader, Sink, Source};
 use farm_keeper::Keeper;
 use farm_load::booking_recorder::{Naming, Recorder};
 use json::Scratch;
+use line_exchanges::Exchanged;
 use std::alloc::Global;
 
 /// Answers line after line until the input ends or an I/O error comes, and says which.

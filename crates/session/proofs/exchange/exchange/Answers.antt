@@ -11,6 +11,7 @@ use Rattle.farm_load.specs.recorder.proofs.Told.{tells_still}
 use Rattle.farm_types.specs.Farm.{Farm}
 use Rattle.farm_load.specs.line_answers.specs.LineAnswers.{Going}
 use Rattle.farm_load.specs.line_answers.specs.Lines.{shown}
+use Rattle.line_exchanges.specs.Exchanges.{Sends}
 use Rattle.session.specs.Sessions.{WentOn}
 use Rattle.session.proofs.ExchangeLemmas.{step_answered, line_fits, answers_long, answers_whole}
 use Rattle.session.proofs.exchange.exchange.Goals as goal
@@ -47,7 +48,8 @@ returns-in-Ok-Bytes-clause-step g c =
                 subst (λ (f : Farm). HasRecorded (g.K.Keeper.holds c.answer_line-reply.new.recorder.keeper) (g.K.Keeper.left c.answer_line-reply.new.recorder.keeper) f) is
                 (c.recorded.ensures told);
           })
-          c.answer_line-reply.ensures.answer c.answer_line-reply.ensures.same) sent.2,
+          c.answer_line-reply.ensures.answer c.answer_line-reply.ensures.same)
+          (subst (λ (text : List ℕ). Sends c.send.result text sent.0) c.bytes.ensures sent.2),
     )
 
 pub returns-in-Ok-TooLong-clause-step : goal.returns-in-Ok-TooLong-clause-step
@@ -72,5 +74,6 @@ returns-in-Ok-TooLong-clause-step g c =
           (record {
             on = record { keeper = Continues-same g.K.Keeper.tells g.K.Keeper.faults k; told = tells_still g.K.Keeper.commits f [] k; journals = journals_none r.view };
             recorded = c.recorded-in-Ok-TooLong.ensures;
-          }) refl) sent.2,
+          }) refl)
+          (subst (λ (bytes : List ℕ). Sends c.send-in-Ok-TooLong.result bytes sent.0) c.bytes-in-Ok-TooLong.ensures sent.2),
     )

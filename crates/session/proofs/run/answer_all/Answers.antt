@@ -5,7 +5,8 @@ use Rattle.farm_types.specs.Farm.{Farm}
 use Rattle.farm_types.specs.Kept.{IsKeptFarm}
 use Rattle.session.specs.Opening.{HoldsFarm}
 use Rattle.booking_rule.specs.declared.view.View.{View}
-use Rattle.session.specs.Sessions.{AnswersAll, RecordsOver, Streams, streams}
+use Rattle.line_exchanges.specs.Calls.{Streams, streams}
+use Rattle.session.specs.Sessions.{AnswersAll, RecordsOver}
 use Rattle.session.proofs.KeeperLemmas.{over_told}
 use Rattle.session.proofs.RunLemmas.{answers_all}
 use Rattle.session.proofs.run.answer_all.Goals as goal

@@ -6,7 +6,8 @@ use Rattle.session.specs.Opening.{HoldsFarm}
 use Rattle.farm_types.specs.declared.entry.Entry.{Entry}
 use Rattle.farm_load.specs.booking_recorder.specs.Going.{Journals}
 use Rattle.booking_table.specs.Seats.{view}
-use Rattle.session.specs.Sessions.{AnswersForm, RecordsOver, Streams, streams}
+use Rattle.line_exchanges.specs.Calls.{Streams, streams}
+use Rattle.session.specs.Sessions.{AnswersForm, RecordsOver}
 use Rattle.session.specs.Words.{word_form}
 use Rattle.session.proofs.RunLemmas.{load_called, told_call}
 use Rattle.session.proofs.run.answer_opened.Goals as goal

@@ -1,6 +1,6 @@
 -- No farm, and a session or a load over one.
 use Rattle.std.proofs.Common.{[], ◌∷◌, refl}
-use Rattle.session.specs.Sessions.{Streams, streams}
+use Rattle.line_exchanges.specs.Calls.{Streams, streams}
 use Rattle.session.specs.Words.{word_form}
 use Rattle.session.proofs.OpenedWays.{failed_risen}
 use Rattle.session.proofs.RunLemmas.{called_failed, called_opened, opened_call, opened_still, told_call}

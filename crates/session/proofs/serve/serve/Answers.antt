@@ -10,11 +10,13 @@ use Rattle.cue_io.specs.declared.limits.TheConstants.{BYTE_LIMIT}
 use Rattle.cue_io.specs.Readings.{Tells-none}
 use Rattle.farm_lines.specs.Transcript.{Exchange}
 use Rattle.farm_load.specs.booking_recorder.proofs.Journaled.{journals_none}
-use Rattle.session.specs.Sessions.{Call, RecordsOver, Streams, WentOn, streams}
+use Rattle.line_exchanges.specs.Calls.{Streams, streams}
+use Rattle.session.specs.Sessions.{Call, RecordsOver, WentOn}
 use Rattle.session.proofs.ExchangeLemmas.{line_taken}
 use Rattle.session.proofs.KeeperLemmas.{records_more, records_still}
 use Rattle.session.proofs.SeatLemmas.{exchange_room}
-use Rattle.session.proofs.SessionLemmas.{moved_more, served_went, served_ended}
+use Rattle.line_exchanges.proofs.Moves.{moved_more}
+use Rattle.session.proofs.SessionLemmas.{served_went, served_ended}
 use Rattle.session.proofs.serve.serve.Goals as goal
 use Rattle.farm_lines.specs.declared.limits.TheConstants.{LINE_LIMIT}
 

@@ -2,7 +2,8 @@
 use Rattle.std.proofs.Common.{◌≤◌, ◌+◌, length}
 use Rattle.cue_io.specs.Reader.{lines_left}
 use Rattle.cue_io.specs.declared.limits.TheConstants.{BYTE_LIMIT}
-use Rattle.session.specs.Sessions.{Call, HasMoved, HasServed, RecordsOver, streams}
+use Rattle.line_exchanges.specs.Calls.{HasMoved, streams}
+use Rattle.session.specs.Sessions.{Call, HasServed, RecordsOver}
 use Rattle.session.proofs.serve.serve.Given as goal
 
 abbrev pub invariant-exchanges : goal.invariant-exchanges

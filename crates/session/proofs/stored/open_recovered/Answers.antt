@@ -2,7 +2,7 @@ use Rattle.session.specs.Words.{word_form}
 use Rattle.session.proofs.OpenedLegal.{script_opened, script_within}
 use Rattle.session.proofs.OpenedStore.{rows_recorded}
 use Rattle.session.proofs.OpenedWays.{begun_later, old_stays}
-use Rattle.session.proofs.opening.open_recovered.Goals as goal
+use Rattle.session.proofs.stored.open_recovered.Goals as goal
 
 pub begin-requires-clause-recorded : goal.begin-requires-clause-recorded
 begin-requires-clause-recorded g c =

@@ -1,5 +1,5 @@
 use Rattle.session.proofs.OpenedWays.{format_old, keeper_unmigrated, rows_migrated, rows_stand, rows_unmigrated}
-use Rattle.session.proofs.opening.migrated.Goals as goal
+use Rattle.session.proofs.stored.migrated.Goals as goal
 
 pub returns-then-format-eq-ROW_FORMAT-clause-rows : goal.returns-then-format-eq-ROW_FORMAT-clause-rows
 returns-then-format-eq-ROW_FORMAT-clause-rows g c =

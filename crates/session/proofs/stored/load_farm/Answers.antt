@@ -4,7 +4,7 @@ use Rattle.farm_keeper.specs.Keeping.{Continues}
 use Rattle.recovery.specs.Recovered.{recovered}
 use Rattle.session.specs.Opening.{HasRecovered}
 use Rattle.session.proofs.OpenedWays.{no_store_failed, rows_loaded}
-use Rattle.session.proofs.opening.load_farm.Goals as goal
+use Rattle.session.proofs.stored.load_farm.Goals as goal
 
 pub returns-in-Ok-clause-farm : goal.returns-in-Ok-clause-farm
 returns-in-Ok-clause-farm g c =
