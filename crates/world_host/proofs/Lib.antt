@@ -1,0 +1,2 @@
+pub mod FewStarts
+pub mod RunsAmong

@@ -1,0 +1,13 @@
+pub mod Among
+pub mod Attempts
+pub mod Boots
+pub mod Counting
+pub mod Ends
+pub mod Happens
+pub mod Hosts
+pub mod KeptWorld
+pub mod Lines
+pub mod Outcomes
+pub mod Promises
+pub mod Texts
+pub mod World
