@@ -1,5 +1,5 @@
 -- Step by step, a session moves its streams and answers the lines of the bytes taken.
-use Rattle.std.proofs.Common.{◌≡◌, ◌<◌, ◌+◌, ℕ, List, ◌++◌, length, sym, ap, ◌∙◌, refl, subst, Option, Result, Ok, Err, length-append}
+use Rattle.std.proofs.Common.{◌≡◌, ◌<◌, ◌+◌, ℕ, List, ◌++◌, length, sym, ap, ◌∙◌, subst, Option, Result, Ok, Err, length-append}
 use Rattle.cue_io.specs.declared.line.LineFault.{LineFault}
 use Rattle.cue_io.specs.declared.line.LineFault.TheVariants as line_fault
 use Rattle.cue_io.specs.History.{Continues, HasGiven, HasGiven-next}

@@ -1,5 +1,5 @@
 -- Exchange by exchange, a session is the transcript of its lines.
-use Rattle.std.proofs.Common.{◌≡◌, ◌<◌, ◌^◌, ◌+◌, ℕ, Bool, true≢false, cond, List, [], ◌∷◌, ◌++◌, refl, sym, ap, ◌∙◌, subst, Option, Result, Ok, Err, append_assoc, append-nil, length, length-append}
+use Rattle.std.proofs.Common.{◌≡◌, ◌<◌, ◌^◌, ◌+◌, ℕ, Bool, true≢false, cond, List, [], ◌∷◌, ◌++◌, refl, sym, ap, ◌∙◌, subst, Option, Ok, append_assoc, append-nil, length, length-append}
 use Rattle.std.proofs.lemmas.Bool.{lt-ltb}
 use Rattle.std.proofs.lemmas.List.{map-append}
 use Rattle.std.proofs.lemmas.List.Elements.{All-push}
@@ -17,7 +17,7 @@ use Rattle.line_exchanges.specs.declared.exchanged.Exchanged.{Exchanged}
 use Rattle.line_exchanges.specs.declared.exchanged.Exchanged.TheVariants as exchanged
 use Rattle.farm_load.specs.line_answers.specs.LineAnswers.{Going, IsAnswer, IsMarked}
 use Rattle.farm_load.specs.recorder.specs.Recording.{ChangesNone}
-use Rattle.line_exchanges.specs.Calls.{HasLines, HasMoved, Streams}
+use Rattle.line_exchanges.specs.Calls.{HasLines}
 use Rattle.session.specs.Sessions.{Answers, AreMarked, Call, EndsSession, HasAnswered, HasReplies, HasServed, IsExchange, IsNoExchange, IsStep, MayStand, StaysAt, entries_by}
 use Rattle.farm_lines.specs.declared.limits.TheConstants.{LINE_LIMIT}
 

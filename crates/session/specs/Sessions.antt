@@ -1,5 +1,5 @@
 -- What a whole call does: what it took, wrote and read of the clock, the exchanges that it made, and how it ended.
-use Rattle.std.specs.Prelude.{◌≡◌, ◌↔◌, ◌<◌, ◌^◌, ◌++◌, ◌∷◌, [], ◌⊎◌, ℕ, Bool, List, true, false, count_by, length, take, Option, None, Some}
+use Rattle.std.specs.Prelude.{◌≡◌, ◌↔◌, ◌<◌, ◌^◌, ◌++◌, ◌∷◌, [], ◌⊎◌, ℕ, Bool, List, false, count_by, length, take, Option, None, Some}
 use Rattle.std.specs.List.{All}
 use Rattle.fault_counts.specs.Counts.{HasRisen, HasRisenBy}
 use Rattle.cue_io.specs.History.{HasGiven}

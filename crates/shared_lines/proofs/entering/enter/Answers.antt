@@ -13,8 +13,8 @@ use Rattle.shared_lines.proofs.entering.enter.Goals as goal
 
 pub catch_up-requires-clause-opening : goal.catch_up-requires-clause-opening
 catch_up-requires-clause-opening g c =
-    opening_after c.notice.new.recorder.view c.answer_entry-came.new.recorder.view c.args.entry.now c.answer_entry-came.result c.answer_entry-came.ensures.journal
-    ∙ c.notice.ensures.ready.starts
+    opening_after c.notice.new.recorder.view c.answer_entry-came.new.recorder.view c.args.entry.now c.answer_entry-came.result
+    c.answer_entry-came.ensures.journal ∙ c.notice.ensures.ready.starts
 
 pub returns-clause-free : goal.returns-clause-free
 returns-clause-free g c =

@@ -19,5 +19,6 @@ returns-clause-replied g c =
 
 pub returns-clause-grows : goal.returns-clause-grows
 returns-clause-grows g c =
-    prefix_then c.args.pass.now.view.journal c.book_round-round.new.pass.view.journal c.reply_locked.new.pass.view.journal c.book_round-round.ensures.grows.journal
+    prefix_then c.args.pass.now.view.journal c.book_round-round.new.pass.view.journal c.reply_locked.new.pass.view.journal
+    c.book_round-round.ensures.grows.journal
     c.reply_locked.ensures.caught.learns.journal

@@ -1,5 +1,5 @@
 -- Before the first line, after one more, and at the last.
-use Rattle.std.proofs.Common.{[], ◌++◌, ◌∙◌, refl, arith}
+use Rattle.std.proofs.Common.{[], ◌++◌, arith}
 use Rattle.fault_counts.proofs.CountLaws.{HasRisen-earlier}
 use Rattle.cue_io.specs.Input.{Takes-none}
 use Rattle.cue_io.specs.Output.{Adds-none}
@@ -8,7 +8,6 @@ use Rattle.line_exchanges.proofs.Moves.{moved_more}
 use Rattle.line_exchanges.specs.Calls.{Streams, streams}
 use Rattle.shared_lines.specs.line_answers.specs.booking_recorder.proofs.Rests.{prefix_same, prefix_then}
 use Rattle.shared_sessions.specs.Sessions.{ServedCall}
-use Rattle.shared_sessions.proofs.Answered.{line_taken}
 use Rattle.shared_sessions.proofs.ServedLines.{served_ended, serving_none, serving_went}
 use Rattle.shared_sessions.proofs.lines.answer_lines.Goals as goal
 
