@@ -15,7 +15,8 @@ use std::alloc::{AllocError, Global};
 use std::marker::Model;
 use std::mem;
 
-/// A render host: the present life of its daemon, the nonces that it has used, the present one too, and the attempts that this life was told to start, in order.
+/// A render host: the present life of its daemon, the nonces that it has used, the present one too, and the attempts
+/// that this life was told to start, in order.
 #[derive(Debug, Drop)]
 pub struct Host {
     // That of the present life.

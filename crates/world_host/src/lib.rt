@@ -1,4 +1,5 @@
-//! A render host of a lossy world: the present life of its daemon, the nonces that it has used, and what this life was told to start.
+//! A render host of a lossy world: the present life of its daemon, the nonces that it has used, and what this life was
+//! told to start.
 #![tactic(auto)]
 
 mod config;
