@@ -3,6 +3,7 @@ use child_spawner::ChildSpawner;
 use farm_types::{Attempt, Exit, Slot, Version};
 use rqd_launcher::{SpawnFault, Spawner};
 use std::alloc::Global;
+use std::process::{Command, Processes, Stdio};
 use std::rt::Clock;
 use std::test::Fail;
 use std::thread;
@@ -44,6 +45,9 @@ exit 1";
 // How many polls a child has to end, with a pause of 10 ms after each.
 const MOST_POLLS: u32 = 2_000;
 
+// How often a call is tried that the machine refuses, with a pause of 100 ms after each: a busy one may have no place for another process.
+const MOST_TRIES: u32 = 200;
+
 // How an attempt ended, once it has.
 fn ended<P: Spawner>(
     rt: &impl Clock,
@@ -61,6 +65,56 @@ fn ended<P: Spawner>(
     Ok(None)
 }
 
+// Starts an attempt once the machine does it, and counts how often it was refused.
+fn start<P: Spawner, R: Clock + Processes>(
+    rt: &R,
+    alloc: Global,
+    spawner: &mut P,
+    refused: &mut u64,
+    attempt: Attempt,
+    command: &str,
+) -> Result<(), Fail> {
+    for _try in 0..MOST_TRIES {
+        match spawner.start(alloc, attempt, command) {
+            Err(SpawnFault::Failed) => count(rt, refused),
+            ended => return Ok(ended?),
+        }
+    }
+    start_nothing(rt, alloc)
+}
+
+// Stops one, as it is started.
+fn stop<P: Spawner, R: Clock + Processes>(
+    rt: &R,
+    alloc: Global,
+    spawner: &mut P,
+    refused: &mut u64,
+    attempt: Attempt,
+) -> Result<(), Fail> {
+    for _try in 0..MOST_TRIES {
+        match spawner.stop(alloc, attempt) {
+            Err(SpawnFault::Failed) => count(rt, refused),
+            ended => return Ok(ended?),
+        }
+    }
+    start_nothing(rt, alloc)
+}
+
+// Counts a refusal, and lets the machine have its time.
+fn count(rt: &impl Clock, refused: &mut u64) {
+    *refused = refused.saturating_add(1);
+    thread::sleep(rt, Duration::from_millis(100));
+}
+
+// Fails by what the machine says of a program that does nothing, and in any case.
+fn start_nothing<R: Processes>(rt: &R, alloc: Global) -> Result<(), Fail> {
+    Command::new(alloc, "setsid")?
+        .arg("true")?
+        .stdin(Stdio::null())
+        .status(rt)?;
+    Err(SpawnFault::Failed)?
+}
+
 fn exit(status: u32, signal: u32) -> Option<Exit> {
     Some(Exit { status, signal })
 }
@@ -69,12 +123,20 @@ fn exit(status: u32, signal: u32) -> Option<Exit> {
 fn a_command_ends_with_its_status(rt: HostRuntime) -> Result<(), Fail> {
     let alloc = rt.alloc();
     let mut spawner = ChildSpawner::make(alloc, rt);
-    spawner.start(alloc, FIRST, SILENT)?;
-    spawner.start(alloc, OTHER, "/no/such/command")?;
+    let mut refused = 0;
+    start(&rt, alloc, &mut spawner, &mut refused, FIRST, SILENT)?;
+    start(
+        &rt,
+        alloc,
+        &mut spawner,
+        &mut refused,
+        OTHER,
+        "/no/such/command",
+    )?;
     assert_eq!(rt; ended(&rt, alloc, &mut spawner, &FIRST)?, exit(3, 0));
     assert_eq!(rt; ended(&rt, alloc, &mut spawner, &OTHER)?, exit(127, 0));
     assert_eq!(rt; spawner.poll(alloc, FIRST)?, None);
-    assert_eq!(rt; spawner.faults(), 0);
+    assert_eq!(rt; spawner.faults(), refused);
     Ok(())
 }
 
@@ -82,12 +144,14 @@ fn a_command_ends_with_its_status(rt: HostRuntime) -> Result<(), Fail> {
 fn an_older_attempt_of_a_slot_is_another_one(rt: HostRuntime) -> Result<(), Fail> {
     let alloc = rt.alloc();
     let mut spawner = ChildSpawner::make(alloc, rt);
-    spawner.start(alloc, FIRST, "sleep 100")?;
-    spawner.start(alloc, AGAIN, "exit 5")?;
+    let mut refused = 0;
+    start(&rt, alloc, &mut spawner, &mut refused, FIRST, "sleep 100")?;
+    start(&rt, alloc, &mut spawner, &mut refused, AGAIN, "exit 5")?;
     assert_eq!(rt; ended(&rt, alloc, &mut spawner, &AGAIN)?, exit(5, 0));
     assert_eq!(rt; spawner.poll(alloc, FIRST)?, None);
-    spawner.stop(alloc, FIRST)?;
+    stop(&rt, alloc, &mut spawner, &mut refused, FIRST)?;
     assert_eq!(rt; ended(&rt, alloc, &mut spawner, &FIRST)?, exit(1, 9));
+    assert_eq!(rt; spawner.faults(), refused);
     Ok(())
 }
 
@@ -95,15 +159,30 @@ fn an_older_attempt_of_a_slot_is_another_one(rt: HostRuntime) -> Result<(), Fail
 fn a_stop_ends_all_that_a_command_started(rt: HostRuntime) -> Result<(), Fail> {
     let alloc = rt.alloc();
     let mut spawner = ChildSpawner::make(alloc, rt);
-    spawner.start(alloc, FIRST, "sleep 100 & sleep 100")?;
+    let mut refused = 0;
+    start(
+        &rt,
+        alloc,
+        &mut spawner,
+        &mut refused,
+        FIRST,
+        "sleep 100 & sleep 100",
+    )?;
     assert_eq!(rt; spawner.poll(alloc, FIRST)?, None);
-    spawner.stop(alloc, FIRST)?;
+    stop(&rt, alloc, &mut spawner, &mut refused, FIRST)?;
     assert_eq!(rt; ended(&rt, alloc, &mut spawner, &FIRST)?, exit(1, 9));
-    spawner.stop(alloc, FIRST)?;
-    spawner.stop(alloc, OTHER)?;
-    spawner.start(alloc, AGAIN, ALL_WAITED_FOR)?;
+    stop(&rt, alloc, &mut spawner, &mut refused, FIRST)?;
+    stop(&rt, alloc, &mut spawner, &mut refused, OTHER)?;
+    start(
+        &rt,
+        alloc,
+        &mut spawner,
+        &mut refused,
+        AGAIN,
+        ALL_WAITED_FOR,
+    )?;
     assert_eq!(rt; ended(&rt, alloc, &mut spawner, &AGAIN)?, exit(0, 0));
-    assert_eq!(rt; spawner.faults(), 0);
+    assert_eq!(rt; spawner.faults(), refused);
     Ok(())
 }
 
