@@ -1,0 +1,2 @@
+mod FirstPasses
+mod ServeEnds
