@@ -1,14 +1,14 @@
 //! The program's call over the machine's own streams and clock.
 
 ghost use Rattle.std.specs.Prelude.{◌≡◌, Some};
-ghost use Rattle.session.specs.Opening.{MayOpen};
-ghost use Rattle.session.specs.Words.{WordForm, form_of};
+ghost use Rattle.serving.specs.session.specs.Opening.{MayOpen};
+ghost use Rattle.serving.specs.session.specs.Words.{WordForm, form_of};
 
 use command_line::Status;
 use cue_io::{InputSource, OutputSink, SystemClock};
 use farm_keeper::Keeper;
 use farm_types::Text;
-use session::run_program;
+use serving::session::run_program;
 use std::io::{self, IsTerminal};
 
 /// Runs the program over the standard streams, the machine's clock and a keeper, which is given back.

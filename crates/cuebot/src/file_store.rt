@@ -1,7 +1,7 @@
 //! The program over a file that keeps its farm.
 
 ghost use Rattle.std.specs.Prelude.{◌≡◌, Some};
-ghost use Rattle.session.specs.Words.{IsScript, WordForm, form_of};
+ghost use Rattle.serving.specs.session.specs.Words.{IsScript, WordForm, form_of};
 
 use crate::answering::answer;
 use command_line::Status;
@@ -19,8 +19,15 @@ pub fn answer_over_file<S: Start>(rt: &HostRuntime, words: &[Text], path: &str, 
             let _closed = keeper.into_connection().close();
             status
         }
-        Err(FileFault::NoMemory) => Status::NoMemory,
-        Err(fault) => {
+        Err(fault) => tell_fault(rt, path, fault),
+    }
+}
+
+/// Tells on standard error why the file of a path can't be opened, and says the status for it.
+pub fn tell_fault(rt: &HostRuntime, path: &str, fault: FileFault) -> Status {
+    match fault {
+        FileFault::NoMemory => Status::NoMemory,
+        fault => {
             let _told = eprintln!(rt; "cuebot: {path}: {fault}");
             Status::StoreFailed
         }

@@ -1,5 +1,5 @@
 -- The keeper is new, so that a farm may be opened in it.
-use Rattle.session.proofs.NewKeepers.{may_open}
+use Rattle.serving.specs.session.proofs.NewKeepers.{may_open}
 use Rattle.cuebot.proofs.answer_in_memory.Goals as goal
 
 pub answer-status-requires : goal.answer-status-requires

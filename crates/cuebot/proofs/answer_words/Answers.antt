@@ -1,8 +1,8 @@
 -- Words that name a file are those of a script.
 use Rattle.std.proofs.Common.{rules, ◌≡◌, ◌∙◌, Some, sym, ap}
 use Rattle.std.specs.Prelude.{option_and_then}
-use Rattle.session.specs.Words.{file_of, form_of}
-use Rattle.session.proofs.NewKeepers.{files_are_scripts}
+use Rattle.serving.specs.session.specs.Words.{file_of, form_of}
+use Rattle.serving.specs.session.proofs.NewKeepers.{files_are_scripts}
 use Rattle.cuebot.proofs.answer_words.Goals as goal
 
 pub answer_over_file-requires : goal.answer_over_file-requires

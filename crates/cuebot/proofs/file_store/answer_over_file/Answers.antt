@@ -1,5 +1,5 @@
 -- No commit of a keeper over a file was refused.
-use Rattle.session.proofs.NewKeepers.{may_open_kept}
+use Rattle.serving.specs.session.proofs.NewKeepers.{may_open_kept}
 use Rattle.sqlite.specs.Files.{file_state}
 use Rattle.keeper_sqlite.specs.Told.{Holds, Leaves}
 use Rattle.cuebot.proofs.file_store.answer_over_file.Goals as goal
