@@ -8,7 +8,10 @@ use crate::opened::Opened;
 use booking_table::Table;
 use dispatcher::booking_recorder::{Pass, PassRefusal, Recorder};
 use farm_keeper::Keeper;
-use std::sync::{Mutex, Wait};
+use std::sync::{Mutex, MutexGuard, Wait};
+
+// So often a lock that another has is tried before the thread sleeps. What is done under it takes a few microseconds, and waking a thread takes as long again.
+const TRIES: u32 = 500;
 
 /// What dispatchers share: the words, and the recorder behind a lock.
 #[derive(Drop)]
@@ -35,7 +38,17 @@ impl<K: Keeper, N: Opened> Bot<K, N> {
     pub fn pass(&self, rt: &impl Wait) -> Result<Pass<N>, PassRefusal>
         ensures { IfOk result (λ p. IsFree N.opening p.view × (p.view.receipts ≡ []) × (p.faults ≡ 0)) }
     {
-        self.desk.lock(rt).pass(&self.table)
+        self.hold(rt).pass(&self.table)
+    }
+
+    /// Takes the lock, which it tries for a while before it sleeps.
+    pub fn hold<R: Wait>(&self, rt: &R) -> MutexGuard<'_, Locked<K, N>> {
+        for _ in 0..TRIES {
+            if let Some(held) = self.desk.try_lock() {
+                return held;
+            }
+        }
+        self.desk.lock(rt)
     }
 
     /// The recorder, once no one else has the lock.

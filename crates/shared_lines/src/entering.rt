@@ -57,7 +57,7 @@ fn enter_locked<K: Keeper, N: Opened, R: Wait>(
     ensures hindered { IfErr result (λ why. IsHinderedBy pass.old entry.now why pass.new) }
     ensures grows { IsPrefix pass.old.view.journal pass.new.view.journal }
 {
-    let mut held = bot.desk.lock(rt);
+    let mut held = bot.hold(rt);
     enter_held(alloc, &bot.table, &mut held, pass, entry)
 }
 

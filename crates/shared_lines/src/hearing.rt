@@ -31,7 +31,7 @@ pub(crate) fn hear_locked<K: Keeper, N: Opened, R: Wait>(
     ensures hears { HearsBeside pass.old entry.now result pass.new }
     ensures grows { IsPrefix pass.old.view.journal pass.new.view.journal }
 {
-    let mut held = bot.desk.lock(rt);
+    let mut held = bot.hold(rt);
     hear_held(alloc, &bot.table, &mut held, pass, entry)
 }
 

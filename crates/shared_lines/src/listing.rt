@@ -31,7 +31,7 @@ pub(crate) fn answer_query<K: Keeper, N: Opened, R: Wait>(
     ensures answer { (moment : ℕ) → IsListedAt pass.old query moment (shown result) pass.new }
     ensures grows { IsPrefix pass.old.view.journal pass.new.view.journal }
 {
-    let mut held = bot.desk.lock(rt);
+    let mut held = bot.hold(rt);
     list_held(alloc, &bot.table, &mut held, pass, query)
 }
 

@@ -32,7 +32,7 @@ pub(crate) fn reply_locked<K: Keeper, N: Opened, R: Wait>(
     ensures caught { CaughtUp pass.old pass.new [] 0 }
     ensures line { IsLineOf (report_reply (farm_in pass.new.view) host (told heard.now running.now) cut) (shown result) }
 {
-    let mut held = bot.desk.lock(rt);
+    let mut held = bot.hold(rt);
     reply_held(
         alloc, &bot.table, &mut held, pass, host, heard, running, cut,
     )

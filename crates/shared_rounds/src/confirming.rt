@@ -58,7 +58,7 @@ fn confirm_locked<K: Keeper, N: Opened, R: Wait>(
         (λ row. IsBooked claim moment row pass.old pass.new)
         (λ left. (left.0 ≡ claim) × IsUnbooked claim left.1 pass.old pass.new) }
 {
-    let mut held = bot.desk.lock(rt);
+    let mut held = bot.hold(rt);
     confirm_held(alloc, &bot.table, &mut held, pass, claim, moment)
 }
 

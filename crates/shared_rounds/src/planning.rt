@@ -31,7 +31,7 @@ pub(crate) fn take_plan<K: Keeper, N: Opened, R: Wait>(
     ensures plan { IfOk result (λ cs. cs ≡ plan_for (farm_in pass.new.view) host) }
     ensures due { IfOk result (AreDue pass.new.view) }
 {
-    let mut held = bot.desk.lock(rt);
+    let mut held = bot.hold(rt);
     plan_held(alloc, &bot.table, &mut held, pass, host)
 }
 
