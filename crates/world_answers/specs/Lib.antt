@@ -1,0 +1,9 @@
+pub mod Acting
+pub mod Committing
+pub mod Ending
+pub mod Leaving
+pub mod Marks
+pub mod Refusing
+pub mod Reporting
+pub mod Trials
+pub mod Walking
