@@ -1,0 +1,2 @@
+mod HostsStay
+mod Unbooked
