@@ -1,5 +1,5 @@
 -- What a request of one entry comes to.
-use Rattle.std.specs.Prelude.{ℕ, ◌≡◌, Bool, true, false, List, [], ◌∷◌, Option, Result, Ok, Err}
+use Rattle.std.specs.Prelude.{ℕ, Bool, true, false, List, [], ◌∷◌, Option, Result, Ok, Err}
 use Rattle.farm_types.specs.declared.entry.Act.{Act}
 use Rattle.farm_types.specs.declared.entry.Act.TheVariants as act
 use Rattle.farm_types.specs.declared.entry.Entry.{Entry}
@@ -9,7 +9,6 @@ use Rattle.farm_lines.specs.Transcript.{Mark, entry_answer, unless_memory}
 use Rattle.world_answers.specs.declared.acting.Acted.{Acted}
 use Rattle.world_answers.specs.declared.trial.Trial.{Trial}
 use Rattle.world_answers.specs.declared.trial.TrialFault.{TrialFault}
-use Rattle.world_answers.specs.declared.trial.TrialFault.TheVariants as fault
 use Rattle.world_answers.specs.Trials.{Tries}
 
 -- no report is heard

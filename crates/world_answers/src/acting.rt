@@ -1,6 +1,6 @@
 //! A request of one entry on a copy of the farm.
 
-ghost use Rattle.std.specs.Prelude.{◌≡◌, ◌∷◌, [], Err, None, Some, true};
+ghost use Rattle.std.specs.Prelude.{◌≡◌, ◌∷◌, [], None, Some, true};
 ghost use Rattle.farm_types.specs.declared.refusal.Refusal.{Refusal};
 ghost use Rattle.farm_types.specs.Formed.{IsFormed};
 ghost use Rattle.farm_types.specs.declared.entry.Entry.{Entry};
@@ -14,7 +14,7 @@ ghost use Rattle.world_answers.specs.Walking.{IsFirst, Says};
 
 use crate::leaving::leave_act;
 use crate::trial::{Further, Trial, TrialFault};
-use crate::walking::{First, begin, let_go, one};
+use crate::walking::{First, begin, one};
 use farm_types::{Entry, Items};
 use line_answers::farm_core::Farm;
 use std::alloc::Global;
@@ -64,15 +64,11 @@ fn trial_if(
 {
     match acted {
         Ok(acted) => Ok(trial_by(alloc, acted, entries)),
-        Err(why) => no_trial(entries, why),
+        Err(why) => {
+            drop(entries);
+            Err(why)
+        }
     }
-}
-
-// The entry comes to nothing, and is let go.
-fn no_trial(_entries: Items<Entry>, why: TrialFault) -> Result<Trial, TrialFault>
-    ensures { result ≡ Err why }
-{
-    Err(why)
 }
 
 // The trial, with the entry where it was recorded.
@@ -97,13 +93,7 @@ fn recorded_if(alloc: Global, recorded: bool, entries: Items<Entry>) -> Items<En
     if recorded {
         return entries;
     }
-    no_entries(alloc, entries)
-}
-
-// No entries: this one is let go.
-fn no_entries(alloc: Global, _entries: Items<Entry>) -> Items<Entry>
-    ensures { result ≡ [] }
-{
+    drop(entries);
     Items::new(alloc)
 }
 
@@ -163,16 +153,13 @@ fn taken_act(
     ensures { Acts farm.now entry.now refused result }
 {
     match refused {
-        None => recorded_act(alloc, farm, entry, changes_rows(first)),
+        None => {
+            let stored = first.stored;
+            drop(first);
+            recorded_act(alloc, farm, entry, stored)
+        }
         Some(number) => unstored_act(alloc, farm, entry, first, number),
     }
-}
-
-// Whether it changes a row. The rest is let go.
-fn changes_rows(first: First) -> bool
-    ensures { result ≡ first.stored }
-{
-    first.stored
 }
 
 // It is recorded, and changes a row or doesn't.
@@ -213,11 +200,11 @@ fn unstored_act(
     ensures { Acts farm.now entry.now (Some number) result }
 {
     if number != 0 {
-        let_go(first);
+        drop(first);
         return Err(TrialFault::NoSuch);
     }
     if !first.stored {
-        let_go(first);
+        drop(first);
         return Err(TrialFault::NoSuch);
     }
     stopped_act(alloc, farm, entry, first, number)
@@ -250,7 +237,7 @@ fn stopped_act(
             }),
         }),
         Err(_) => {
-            let_go(first);
+            drop(first);
             Err(TrialFault::NoMemory)
         }
     }

@@ -1,6 +1,6 @@
 //! A farm that takes an entry.
 
-ghost use Rattle.std.specs.Prelude.{◌≡◌, Err, OnErr, OnOk, alloc_error};
+ghost use Rattle.std.specs.Prelude.{◌≡◌, OnErr, OnOk};
 ghost use Rattle.farm_types.specs.Formed.{IsFormed};
 ghost use Rattle.farm_types.specs.Step.{HasCondition};
 ghost use Rattle.line_answers.specs.farm_core.specs.Change.{IsReady, IsUnreserved, after_change};
@@ -33,13 +33,9 @@ pub(crate) fn apply(alloc: Global, farm: &mut Farm, change: Change) -> Result<()
             farm.apply(change);
             Ok(())
         }
-        Err(_) => without_memory(change),
+        Err(_) => {
+            drop(change);
+            Err(AllocError)
+        }
     }
-}
-
-// Memory ran out for a change, which is let go.
-fn without_memory(_change: Change) -> Result<(), AllocError>
-    ensures { result ≡ Err alloc_error }
-{
-    Err(AllocError)
 }

@@ -1,6 +1,6 @@
 //! What an answer leaves: the farm, and the text of its reply.
 
-ghost use Rattle.std.specs.Prelude.{◌≡◌, Err, IfOk, alloc_error};
+ghost use Rattle.std.specs.Prelude.{◌≡◌, IfOk};
 ghost use Rattle.farm_types.specs.Formed.{IsFormed};
 ghost use Rattle.farm_lines.specs.Asked.{heard_entry};
 ghost use Rattle.farm_lines.specs.declared.reply.Reply.{Reply};
@@ -50,7 +50,10 @@ fn act_left(alloc: Global, came: Came) -> Result<Left, AllocError>
     let Came { farm, line } = came;
     match text_of(alloc, &line) {
         Ok(reply) => Ok(Left { farm, reply }),
-        Err(_) => none_left(farm),
+        Err(_) => {
+            drop(farm);
+            Err(AllocError)
+        }
     }
 }
 
@@ -81,16 +84,9 @@ fn report_left(alloc: Global, came: CameReport) -> Result<Left, AllocError>
     } = taken;
     match told_text(alloc, told) {
         Ok(reply) => Ok(Left { farm, reply }),
-        Err(_) => none_left(farm),
+        Err(_) => {
+            drop(farm);
+            Err(AllocError)
+        }
     }
 }
-
-// Memory ran out for the reply, and the farm is let go.
-fn none_left(_farm: Farm) -> Result<Left, AllocError>
-    ensures { result ≡ Err alloc_error }
-{
-    Err(AllocError)
-}
-
-/// What is left is let go.
-pub(crate) fn let_left_go(_left: Left) {}

@@ -1,6 +1,6 @@
 //! A report on a copy of the farm.
 
-ghost use Rattle.std.specs.Prelude.{◌≡◌, ◌+◌, Err, IfOk, None, Ok, Some, alloc_error, take};
+ghost use Rattle.std.specs.Prelude.{◌≡◌, ◌+◌, IfOk, None, Ok, Some, take};
 ghost use Rattle.farm_types.specs.Formed.{IsFormed};
 ghost use Rattle.farm_types.specs.Run.{IsLegal, run_of};
 ghost use Rattle.farm_types.specs.Step.{refusal_of};
@@ -20,12 +20,12 @@ ghost use Rattle.world_answers.specs.Walking.{IsFirst};
 
 use crate::ends::ends_of;
 use crate::firsts::{commits_before, ends_if, first_entries, has_entries, run_first};
-use crate::leaving::{Left, leave_report, let_left_go};
+use crate::leaving::{Left, leave_report};
 use crate::trial::{Further, Trial, TrialFault};
 use crate::trying::reply_alone;
-use crate::walking::{First, begin, book_round, let_go, walk_from};
+use crate::walking::{First, begin, book_round, walk_from};
 use depend_law::legal_runs_keep_farms;
-use farm_lines::{Asked, Query, Report};
+use farm_lines::{Asked, Report};
 use farm_types::{Act, DoneItem, Entry, HostNo, Items};
 use json::Scratch;
 use line_answers::ask;
@@ -98,21 +98,8 @@ fn heard_in(asked: Asked, moment: u64) -> Result<Entry, AllocError>
             moment,
             act: Act::Heard(report.heard),
         }),
-        Asked::Act(act) => no_act(act),
-        Asked::List(query) => no_list(query),
+        _ => unreachable!(),
     }
-}
-
-fn no_act(_act: Act) -> Result<Entry, AllocError>
-    ensures { result ≡ Err alloc_error }
-{
-    Err(AllocError)
-}
-
-fn no_list(_query: Query) -> Result<Entry, AllocError>
-    ensures { result ≡ Err alloc_error }
-{
-    Err(AllocError)
 }
 
 // All entries of a report, where the farm takes it.
@@ -141,23 +128,15 @@ fn plan_if(
 {
     match heard {
         Ok(Some(heard)) => Ok(Some(plan_from(alloc, heard, entry, moment)?)),
-        Ok(None) => Ok(no_plan(entry)),
-        Err(_) => no_memory(entry),
+        Ok(None) => {
+            drop(entry);
+            Ok(None)
+        }
+        Err(_) => {
+            drop(entry);
+            Err(AllocError)
+        }
     }
-}
-
-// The farm refuses the entry, which is let go.
-fn no_plan(_entry: Entry) -> Option<Plan>
-    ensures { result ≡ None }
-{
-    None
-}
-
-// Memory ran out for the entry, which is let go.
-fn no_memory(_entry: Entry) -> Result<Option<Plan>, AllocError>
-    ensures { result ≡ Err alloc_error }
-{
-    Err(AllocError)
 }
 
 // All entries of a report, from its own on.
@@ -205,7 +184,7 @@ fn with_ends(
     match host_and_ends(alloc, farm, entry, first.heard) {
         Ok((host, ends)) => Ok(HeardFirst { first, host, ends }),
         Err(_) => {
-            let_go(first);
+            drop(first);
             Err(AllocError)
         }
     }
@@ -376,7 +355,7 @@ fn cut_at(
     match run_first(alloc, farm, entries, number) {
         Ok(made) => Ok(Cut { left, made }),
         Err(_) => {
-            let_left_go(left);
+            drop(left);
             Err(AllocError)
         }
     }

@@ -1,9 +1,7 @@
 //! The text of what is told of a report.
 
 ghost use Rattle.std.specs.Prelude.{◌≡◌, IfOk, false};
-ghost use Rattle.farm_lines.specs.Reply.{reply_text};
 ghost use Rattle.farm_lines.specs.declared.reply.Reply.{Reply};
-ghost use Rattle.line_answers.specs.LineAnswers.{is_short, tells_memory};
 ghost use Rattle.line_answers.specs.Told.{Reports, Tells, is_report};
 ghost use Rattle.world_answers.specs.Reporting.{HasText};
 

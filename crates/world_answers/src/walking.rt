@@ -1,6 +1,6 @@
 //! The entries that a line makes where the store refuses nothing, one after the other, and which of them change a row.
 
-ghost use Rattle.std.specs.Prelude.{◌≡◌, ◌∷◌, [], alloc_error, Err, Some, IfOk, OnOk};
+ghost use Rattle.std.specs.Prelude.{◌≡◌, ◌∷◌, [], Some, IfOk, OnOk};
 ghost use Rattle.farm_types.specs.Dispatch.{book_entry, round_for, round_from};
 ghost use Rattle.farm_types.specs.Formed.{IsFormed};
 ghost use Rattle.farm_types.specs.Step.{HasCondition};
@@ -68,9 +68,6 @@ fn begin_by(alloc: Global, farm: &Farm, entry: &Entry, change: Change) -> Result
     })
 }
 
-/// A first entry that isn't wanted is let go.
-pub(crate) fn let_go(_first: First) {}
-
 /// A walk of one entry.
 pub(crate) fn walk_from(alloc: Global, first: First, entry: Entry) -> Result<Walk, AllocError>
     ensures { IfOk result (λ walk. walk ≡ first_walk first entry) }
@@ -82,7 +79,7 @@ pub(crate) fn walk_from(alloc: Global, first: First, entry: Entry) -> Result<Wal
             stored,
         }),
         Err(_) => {
-            let_go(first);
+            drop(first);
             Err(AllocError)
         }
     }
@@ -110,7 +107,10 @@ fn changed(alloc: Global, farm: &Farm, change: Change) -> Result<Farm, AllocErro
 {
     match farm.copy(alloc) {
         Ok(copy) => apply_to(alloc, copy, change),
-        Err(_) => no_farm(change),
+        Err(_) => {
+            drop(change);
+            Err(AllocError)
+        }
     }
 }
 
@@ -123,13 +123,6 @@ fn apply_to(alloc: Global, farm: Farm, change: Change) -> Result<Farm, AllocErro
     let mut farm = farm;
     apply(alloc, &mut farm, change)?;
     Ok(farm)
-}
-
-// Memory ran out for a change, which is let go.
-fn no_farm(_change: Change) -> Result<Farm, AllocError>
-    ensures { result ≡ Err alloc_error }
-{
-    Err(AllocError)
 }
 
 /// A list of one entry.

@@ -102,14 +102,11 @@ fn turn_of(
     match counts_of(alloc, &history.counted, line, host, &trial) {
         Ok(counts) => Ok(turn_with(host, trial, counts)),
         Err(_) => {
-            let_trial_go(trial);
+            drop(trial);
             Err(AllocError)
         }
     }
 }
-
-// What the line comes to is let go.
-fn let_trial_go(_trial: Trial) {}
 
 // What an answer changes, by the completions that are counted then.
 fn turn_with(host: Option<u32>, trial: Trial, counts: Counts) -> Turn
@@ -196,14 +193,11 @@ fn put_all(
     match further.reserve(1) {
         Ok(()) => put_in_room(alloc, now, further, entries, told, turn),
         Err(_) => {
-            let_turn_go(turn);
+            drop(turn);
             Err(AllocError)
         }
     }
 }
-
-// What an answer changes is let go.
-fn let_turn_go(_turn: Turn) {}
 
 // The same, with room for what the refused commit would have made.
 fn put_in_room(
@@ -233,26 +227,17 @@ fn put_in_room(
     } = turn;
     match push_all(alloc, entries, more, told, reply) {
         Ok(()) => {
-            go_on(now, next);
+            drop(mem::replace(now, next));
             leave(further, stored, made);
             Ok(())
         }
         Err(_) => {
-            let_histories_go(next, made);
+            drop(next);
+            drop(made);
             Err(AllocError)
         }
     }
 }
-
-// The history goes on as this one, and the one before it is let go.
-fn go_on(now: &mut History, next: History)
-    ensures { now.new ≡ next }
-{
-    *now = next;
-}
-
-// Both are let go.
-fn let_histories_go(_next: History, _made: Option<History>) {}
 
 // The line of that number.
 fn sent_at(sent: &[Sent], line: u32) -> Option<&Sent>
@@ -345,16 +330,12 @@ fn history_if(further: Option<Further>, counted: Items<Counted>) -> Option<Histo
     ensures { (before : List Counted) → (line : ℕ) → (host : Option ℕ) → IsCountedIf before line host further counted → result ≡ history_if before line host further }
 {
     match further {
-        None => no_history(counted),
+        None => {
+            drop(counted);
+            None
+        }
         Some(further) => Some(history_with(further, counted)),
     }
-}
-
-// There is none.
-fn no_history(_counted: Items<Counted>) -> Option<History>
-    ensures { result ≡ None }
-{
-    None
 }
 
 // What the refused commit would have made.

@@ -71,14 +71,11 @@ pub(crate) fn made(
             events: Items::new(alloc),
         }),
         Err(_) => {
-            let_farm_go(farm);
+            drop(farm);
             Err(AllocError)
         }
     }
 }
-
-// A farm is let go.
-pub(crate) fn let_farm_go(_farm: Farm) {}
 
 // A copy of the farm, the hosts in their first lives, and the lines of the requests.
 fn first_parts(

@@ -10,7 +10,7 @@ ghost use Rattle.world_core.specs.Restarting.{IsStart, begun};
 ghost use Rattle.world_core.specs.Stepping.{Comes};
 
 use crate::history::History;
-use crate::parts::{Parts, let_farm_go};
+use crate::parts::Parts;
 use farm_types::{Act, Entry, FarmFault, Items};
 use line_answers::farm_core::Farm;
 use std::alloc::{AllocError, Global};
@@ -107,7 +107,7 @@ fn start_with(alloc: Global, history: &History, moment: u64) -> Result<Start, Al
             entries,
         }),
         Err(_) => {
-            let_farm_go(opened);
+            drop(opened);
             Err(AllocError)
         }
     }

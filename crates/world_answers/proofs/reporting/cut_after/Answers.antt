@@ -1,8 +1,6 @@
-use Rattle.std.proofs.Common.{◌∙◌, ◌+◌, List, Some, ap, take}
+use Rattle.std.proofs.Common.{◌∙◌, ◌+◌, List, ap, take}
 use Rattle.farm_types.specs.declared.entry.Entry.{Entry}
 use Rattle.farm_types.specs.Run.{run_of}
-use Rattle.line_answers.specs.LineAnswers.{reported}
-use Rattle.world_answers.proofs.Replied.{tries_without_memory}
 use Rattle.world_answers.proofs.Reported.{cut_trial}
 use Rattle.world_answers.proofs.reporting.cut_after.Goals as goal
 
