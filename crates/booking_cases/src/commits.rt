@@ -27,7 +27,11 @@ pub(crate) fn commit_line<N: Naming>(
 {
     let mut scratch = Scratch::new(alloc);
     match entry_of(alloc, line.as_bytes(), &mut scratch, moment)? {
-        Some(entry) => commit_entry(alloc, table, recorder, &entry),
+        Some(entry) => {
+            let answer = commit_entry(alloc, table, recorder, &entry);
+            drop(entry);
+            answer
+        }
         None => String::from_str(alloc, "no entry"),
     }
 }
@@ -44,7 +48,11 @@ pub(crate) fn commit_entry<N: Naming>(
 {
     match recorder.commit(alloc, table, entry) {
         Ok(_) => String::from_str(alloc, "ok"),
-        Err(refusal) => refusal_text(alloc, &refusal),
+        Err(refusal) => {
+            let text = refusal_text(alloc, &refusal);
+            drop(refusal);
+            text
+        }
     }
 }
 

@@ -92,9 +92,8 @@ fn play_with<N: Naming>(
     requires table { table.now ≡ N.table }
 {
     let mut recorder = recorder;
-    match begun(alloc, table, &mut recorder)? {
-        None => differs(alloc, "the opening isn't recorded"),
-        Some(reader) => {
+    match begun(alloc, table, &mut recorder) {
+        Ok(Some(reader)) => {
             let play = Play {
                 recorder,
                 reader,
@@ -104,6 +103,14 @@ fn play_with<N: Naming>(
                 q: None,
             };
             play_all(alloc, table, play, rows, failing)
+        }
+        Ok(None) => {
+            drop(recorder);
+            differs(alloc, "the opening isn't recorded")
+        }
+        Err(_) => {
+            drop(recorder);
+            Err(AllocError)
         }
     }
 }
@@ -126,7 +133,7 @@ fn begun<N: Naming>(
     }
 }
 
-// Commits the opening. On its own, as each path on which an entry is dropped is costly to check.
+// Commits the opening.
 fn open<N: Naming>(
     alloc: Global,
     table: &Table,
@@ -138,7 +145,9 @@ fn open<N: Naming>(
         moment: 0,
         act: Act::Opened,
     };
-    commit_entry(alloc, table, recorder, &opened)
+    let answer = commit_entry(alloc, table, recorder, &opened);
+    drop(opened);
+    answer
 }
 
 // Takes the steps.
@@ -152,9 +161,16 @@ fn play_all<N: Naming>(
     requires table { table.now ≡ N.table }
 {
     let mut play = play;
-    match difference_in(alloc, table, &mut play, rows)? {
-        Some(found) => Ok(Played::Differs { found }),
-        None => ended(alloc, play, failing),
+    match difference_in(alloc, table, &mut play, rows) {
+        Ok(None) => ended(alloc, play, failing),
+        Ok(Some(found)) => {
+            drop(play);
+            Ok(Played::Differs { found })
+        }
+        Err(_) => {
+            drop(play);
+            Err(AllocError)
+        }
     }
 }
 
@@ -208,8 +224,28 @@ fn row_difference<N: Naming>(
 
 // The rows that the recorder's keeper has at the end.
 fn ended<N: Naming>(alloc: Global, play: Play<N>, failing: usize) -> Result<Played, AllocError> {
-    let (keeper, _seat) = play.recorder.close();
+    let Play {
+        recorder,
+        reader,
+        a,
+        b,
+        p,
+        q,
+    } = play;
+    drop(reader);
+    drop(a);
+    drop(b);
+    drop(p);
+    drop(q);
+    let (keeper, seat) = recorder.close();
+    drop(seat);
+    went(alloc, keeper, failing)
+}
+
+// The rows that the keeper has.
+fn went(alloc: Global, keeper: MemoryKeeper, failing: usize) -> Result<Played, AllocError> {
     let mut keeper = keeper;
-    let rows = rows_in(alloc, &mut keeper, failing)?;
-    Ok(Played::Went { rows })
+    let rows = rows_in(alloc, &mut keeper, failing);
+    drop(keeper);
+    Ok(Played::Went { rows: rows? })
 }

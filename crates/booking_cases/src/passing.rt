@@ -6,6 +6,7 @@ use crate::said::Said;
 use booking_recorder::{Naming, Pass, Recorder};
 use booking_table::Table;
 use farm_keeper::MemoryKeeper;
+use std::mem;
 
 /// A pass of the recorder, in that place.
 pub(crate) fn pass_on<N: Naming>(
@@ -17,7 +18,7 @@ pub(crate) fn pass_on<N: Naming>(
 {
     match recorder.pass(table) {
         Ok(made) => {
-            *pass = Some(made);
+            drop(mem::replace(pass, Some(made)));
             Said::Done
         }
         Err(_) => Said::SeatsFull,

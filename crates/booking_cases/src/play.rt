@@ -16,6 +16,7 @@ use farm_core::Farm;
 use farm_keeper::MemoryKeeper;
 use farm_types::{HostNo, LimitNo, MOST_HOSTS, SubNo};
 use std::alloc::{AllocError, Global};
+use std::mem;
 
 /// The recorder of a table, a seat that looks at its words, and the dispatchers and the passes that were split off.
 #[derive(Drop)]
@@ -122,8 +123,8 @@ fn split_for<N: Naming>(
     };
     let dispatcher = Dispatcher::make(seat, plan);
     match name {
-        Name::A => play.a = Some(dispatcher),
-        Name::B => play.b = Some(dispatcher),
+        Name::A => drop(mem::replace(&mut play.a, Some(dispatcher))),
+        Name::B => drop(mem::replace(&mut play.b, Some(dispatcher))),
     }
     text_of(alloc, Said::Suits { count })
 }
